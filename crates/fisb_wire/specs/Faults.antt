@@ -1,0 +1,24 @@
+-- Counts that a program keeps in 64 bits, and the count of the faults of a source or a sink.
+use Rattle.std.specs.Prelude.{ℕ, ◌+◌, ◌-◌, ◌^◌, ◌≤◌, min, Result, OnErr}
+use Rattle.std.proofs.Common.{arith}
+
+-- a count in 64 bits: it stands still at 2^64 − 1
+abbrev pub counted : ℕ → ℕ
+counted n = min n (2 ^ 64 - 1)
+
+-- a count in 64 bits fits them
+pub counted-bound : (n : ℕ) → counted n ≤ 2 ^ 64 - 1
+counted-bound n = omega arith
+
+-- the count after one more
+abbrev pub next_count : ℕ → ℕ
+next_count n = counted (n + 1)
+
+-- the count rose in a call: it is greater after the call than before it, or stands at 2^64 − 1 after it
+abbrev pub Rose : ℕ → ℕ → Type 0
+Rose before after = next_count before ≤ after
+
+-- the count of faults never falls, and a call answers an error only where the count rose in it
+pub record HasCause {T E : Type 0} (before after : ℕ) (result : Result T E) : Type 0 where
+  pub later : before ≤ after
+  pub rose : OnErr result (Rose before after)

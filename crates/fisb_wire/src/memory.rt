@@ -1,0 +1,226 @@
+//! A source and a sink in memory, which fail at chosen calls.
+ghost use Rattle.std.specs.Prelude.{◌≡◌, ℕ, ◌+◌, ◌-◌, ◌<◌, ◌≤◌, ◌↔◌, min, [], ◌++◌, length, take, drop, Contains, Some, None, IsTrue, IsErr, IfOk, OnErr};
+ghost use Rattle.std.specs.Io.{ReadsAtMost};
+ghost use Rattle.std.specs.Io.KnownBytes.{ReadConsumes, WriteAppends};
+ghost use Rattle.fisb_wire.specs.Faults.{HasCause, counted, counted-bound, next_count};
+ghost use Rattle.fisb_wire.specs.Ends.{TakesSome, FitsSpare, SpendsTaken, IsReached};
+ghost use Rattle.fisb_wire.specs.Memory.{FailsNext, RefusesNext, store_reach, store-reached};
+
+use crate::ends::{Failed, Sink, Source};
+use crate::lists::{Bytes, Numbers};
+use std::alloc::{AllocError, Global};
+use std::marker::Model;
+
+/// A source of the bytes of a list. Chosen calls of it fail.
+#[derive(Drop)]
+pub struct MemorySource {
+    input: Bytes,
+    // How many bytes were read.
+    place: usize,
+    // How many calls were made.
+    calls: u64,
+    fails: Numbers,
+    // How many calls failed.
+    failed: u64,
+}
+
+impl Model for MemorySource {
+    ghost use Rattle.std.specs.Prelude.{◌≤◌, length, drop};
+    ghost use Rattle.fisb_wire.specs.Memory.{Supply};
+
+    ghost Value = { Supply };
+
+    ghost view = { λ s. record {
+      left = drop s.place s.input;
+      next = s.calls;
+      fails = s.fails;
+      faults = s.failed;
+    } };
+
+    ghost invariant = { λ s. s.place ≤ length s.input };
+}
+
+impl MemorySource {
+    /// A source of the bytes of `input`, of which exactly the calls with the numbers in `fails` fail,
+    /// counted from 0.
+    pub fn new(input: Bytes, fails: Numbers) -> MemorySource
+        ensures { result ≡ record { left = input; next = 0; fails = fails; faults = 0 } }
+    {
+        MemorySource {
+            input,
+            place: 0,
+            calls: 0,
+            fails,
+            failed: 0,
+        }
+    }
+}
+
+impl Source for MemorySource {
+    ghost left = { λ s. Some s.left };
+
+    ghost faults = { λ s. counted s.faults };
+
+    ghost bounded = { λ s. counted-bound s.faults };
+
+    fn read(&mut self, room: &mut [u8]) -> Result<usize, Failed>
+        ensures bound { ReadsAtMost result room.new }
+        ensures bytes { ReadConsumes (Some self.old.left) (Some self.new.left) result room.new }
+        ensures cause { HasCause (counted self.old.faults) (counted self.new.faults) result }
+
+        ensures fails { IsErr result ↔ FailsNext self.old }
+        ensures count { IfOk result (λ n. n ≡ min (length room.old) (length self.old.left)) }
+        ensures given { IfOk result (λ n. room.new ≡ take n self.old.left ++ drop n room.old) }
+        ensures ok { IfOk result (λ n. self.new ≡ record self.old {
+          left = drop n self.old.left;
+          next = next_count self.old.next;
+        }) }
+        ensures err { OnErr result (self.new ≡ record self.old {
+          next = next_count self.old.next;
+          faults = next_count self.old.faults;
+        }) }
+        ensures untouched { OnErr result (room.new ≡ room.old) }
+    {
+        let call = self.calls;
+        self.calls = call.saturating_add(1);
+        if is_listed(self.fails.all(), call) {
+            self.failed = self.failed.saturating_add(1);
+            return Err(Failed);
+        }
+        let n = copy_front(&self.input.all()[self.place..], room);
+        self.place += n;
+        Ok(n)
+    }
+}
+
+/// A sink that keeps the bytes in a room of memory that it takes at once. Chosen calls of it fail, and
+/// so does a write into the full room.
+#[derive(Drop)]
+pub struct MemorySink {
+    buffer: Vec<u8>,
+    // How many bytes were taken.
+    used: usize,
+    // How many calls were made.
+    calls: u64,
+    fails: Numbers,
+    // How many calls failed.
+    failed: u64,
+}
+
+impl Model for MemorySink {
+    ghost use Rattle.std.specs.Prelude.{◌≡◌, ◌<◌, ◌≤◌, vec_len, [], length, take};
+    ghost use Rattle.fisb_wire.specs.Memory.{Store, IsWhole};
+
+    ghost Value = { Store };
+
+    ghost view = { λ s. record {
+      taken = take s.used s.buffer.items;
+      room = vec_len s.buffer;
+      next = s.calls;
+      fails = s.fails;
+      faults = s.failed;
+    } };
+
+    ghost invariant = { λ s. IsWhole s.used (vec_len s.buffer) s.fails s.failed };
+}
+
+impl MemorySink {
+    /// A sink with `room` bytes of memory, of which the calls with the numbers in `fails` fail, counted
+    /// from 0.
+    pub fn new(alloc: Global, room: usize, fails: Numbers) -> Result<MemorySink, AllocError>
+        ensures { IfOk result (λ sink. sink ≡ record {
+          taken = [];
+          room = room;
+          next = 0;
+          fails = fails;
+          faults = 0;
+        }) }
+    {
+        let buffer = vec![in alloc; 0u8; room]?;
+        Ok(MemorySink {
+            buffer,
+            used: 0,
+            calls: 0,
+            fails,
+            failed: 0,
+        })
+    }
+
+    /// The bytes taken so far.
+    pub fn taken(&self) -> &[u8]
+        ensures { result.now ≡ self.now.taken }
+    {
+        &self.buffer.as_slice()[..self.used]
+    }
+}
+
+impl Sink for MemorySink {
+    ghost written = { λ s. Some s.taken };
+
+    ghost faults = { λ s. counted s.faults };
+
+    ghost spare = { λ _. None };
+
+    ghost reach = { store_reach };
+
+    ghost bounded = { λ s. counted-bound s.faults };
+
+    ghost reached = { store-reached };
+
+    fn write(&mut self, piece: &[u8]) -> Result<usize, Failed>
+        ensures some { TakesSome result (length piece.now) }
+        ensures bytes { WriteAppends (Some self.old.taken) (Some self.new.taken) result piece.now }
+        ensures spare { SpendsTaken None None result }
+        ensures reach { store_reach self.new ≡ store_reach self.old }
+        ensures cause { HasCause (counted self.old.faults) (counted self.new.faults) result }
+
+        ensures fails { IsErr result ↔ RefusesNext self.old (length piece.now) }
+        ensures count { IfOk result (λ n. n ≡ min (length piece.now) (self.old.room - length self.old.taken)) }
+        ensures ok { IfOk result (λ n. self.new ≡ record self.old {
+          taken = self.old.taken ++ take n piece.now;
+          next = next_count self.old.next;
+        }) }
+        ensures err { OnErr result (self.new ≡ record self.old {
+          next = next_count self.old.next;
+          faults = next_count self.old.faults;
+        }) }
+    {
+        let call = self.calls;
+        self.calls = call.saturating_add(1);
+        let is_full = self.used == self.buffer.len() && !piece.is_empty();
+        if is_full || is_listed(self.fails.all(), call) {
+            self.failed = self.failed.saturating_add(1);
+            return Err(Failed);
+        }
+        let n = copy_behind(self.used, piece, self.buffer.as_mut_slice());
+        self.used += n;
+        Ok(n)
+    }
+}
+
+fn is_listed(numbers: &[u32], call: u64) -> bool
+    ensures { IsTrue result ↔ Contains numbers.now call }
+{
+    numbers.iter().any(|number| u64::from(*number) == call)
+}
+
+// Copies as many bytes as both have, and answers how many.
+fn copy_front(from: &[u8], to: &mut [u8]) -> usize
+    ensures count { result ≡ min (length from.now) (length to.old) }
+    ensures copied { to.new ≡ take result from.now ++ drop result to.old }
+    ensures front { from.now ≡ take result to.new ++ drop result from.now }
+    ensures end { result ≡ 0 → 0 < length to.new → from.now ≡ [] }
+{
+    let n = from.len().min(to.len());
+    to[..n].copy_from_slice(&from[..n]);
+    n
+}
+
+// Copies as many bytes as fit into the buffer behind the used ones, and answers how many.
+fn copy_behind(used: usize, piece: &[u8], buffer: &mut [u8]) -> usize
+    requires { used ≤ length buffer.old }
+    ensures count { result ≡ min (length piece.now) (length buffer.old - used) }
+    ensures copied { take (used + result) buffer.new ≡ take used buffer.old ++ take result piece.now }
+{
+    copy_front(piece, &mut buffer[used..])
+}
