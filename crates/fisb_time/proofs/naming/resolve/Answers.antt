@@ -1,0 +1,33 @@
+-- The two answers: nothing is named where the fields are no hour and minute of a day; else what is
+-- made of the latest second at that hour and minute.
+use Rattle.std.proofs.Common.{ℕ, sym, IsSome, arith}
+use Rattle.std.proofs.lemmas.Grind.{common_steps}
+use Rattle.fisb_time.specs.Naming.{IsCandidate}
+use Rattle.fisb_time.proofs.NamingLemmas.{named-none, named-by, none-by}
+use Rattle.fisb_time.proofs.naming.resolve.Goals as goal
+
+no_candidate :
+    (c : goal.Then-not-is_minute_of_day) (m : ℕ) → IsCandidate c.args.form c.args.fields.now c.args.received m → ⊥
+no_candidate c m h = grind (arith, common_steps)
+
+pub returns-then-not-is_minute_of_day-clause-value :
+    goal.returns-then-not-is_minute_of_day-clause-value
+returns-then-not-is_minute_of_day-clause-value c =
+    sym (named-none c.args.form c.args.fields.now c.args.received (no_candidate c))
+
+pub returns-clause-names : goal.returns-clause-names
+returns-clause-names c = grind (arith, common_steps)
+
+pub returns-clause-found : goal.returns-clause-found
+returns-clause-found c = grind (arith, common_steps)
+
+pub returns-clause-none : goal.returns-clause-none
+returns-clause-none c = (
+  λ none m h. let some : IsSome c.new.result = returns-clause-found c m h in grind (arith, some),
+  none-by c.args.form c.args.fields.now c.args.received c.new.result (returns-clause-names c),
+)
+
+pub returns-clause-value : goal.returns-clause-value
+returns-clause-value c =
+    named-by c.args.form c.args.fields.now c.args.received c.new.result
+    (returns-clause-names c) ((returns-clause-none c).0)

@@ -1,0 +1,4 @@
+pub mod Moment
+pub mod TimeForm
+pub mod TimeFields
+pub mod Naming

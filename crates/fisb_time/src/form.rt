@@ -1,0 +1,63 @@
+//! The forms of the time field, and the fields that each shows of a moment.
+ghost use Rattle.std.specs.Prelude.{◌≡◌, IsTrue};
+ghost use Rattle.fisb_time.specs.TimeForm.{shows};
+ghost use Rattle.fisb_time.specs.TimeFields.{shown};
+
+use crate::moment::Moment;
+
+/// The form of an APDU's time field.
+#[derive(Clone, Copy, Debug, PartialEq, Eq)]
+pub enum TimeForm {
+    /// Hours and minutes.
+    Minute,
+    /// Hours, minutes and seconds.
+    Second,
+    /// Month, day, hours and minutes.
+    DayMinute,
+    /// Month, day, hours, minutes and seconds.
+    DaySecond,
+}
+
+/// The fields of a time in UTC, as they are received: nothing says that they are those of a moment.
+/// A field that the form lacks is 0.
+#[derive(Clone, Copy, Debug, PartialEq, Eq)]
+pub struct TimeFields {
+    /// The month, 1 to 12.
+    pub month: u8,
+    /// The day of the month, 1 to 31.
+    pub day: u8,
+    /// The hour of the day, 0 to 23.
+    pub hours: u8,
+    /// The minute of the hour, 0 to 59.
+    pub minutes: u8,
+    /// The second of the minute, 0 to 59.
+    pub seconds: u8,
+}
+
+/// Whether the form shows the moment: a form without seconds shows whole minutes alone.
+pub fn shows(form: TimeForm, moment: Moment) -> bool
+    requires { form ≡ TimeForm.Minute }
+    ensures { result ≡ shows form moment }
+{
+    match form {
+        TimeForm::Minute | TimeForm::DayMinute => moment.seconds() % 60 == 0,
+        TimeForm::Second | TimeForm::DaySecond => true,
+    }
+}
+
+/// The fields of a moment, in a form that shows it.
+pub fn fields_of(form: TimeForm, moment: Moment) -> TimeFields
+    requires built { form ≡ TimeForm.Minute }
+    requires showable { IsTrue (shows form moment) }
+    ensures { result ≡ shown form moment }
+{
+    prove!(matches!(form, TimeForm::Minute));
+    let minute_of_day = moment.seconds() / 60 % 1_440;
+    TimeFields {
+        month: 0,
+        day: 0,
+        hours: (minute_of_day / 60) as u8,
+        minutes: (minute_of_day % 60) as u8,
+        seconds: 0,
+    }
+}
