@@ -1,0 +1,66 @@
+-- What the first elements of a list are, and what is behind them.
+use Rattle.std.proofs.Common.{Bool, true, false, ◌&&◌, IsTrue, ◌≡◌, ℕ, ◌-◌, ◌≤◌, List, [], ◌∷◌, ◌++◌, length, get_or, take, drop, map, arith, sym, ap, ◌∙◌, subst, append_assoc}
+use Rattle.std.proofs.lemmas.List.{take_all}
+use Rattle.dlac_text.specs.Alphabet.{IsDlac, code_of}
+use Rattle.dlac_text.specs.SixBits.{packed, six_bit_groups}
+
+-- what is behind the first n elements
+abbrev pub behind : ℕ → List ℕ → List ℕ
+behind n xs = take (length xs - n) (drop n xs)
+
+pub first_one : (xs : List ℕ) → 1 ≤ length xs → xs ≡ get_or xs 0 0 ∷ behind 1 xs
+first_one [] h = absurd (omega arith)
+first_one (a ∷ more) h = ap (λ ys. a ∷ ys) (sym (take_all _ more (omega arith)))
+
+pub first_three : (xs : List ℕ) → 3 ≤ length xs → xs ≡ get_or xs 0 0 ∷ get_or xs 1 0 ∷ get_or xs 2 0 ∷ behind 3 xs
+first_three [] h = absurd (omega arith)
+first_three (a ∷ []) h = absurd (omega arith)
+first_three (a ∷ b ∷ []) h = absurd (omega arith)
+first_three (a ∷ b ∷ c ∷ more) h = ap (λ ys. a ∷ b ∷ c ∷ ys) (sym (take_all _ more (omega arith)))
+
+pub first_four :
+    (xs : List ℕ) → 4 ≤ length xs → xs ≡ get_or xs 0 0 ∷ get_or xs 1 0 ∷ get_or xs 2 0 ∷ get_or xs 3 0 ∷ behind 4 xs
+first_four [] h = absurd (omega arith)
+first_four (a ∷ []) h = absurd (omega arith)
+first_four (a ∷ b ∷ []) h = absurd (omega arith)
+first_four (a ∷ b ∷ c ∷ []) h = absurd (omega arith)
+first_four (a ∷ b ∷ c ∷ d ∷ more) h = ap (λ ys. a ∷ b ∷ c ∷ d ∷ ys) (sym (take_all _ more (omega arith)))
+
+second_true : (a b : Bool) → IsTrue (a && b) → IsTrue b
+second_true true b h = h
+second_true false b h = cc
+
+pub IsDlac-tail : (x : ℕ) (xs : List ℕ) → IsDlac (x ∷ xs) → IsDlac xs
+IsDlac-tail x xs h = second_true _ _ h
+
+pub IsDlac-behind_four : (xs : List ℕ) → 4 ≤ length xs → IsDlac xs → IsDlac (behind 4 xs)
+IsDlac-behind_four [] l h = absurd (omega arith)
+IsDlac-behind_four (a ∷ []) l h = absurd (omega arith)
+IsDlac-behind_four (a ∷ b ∷ []) l h = absurd (omega arith)
+IsDlac-behind_four (a ∷ b ∷ c ∷ []) l h = absurd (omega arith)
+IsDlac-behind_four (a ∷ b ∷ c ∷ d ∷ more) l h =
+    let cut : behind 4 (a ∷ b ∷ c ∷ d ∷ more) ≡ more = take_all _ more (omega arith) in
+    let third = IsDlac-tail b (c ∷ d ∷ more) (IsDlac-tail a (b ∷ c ∷ d ∷ more) h) in
+    subst IsDlac (sym cut) (IsDlac-tail d more (IsDlac-tail c (d ∷ more) third))
+
+-- one more group, by what it adds to the bytes or codes so far
+join_step :
+    (all so_far rest front more group new : List ℕ) → all ≡ so_far ++ rest → rest ≡ front ++ more → group ≡ front → new ≡ so_far ++ group → all ≡ new ++ more
+join_step all so_far rest front more group new e f g h =
+    e ∙ ap (λ t. so_far ++ t) f ∙ sym (append_assoc so_far front more) ∙ ap (λ t. t ++ more) (ap (λ t. so_far ++ t) (sym g) ∙ sym h)
+
+-- four more characters, and their three bytes
+pub packed_step :
+    (all so_far xs group new : List ℕ) → 4 ≤ length xs → all ≡ so_far ++ packed (map code_of xs ++ 0 ∷ []) → group ≡ packed (code_of (get_or xs 0 0) ∷ code_of (get_or xs 1 0) ∷ code_of (get_or xs 2 0) ∷ code_of (get_or xs 3 0) ∷ []) → new ≡ so_far ++ group → all ≡ new ++ packed (map code_of (behind 4 xs) ++ 0 ∷ [])
+packed_step all so_far xs group new l e g h =
+    join_step all so_far _ _ _ group new e (ap (λ ys. packed (map code_of ys ++ 0 ∷ [])) (first_four xs l)) g h
+
+-- the four codes of three bytes
+abbrev pub four_codes : ℕ → ℕ → ℕ → List ℕ
+four_codes x y z = six_bit_groups (x ∷ y ∷ z ∷ [])
+
+-- three more bytes, and their four codes
+pub groups_step :
+    (all so_far xs group new : List ℕ) → 3 ≤ length xs → all ≡ so_far ++ six_bit_groups xs → group ≡ four_codes (get_or xs 0 0) (get_or xs 1 0) (get_or xs 2 0) → new ≡ so_far ++ group → all ≡ new ++ six_bit_groups (behind 3 xs)
+groups_step all so_far xs group new l e g h =
+    join_step all so_far _ _ _ group new e (ap six_bit_groups (first_three xs l)) g h

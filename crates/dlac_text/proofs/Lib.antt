@@ -1,0 +1,6 @@
+pub mod Cuts
+pub mod SixBitsLemmas
+pub mod Characters
+pub mod Joining
+pub mod RoundTrip
+pub mod PlainLemmas

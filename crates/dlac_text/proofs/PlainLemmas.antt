@@ -1,0 +1,86 @@
+-- Showing a text as plain text, and reading it back.
+use Rattle.std.proofs.Common.{◌≡◌, ◌≢◌, ℕ, ◌+◌, ◌<◌, false, eqb, inl, inr, suc, List, [], ◌∷◌, ◌++◌, Option, None, Some, length, get_or, take, refl, sym, ap, ◌∙◌, append_assoc, append-nil, arith, IsTrue}
+use Rattle.std.proofs.lemmas.Bool.Decides.{nat_tests, eqb_tells}
+use Rattle.std.proofs.lemmas.List.{take_more}
+use Rattle.dlac_text.specs.Alphabet.{is_in_alphabet, IsDlac}
+use Rattle.dlac_text.specs.Plain.{plain_character, plain_text, prefixed, unplained}
+use Rattle.dlac_text.proofs.Cuts.{IsDlac-tail}
+use Rattle.dlac_text.proofs.RoundTrip.{IsDlac-head}
+
+plain_text-push : (text : List ℕ) (character : ℕ) → plain_text (text ++ character ∷ []) ≡ plain_text text ++ plain_character character
+plain_text-push [] character = append-nil (plain_character character)
+plain_text-push (c ∷ text) character =
+    ap (λ t. plain_character c ++ t) (plain_text-push text character) ∙ sym (append_assoc (plain_character c) (plain_text text) (plain_character character))
+
+pub plain_text-more : (text : List ℕ) (i : ℕ) → i < length text → plain_text (take (i + 1) text) ≡ plain_text (take i text) ++ plain_character (get_or text i 0)
+plain_text-more text i h = ap plain_text (take_more text i 0 h) ∙ plain_text-push (take i text) (get_or text i 0)
+
+pub prefixed-nil : (o : Option (List ℕ)) → prefixed [] o ≡ o
+prefixed-nil None = refl
+prefixed-nil (Some t) = refl
+
+prefixed-prefixed : (a b : List ℕ) (o : Option (List ℕ)) → prefixed a (prefixed b o) ≡ prefixed (a ++ b) o
+prefixed-prefixed a b None = refl
+prefixed-prefixed a b (Some t) = ap Some (sym (append_assoc a b t))
+
+-- a character that is no backslash shows itself
+unplained-other : (c : ℕ) (text : List ℕ) → c ≢ 92 → unplained (c ∷ text) ≡ prefixed (c ∷ []) (unplained text)
+unplained-other c [] h = let other : eqb c 92 ≡ false = grind (arith, nat_tests) in rw other refl
+unplained-other c (d ∷ text) h = let other : eqb c 92 ≡ false = grind (arith, nat_tests) in rw other refl
+
+unplained-append : (front rest : List ℕ) → ((i : ℕ) → i < length front → get_or front i 0 ≢ 92) → unplained (front ++ rest) ≡ prefixed front (unplained rest)
+unplained-append [] rest h = sym (prefixed-nil (unplained rest))
+unplained-append (c ∷ front) rest h =
+    let others = unplained-append front rest (λ i l. h (suc i) (omega arith)) in
+    unplained-other c (front ++ rest) (h 0 (omega arith)) ∙ ap (prefixed (c ∷ [])) others ∙ prefixed-prefixed (c ∷ []) front (unplained rest)
+
+-- a backslash with no n or z behind it
+pub unplained-none : (after : List ℕ) → ((rest : List ℕ) → after ≢ 110 ∷ rest) → ((rest : List ℕ) → after ≢ 122 ∷ rest) → unplained (92 ∷ after) ≡ None
+unplained-none [] h i = refl
+unplained-none (d ∷ more) h i =
+    elim (eqb_tells d 110) [
+      | inl n ↦ absurd (h more (ap (λ x. x ∷ more) n.1))
+      | inr not_n ↦
+          elim (eqb_tells d 122) [
+            | inl z ↦ absurd (i more (ap (λ x. x ∷ more) z.1))
+            | inr not_z ↦ rw (not_n.0, not_z.0) refl
+          ]
+    ]
+
+-- the text shown so far, up to a backslash
+pub up_to_backslash :
+    (all : Option (List ℕ)) (shown rest before after new : List ℕ) → all ≡ prefixed shown (unplained rest) → rest ≡ before ++ 92 ∷ after → ((i : ℕ) → i < length before → get_or before i 0 ≢ 92) → new ≡ shown ++ before → all ≡ prefixed new (unplained (92 ∷ after))
+up_to_backslash all shown rest before after new e f h g =
+    e ∙ ap (prefixed shown) (ap unplained f ∙ unplained-append before (92 ∷ after) h) ∙ prefixed-prefixed shown before (unplained (92 ∷ after)) ∙ ap (λ t. prefixed t (unplained (92 ∷ after))) (sym g)
+
+-- one character behind a backslash
+pub past_backslash :
+    (all : Option (List ℕ)) (shown after more new : List ℕ) (character : ℕ) → all ≡ prefixed shown (unplained (92 ∷ after)) → unplained (92 ∷ after) ≡ prefixed (character ∷ []) (unplained more) → new ≡ shown ++ character ∷ [] → all ≡ prefixed new (unplained more)
+past_backslash all shown after more new character e f g =
+    e ∙ ap (prefixed shown) f ∙ prefixed-prefixed shown (character ∷ []) (unplained more) ∙ ap (λ t. prefixed t (unplained more)) (sym g)
+
+-- the rest, with no backslash
+pub to_end :
+    (all : Option (List ℕ)) (shown rest new : List ℕ) → all ≡ prefixed shown (unplained rest) → ((i : ℕ) → i < length rest → get_or rest i 0 ≢ 92) → new ≡ shown ++ rest → Some new ≡ all
+to_end all shown rest new e h g =
+    let plain = ap unplained (sym (append-nil rest)) ∙ unplained-append rest [] h in
+    ap Some (g ∙ ap (λ t. shown ++ t) (sym (append-nil rest))) ∙ sym (e ∙ ap (prefixed shown) plain)
+
+no_backslash : (c : ℕ) → IsTrue (is_in_alphabet c) → c ≢ 92
+no_backslash c h = grind (arith, nat_tests)
+
+plain_back : (c : ℕ) (text : List ℕ) → IsTrue (is_in_alphabet c) → unplained (plain_character c ++ text) ≡ prefixed (c ∷ []) (unplained text)
+plain_back c text h =
+    elim (eqb_tells c 10) [
+      | inl line ↦ rw line.1 refl
+      | inr not_line ↦
+          elim (eqb_tells c 26) [
+            | inl mark ↦ rw mark.1 refl
+            | inr not_mark ↦ rw (not_line.0, not_mark.0) (unplained-other c text (no_backslash c h))
+          ]
+    ]
+
+pub unplained-plain_text : (text : List ℕ) → IsDlac text → unplained (plain_text text) ≡ Some text
+unplained-plain_text [] h = refl
+unplained-plain_text (c ∷ text) h =
+    plain_back c (plain_text text) (IsDlac-head c text h) ∙ ap (prefixed (c ∷ [])) (unplained-plain_text text (IsDlac-tail c text h))

@@ -1,0 +1,57 @@
+ghost use Rattle.std.specs.Prelude.{◌≡◌, IfOk, filter, [], ◌∷◌, ◌++◌};
+ghost use Rattle.dlac_text.specs.Reports.{reports_of, has_characters};
+
+use crate::alphabet::character_of;
+use crate::report_text::Report;
+use crate::six_bits::six_bit_groups;
+use std::alloc::{AllocError, Global};
+use std::mem;
+
+// The codes that end a report, and the one whose next code is a number of spaces.
+const END: u8 = 0;
+
+const TAB: u8 = 28;
+
+const OTHER_END: u8 = 29;
+
+/// The reports of a payload, in their order: the texts between the codes that end a report, the empty ones left out.
+///
+/// Any bytes are read: bits behind the last whole six, and a TAB that is the last code, stand for nothing.
+///
+/// # Errors
+///
+/// `AllocError` where memory runs out.
+pub fn reports(alloc: Global, payload: &[u8]) -> Result<Vec<Report>, AllocError>
+    ensures { IfOk result (λ found. found.items ≡ reports_of payload.now) }
+{
+    let codes = six_bit_groups(alloc, payload)?;
+    let mut found = Vec::new(alloc);
+    let mut text = Report::empty(alloc);
+    let mut rest = codes.as_slice();
+    while let [code, more @ ..] = rest {
+        rest = more;
+        match *code {
+            END | OTHER_END => end_report(alloc, &mut found, &mut text)?,
+            TAB => {
+                if let [spaces, behind @ ..] = more {
+                    text.push_spaces(*spaces)?;
+                    rest = behind;
+                }
+            }
+            symbol => text.push(character_of(symbol))?,
+        }
+    }
+    end_report(alloc, &mut found, &mut text)?;
+    Ok(found)
+}
+
+/// Ends a report: puts the text so far behind the reports, unless it is empty, and begins an empty one.
+fn end_report(alloc: Global, found: &mut Vec<Report>, text: &mut Report) -> Result<(), AllocError>
+    ensures found { IfOk result (λ _. found.new.items ≡ found.old.items ++ filter has_characters (text.old ∷ [])) }
+    ensures begun { IfOk result (λ _. text.new ≡ []) }
+{
+    if !text.is_empty() {
+        found.push(mem::replace(text, Report::empty(alloc)))?;
+    }
+    Ok(())
+}

@@ -1,0 +1,23 @@
+ghost use Rattle.std.specs.Prelude.{◌≡◌, ℕ, ◌+◌, ◌*◌, ◌/◌, ◌<◌, List, [], ◌∷◌, length, All, Some};
+ghost use Rattle.dlac_text.specs.Alphabet.{IsDlac};
+ghost use Rattle.dlac_text.specs.Payload.{text_payload};
+ghost use Rattle.dlac_text.specs.Plain.{plain_text, unplained};
+ghost use Rattle.dlac_text.specs.Reports.{reports_of};
+
+/// Reading undoes writing: the reports of the payload of a text are that text alone.
+pub fn reading_undoes_writing()
+    ensures text { (text : List ℕ)
+        → IsDlac text → 0 < length text → reports_of (text_payload text) ≡ text ∷ [] }
+    ensures empty { reports_of (text_payload []) ≡ [] }
+{}
+
+/// The size of a payload: six bits a character and for the end, in whole bytes.
+pub fn payload_size()
+    ensures size { (text : List ℕ) → length (text_payload text) ≡ (6 * (length text + 1) + 7) / 8 }
+    ensures bytes { (text : List ℕ) → IsDlac text → All (λ byte. byte < 256) (text_payload text) }
+{}
+
+/// Reading a plain text undoes showing a report as one.
+pub fn plain_text_reads_back()
+    ensures { (text : List ℕ) → IsDlac text → unplained (plain_text text) ≡ Some text }
+{}

@@ -1,0 +1,65 @@
+ghost use Rattle.std.specs.Prelude.{◌≡◌, ◌<◌, [], ◌∷◌, ◌++◌, length, IfOk, IfSome, MatchOption, None, option_map};
+ghost use Rattle.std.specs.String.{string_bytes};
+ghost use Rattle.dlac_text.specs.Plain.{plain_character, plain_text, unplained, prefixed};
+
+use crate::report_text::Report;
+use std::alloc::{AllocError, Global};
+
+/// A report as one line of plain text: newline as `\n`, U+001A as `\z`, any other character as itself.
+pub fn plain(alloc: Global, report: &Report) -> Result<String, AllocError>
+    ensures { IfOk result (λ text. string_bytes text ≡ plain_text report.now) }
+{
+    let characters = report.all().as_bytes();
+    let mut text = String::new(alloc);
+    for character in characters {
+        push_plain(&mut text, *character)?;
+    }
+    Ok(text)
+}
+
+/// Puts what shows an ASCII character at the end.
+fn push_plain(text: &mut String, character: u8) -> Result<(), AllocError>
+    requires { character < 128 }
+    ensures { IfOk result (λ _. string_bytes text.new ≡ string_bytes text.old ++ plain_character character) }
+{
+    match character {
+        b'\n' => text.push_str("\\n"),
+        0x1A => text.push_str("\\z"),
+        _ => text.push(char::from(character)),
+    }
+}
+
+/// The text that a plain text shows, or `None` exactly where a backslash isn't followed by `n` or `z`.
+pub fn unplain(alloc: Global, text: &str) -> Result<Option<String>, AllocError>
+    ensures { IfOk result (λ shown. option_map string_bytes shown ≡ unplained text.now) }
+{
+    let mut shown = String::new(alloc);
+    let mut rest = text;
+    while let Some((before, after)) = rest.split_once('\\') {
+        shown.push_str(before)?;
+        let Some((character, more)) = unescaped(after) else {
+            return Ok(None);
+        };
+        shown.push(character)?;
+        rest = more;
+    }
+    shown.push_str(rest)?;
+    Ok(Some(shown))
+}
+
+/// What the text behind a backslash begins with, and what follows that.
+fn unescaped(after: &str) -> Option<(char, &str)>
+    ensures shown { MatchOption result
+        (unplained (92 ∷ after.now) ≡ None)
+        (λ x. unplained (92 ∷ after.now) ≡ prefixed (x.0 ∷ []) (unplained x.1.now)) }
+    ensures ascii { IfSome result (λ x. x.0 < 128) }
+    ensures shorter { IfSome result (λ x. length x.1.now < length after.now) }
+{
+    if let Some(more) = after.strip_prefix('n') {
+        return Some(('\n', more));
+    }
+    if let Some(more) = after.strip_prefix('z') {
+        return Some(('\u{1A}', more));
+    }
+    None
+}
