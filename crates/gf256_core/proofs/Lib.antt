@@ -1,0 +1,6 @@
+pub mod Sums
+pub mod Remainders
+pub mod Products
+pub mod Pigeonhole
+pub mod Rows
+pub mod FieldLaws
