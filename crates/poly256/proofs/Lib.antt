@@ -1,0 +1,11 @@
+pub mod ListSums
+pub mod ListProducts
+pub mod Trims
+pub mod Degrees
+pub mod Xors
+pub mod Values
+pub mod Roots
+pub mod Rooms
+pub mod Shapes
+pub mod Derivatives
+pub mod Divisions

@@ -1,0 +1,151 @@
+-- Sums of lists of coefficients, lists times an element and lists times x.
+use Rattle.std.proofs.Common.{◌≡◌, ℕ, zero, suc, ◌+◌, ◌<◌, ◌≤◌, List, [], ◌∷◌, length, get_or, refl, sym, ◌∙◌, ap, ap₂, arith}
+use Rattle.std.specs.Int.Bits.{bit_xor, xor_zero_r, xor_assoc}
+use Rattle.std.proofs.lemmas.Nat.{xor_comm}
+use Rattle.gf256_core.specs.Field.{IsField}
+use Rattle.poly256.specs.Polynomial.{element_product, sum_of, scaled, shifted}
+
+-- ---- the field
+pub product-zero_right : (F : IsField 391) (a : ℕ) → element_product a 0 ≡ 0
+product-zero_right F a = F.product_comm a 0 ∙ F.product_zero a
+
+pub product-xor_right : (F : IsField 391) (a b c : ℕ) → element_product a (bit_xor b c) ≡ bit_xor (element_product a b) (element_product a c)
+product-xor_right F a b c =
+    F.product_comm a (bit_xor b c) ∙ F.distributive b c a ∙ ap₂ bit_xor (F.product_comm b a) (F.product_comm c a)
+
+-- ---- sums
+pub sum-empty_right : (xs : List ℕ) → sum_of xs [] ≡ xs
+unfolding sum_of
+sum-empty_right [] = refl
+sum-empty_right (x ∷ xs) = refl
+
+pub sum-empty_left : (xs : List ℕ) → sum_of [] xs ≡ xs
+unfolding sum_of
+sum-empty_left xs = refl
+
+pub sum_comm : (xs ys : List ℕ) → sum_of xs ys ≡ sum_of ys xs
+unfolding sum_of
+sum_comm [] ys = sym (sum-empty_right ys)
+sum_comm (x ∷ xs) [] = refl
+sum_comm (x ∷ xs) (y ∷ ys) = ap₂ (λ (a : ℕ) (us : List ℕ). a ∷ us) (xor_comm x y) (sum_comm xs ys)
+
+pub sum_assoc : (xs ys zs : List ℕ) → sum_of (sum_of xs ys) zs ≡ sum_of xs (sum_of ys zs)
+unfolding sum_of
+sum_assoc [] ys zs = refl
+sum_assoc (x ∷ xs) [] zs = refl
+sum_assoc (x ∷ xs) (y ∷ ys) [] = refl
+sum_assoc (x ∷ xs) (y ∷ ys) (z ∷ zs) = ap₂ (λ (a : ℕ) (us : List ℕ). a ∷ us) (xor_assoc x y z) (sum_assoc xs ys zs)
+
+pub sum-shuffle : (us vs cs ds : List ℕ) → sum_of (sum_of us vs) (sum_of cs ds) ≡ sum_of (sum_of us cs) (sum_of vs ds)
+sum-shuffle us vs cs ds =
+    sum_assoc us vs (sum_of cs ds)
+    ∙ ap (sum_of us) (sym (sum_assoc vs cs ds) ∙ ap (λ (xs : List ℕ). sum_of xs ds) (sum_comm vs cs) ∙ sum_assoc cs vs ds)
+    ∙ sym (sum_assoc us cs (sum_of vs ds))
+
+pub coefficient-sum : (xs ys : List ℕ) (k : ℕ) → get_or (sum_of xs ys) k 0 ≡ bit_xor (get_or xs k 0) (get_or ys k 0)
+unfolding sum_of
+coefficient-sum [] ys k = refl
+coefficient-sum (x ∷ xs) [] k = sym (xor_zero_r (get_or (x ∷ xs) k 0))
+coefficient-sum (x ∷ xs) (y ∷ ys) zero = refl
+coefficient-sum (x ∷ xs) (y ∷ ys) (suc k) = coefficient-sum xs ys k
+
+pub length-sum_left : (xs ys : List ℕ) → length ys ≤ length xs → length (sum_of xs ys) ≡ length xs
+unfolding sum_of
+length-sum_left [] [] h = refl
+length-sum_left [] (y ∷ ys) h = absurd (omega arith)
+length-sum_left (x ∷ xs) [] h = refl
+length-sum_left (x ∷ xs) (y ∷ ys) h = ap suc (length-sum_left xs ys (omega arith))
+
+pub length-sum_right : (xs ys : List ℕ) → length xs ≤ length ys → length (sum_of xs ys) ≡ length ys
+length-sum_right xs ys h = ap length (sum_comm xs ys) ∙ length-sum_left ys xs h
+
+pub length-sum_at_least : (xs ys : List ℕ) → length xs ≤ length (sum_of xs ys)
+unfolding sum_of
+length-sum_at_least [] ys = omega arith
+length-sum_at_least (x ∷ xs) [] = omega arith
+length-sum_at_least (x ∷ xs) (y ∷ ys) = let rest : length xs ≤ length (sum_of xs ys) = length-sum_at_least xs ys in omega arith
+
+pub length-sum_at_most : (xs ys : List ℕ) (n : ℕ) → length xs ≤ n → length ys ≤ n → length (sum_of xs ys) ≤ n
+unfolding sum_of
+length-sum_at_most [] ys n hx hy = hy
+length-sum_at_most (x ∷ xs) [] n hx hy = hx
+length-sum_at_most (x ∷ xs) (y ∷ ys) zero hx hy = absurd (omega arith)
+length-sum_at_most (x ∷ xs) (y ∷ ys) (suc n) hx hy =
+    let rest : length (sum_of xs ys) ≤ n = length-sum_at_most xs ys n (omega arith) (omega arith) in omega arith
+
+-- ---- an element times a list
+pub scaled-cons : (c x : ℕ) (xs : List ℕ) → scaled c (x ∷ xs) ≡ element_product c x ∷ scaled c xs
+unfolding scaled
+scaled-cons c x xs = refl
+
+pub scaled-sum : (F : IsField 391) (c : ℕ) (xs ys : List ℕ) → scaled c (sum_of xs ys) ≡ sum_of (scaled c xs) (scaled c ys)
+unfolding sum_of scaled
+scaled-sum F c [] ys = refl
+scaled-sum F c (x ∷ xs) [] = refl
+scaled-sum F c (x ∷ xs) (y ∷ ys) = ap₂ (λ (a : ℕ) (us : List ℕ). a ∷ us) (product-xor_right F c x y) (scaled-sum F c xs ys)
+
+pub scaled-xor : (F : IsField 391) (c d : ℕ) (xs : List ℕ) → scaled (bit_xor c d) xs ≡ sum_of (scaled c xs) (scaled d xs)
+unfolding sum_of scaled
+scaled-xor F c d [] = refl
+scaled-xor F c d (x ∷ xs) = ap₂ (λ (a : ℕ) (us : List ℕ). a ∷ us) (F.distributive c d x) (scaled-xor F c d xs)
+
+pub scaled-scaled : (F : IsField 391) (c d : ℕ) (xs : List ℕ) → scaled c (scaled d xs) ≡ scaled (element_product c d) xs
+unfolding scaled
+scaled-scaled F c d [] = refl
+scaled-scaled F c d (x ∷ xs) = ap₂ (λ (a : ℕ) (us : List ℕ). a ∷ us) (sym (F.product_assoc c d x)) (scaled-scaled F c d xs)
+
+pub length-scaled : (c : ℕ) (xs : List ℕ) → length (scaled c xs) ≡ length xs
+unfolding scaled
+length-scaled c [] = refl
+length-scaled c (x ∷ xs) = ap suc (length-scaled c xs)
+
+pub coefficient-scaled : (F : IsField 391) (c : ℕ) (xs : List ℕ) (k : ℕ) → get_or (scaled c xs) k 0 ≡ element_product c (get_or xs k 0)
+unfolding scaled
+coefficient-scaled F c [] k = sym (product-zero_right F c)
+coefficient-scaled F c (x ∷ xs) zero = refl
+coefficient-scaled F c (x ∷ xs) (suc k) = coefficient-scaled F c xs k
+
+pub scaled-one : (F : IsField 391) (xs : List ℕ) → ((k : ℕ) → get_or xs k 0 < 256) → scaled 1 xs ≡ xs
+unfolding scaled
+scaled-one F [] h = refl
+scaled-one F (x ∷ xs) h = ap₂ (λ (a : ℕ) (us : List ℕ). a ∷ us) (F.product_one x (h 0)) (scaled-one F xs (λ k. h (suc k)))
+
+-- zeros for each member of a list that is no longer change nothing
+pub sum-scaled_zero : (F : IsField 391) (xs ys : List ℕ) → length xs ≤ length ys → sum_of (scaled 0 xs) ys ≡ ys
+unfolding sum_of scaled
+sum-scaled_zero F [] ys h = refl
+sum-scaled_zero F (x ∷ xs) [] h = absurd (omega arith)
+sum-scaled_zero F (x ∷ xs) (y ∷ ys) h =
+    ap₂ (λ (a : ℕ) (us : List ℕ). a ∷ us) (ap (λ (a : ℕ). bit_xor a y) (F.product_zero x)) (sum-scaled_zero F xs ys (omega arith))
+
+-- ---- x times a list
+pub shifted-sum : (xs ys : List ℕ) → shifted (sum_of xs ys) ≡ sum_of (shifted xs) (shifted ys)
+unfolding sum_of shifted
+shifted-sum [] ys = refl
+shifted-sum (x ∷ xs) [] = refl
+shifted-sum (x ∷ xs) (y ∷ ys) = refl
+
+pub scaled-shifted : (F : IsField 391) (c : ℕ) (xs : List ℕ) → scaled c (shifted xs) ≡ shifted (scaled c xs)
+unfolding scaled shifted
+scaled-shifted F c [] = refl
+scaled-shifted F c (x ∷ xs) = ap (λ (a : ℕ). a ∷ element_product c x ∷ scaled c xs) (product-zero_right F c)
+
+pub length-shifted : (xs : List ℕ) → length xs ≤ length (shifted xs)
+unfolding shifted
+length-shifted [] = omega arith
+length-shifted (x ∷ xs) = omega arith
+
+pub length-shifted_more : (xs : List ℕ) → 0 < length xs → length (shifted xs) ≡ length xs + 1
+unfolding shifted
+length-shifted_more [] h = absurd (omega arith)
+length-shifted_more (x ∷ xs) h = omega arith
+
+pub coefficient-shifted_first : (xs : List ℕ) → get_or (shifted xs) 0 0 ≡ 0
+unfolding shifted
+coefficient-shifted_first [] = refl
+coefficient-shifted_first (x ∷ xs) = refl
+
+pub coefficient-shifted : (xs : List ℕ) (k : ℕ) → get_or (shifted xs) (suc k) 0 ≡ get_or xs k 0
+unfolding shifted
+coefficient-shifted [] k = refl
+coefficient-shifted (x ∷ xs) k = refl

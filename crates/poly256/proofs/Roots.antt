@@ -1,0 +1,129 @@
+-- A polynomial has no more roots than its degree: each root divides it, and the quotient has the other roots.
+use Rattle.std.proofs.Common.{◌≡◌, ℕ, zero, suc, ◌<◌, ◌≤◌, List, [], ◌∷◌, length, get_or, refl, sym, ◌∙◌, ap, ap₂, arith, lit<, inl, inr}
+use Rattle.std.specs.Int.Bits.{bit_xor, xor_zero_r}
+use Rattle.std.proofs.lemmas.Nat.{xor_comm}
+use Rattle.std.proofs.lemmas.Bool.{cases_lt}
+use Rattle.gf256_core.specs.Field.{IsField}
+use Rattle.poly256.specs.Polynomial.{element_product, trimmed, value_at}
+use Rattle.poly256.specs.Laws.{AreDifferent, HasFewRoots}
+use Rattle.poly256.proofs.Xors.{xor-same_left, xor-equal, xor-through}
+use Rattle.poly256.proofs.ListSums.{product-zero_right, product-xor_right}
+use Rattle.poly256.proofs.Trims.{trimmed-zeros}
+use Rattle.poly256.proofs.Values.{value-empty, value-cons, value-fits}
+
+-- the quotient by x + at
+divided : ℕ → List ℕ → List ℕ
+divided at [] = []
+divided at (c ∷ []) = []
+divided at (c ∷ d ∷ ds) = value_at (d ∷ ds) at ∷ divided at (d ∷ ds)
+
+length-divided : (at c : ℕ) (cs : List ℕ) → length (divided at (c ∷ cs)) ≡ length cs
+unfolding divided
+length-divided at c [] = refl
+length-divided at c (d ∷ ds) = ap suc (length-divided at d ds)
+
+divided-bytes : (F : IsField 391) (at : ℕ) (cs : List ℕ) (k : ℕ) → get_or (divided at cs) k 0 < 256
+unfolding divided
+divided-bytes F at [] k = lit< tt
+divided-bytes F at (c ∷ []) k = lit< tt
+divided-bytes F at (c ∷ d ∷ ds) zero = value-fits F (d ∷ ds) at
+divided-bytes F at (c ∷ d ∷ ds) (suc k) = divided-bytes F at (d ∷ ds) k
+
+-- b v + a u = (b + a) u + b (v + u)
+regrouped :
+    (F : IsField 391) (a b u v : ℕ)
+    → bit_xor (element_product b v) (element_product a u)
+    ≡ bit_xor (element_product (bit_xor b a) u) (element_product b (bit_xor v u))
+regrouped F a b u v =
+    sym (xor-through (element_product b v) (element_product b u) (element_product a u))
+    ∙ xor_comm (bit_xor (element_product b v) (element_product b u)) (bit_xor (element_product b u) (element_product a u))
+    ∙ sym (ap₂ bit_xor (F.distributive b a u) (product-xor_right F b v u))
+
+product-turned : (F : IsField 391) (a b c : ℕ) → element_product a (element_product b c) ≡ element_product b (element_product a c)
+product-turned F a b c =
+    sym (F.product_assoc a b c) ∙ ap (λ (x : ℕ). element_product x c) (F.product_comm a b) ∙ F.product_assoc b a c
+
+-- the difference of two values is a multiple of the difference of the elements
+divided-value :
+    (F : IsField 391) (at other : ℕ) (cs : List ℕ) → ((k : ℕ) → get_or cs k 0 < 256)
+    → bit_xor (value_at cs other) (value_at cs at) ≡ element_product (bit_xor other at) (value_at (divided at cs) other)
+unfolding divided
+divided-value F at other [] bytes =
+    ap₂ bit_xor (value-empty other) (value-empty at)
+    ∙ sym (ap (element_product (bit_xor other at)) (value-empty other) ∙ product-zero_right F (bit_xor other at))
+divided-value F at other (c ∷ []) bytes =
+    ap₂ bit_xor (value-cons F c [] other (bytes 0)) (value-cons F c [] at (bytes 0))
+    ∙ xor-same_left (element_product other (value_at [] other)) (element_product at (value_at [] at)) c
+    ∙ ap₂ bit_xor (ap (element_product other) (value-empty other) ∙ product-zero_right F other)
+    (ap (element_product at) (value-empty at) ∙ product-zero_right F at)
+    ∙ sym (ap (element_product (bit_xor other at)) (value-empty other) ∙ product-zero_right F (bit_xor other at))
+divided-value F at other (c ∷ d ∷ ds) bytes =
+    let s : ℕ = bit_xor other at in
+    ap₂ bit_xor (value-cons F c (d ∷ ds) other (bytes 0)) (value-cons F c (d ∷ ds) at (bytes 0))
+    ∙ xor-same_left (element_product other (value_at (d ∷ ds) other)) (element_product at (value_at (d ∷ ds) at)) c
+    ∙ regrouped F at other (value_at (d ∷ ds) at) (value_at (d ∷ ds) other)
+    ∙ ap (bit_xor (element_product (bit_xor other at) (value_at (d ∷ ds) at)))
+    (ap (element_product other) (divided-value F at other (d ∷ ds) (λ k. bytes (suc k)))
+    ∙ product-turned F other (bit_xor other at) (value_at (divided at (d ∷ ds)) other))
+    ∙ sym (product-xor_right F (bit_xor other at) (value_at (d ∷ ds) at) (element_product other (value_at (divided at (d ∷ ds)) other)))
+    ∙ ap (element_product (bit_xor other at)) (sym (value-cons F (value_at (d ∷ ds) at) (divided at (d ∷ ds)) other (value-fits F (d ∷ ds) at)))
+
+first_zero :
+    (F : IsField 391) (c : ℕ) (cs : List ℕ) (at : ℕ) → c < 256 → value_at (c ∷ cs) at ≡ 0 → value_at cs at ≡ 0 → c ≡ 0
+first_zero F c cs at h e e' =
+    sym (xor_zero_r c) ∙ ap (bit_xor c) (sym (ap (element_product at) e' ∙ product-zero_right F at))
+    ∙ sym (value-cons F c cs at h) ∙ e
+
+-- where the quotient and the value are zero, all is
+zero_from_quotient :
+    (F : IsField 391) (at : ℕ) (cs : List ℕ) → ((k : ℕ) → get_or cs k 0 < 256) → value_at cs at ≡ 0
+    → ((k : ℕ) → get_or (divided at cs) k 0 ≡ 0) → (k : ℕ) → get_or cs k 0 ≡ 0
+unfolding divided
+zero_from_quotient F at [] bytes e none k = refl
+zero_from_quotient F at (c ∷ []) bytes e none zero = first_zero F c [] at (bytes 0) e (value-empty at)
+zero_from_quotient F at (c ∷ []) bytes e none (suc k) = refl
+zero_from_quotient F at (c ∷ d ∷ ds) bytes e none zero = first_zero F c (d ∷ ds) at (bytes 0) e (none 0)
+zero_from_quotient F at (c ∷ d ∷ ds) bytes e none (suc k) =
+    zero_from_quotient F at (d ∷ ds) (λ j. bytes (suc j)) (none 0) (λ j. none (suc j)) k
+
+-- another root is a root of the quotient
+other_root :
+    (F : IsField 391) (at other : ℕ) (cs : List ℕ) → ((k : ℕ) → get_or cs k 0 < 256) → at < 256 → other < 256
+    → (other ≡ at → ⊥) → value_at cs at ≡ 0 → value_at cs other ≡ 0 → value_at (divided at cs) other ≡ 0
+other_root F at other cs bytes ha ho apart e e' =
+    elim (F.zero_factor (bit_xor other at) (value_at (divided at cs) other) (F.sum_fits other at ho ha) (value-fits F (divided at cs) other)
+    (sym (divided-value F at other cs bytes) ∙ ap₂ bit_xor e' e)) [
+      | inl same ↦ absurd (apart (xor-equal other at same))
+      | inr root ↦ root
+    ]
+
+rest-AreDifferent : (p : ℕ) (ps : List ℕ) → AreDifferent (p ∷ ps) → AreDifferent ps
+rest-AreDifferent p ps d = record {
+  bytes = λ i h. d.bytes (suc i) (omega arith);
+  apart = λ i j h h'. d.apart (suc i) (suc j) (omega arith) (omega arith);
+}
+
+-- a list that is no longer than the points at which it is 0 is zero
+zero_from_roots :
+    (F : IsField 391) (points cs : List ℕ) → ((k : ℕ) → get_or cs k 0 < 256) → length cs ≤ length points
+    → AreDifferent points → ((i : ℕ) → i < length points → value_at cs (get_or points i 0) ≡ 0) → (k : ℕ) → get_or cs k 0 ≡ 0
+zero_from_roots F [] [] bytes h d roots k = refl
+zero_from_roots F [] (c ∷ cs) bytes h d roots k = absurd (omega arith)
+zero_from_roots F (p ∷ ps) [] bytes h d roots k = refl
+zero_from_roots F (p ∷ ps) (c ∷ cs) bytes h d roots k =
+    let root : value_at (c ∷ cs) p ≡ 0 = roots 0 (omega arith) in
+    zero_from_quotient F p (c ∷ cs) bytes root
+    (zero_from_roots F ps (divided p (c ∷ cs)) (divided-bytes F p (c ∷ cs)) (let l = length-divided p c cs in omega arith)
+    (rest-AreDifferent p ps d)
+    (λ i h'. other_root F p (get_or ps i 0) (c ∷ cs) bytes (d.bytes 0 (omega arith)) (d.bytes (suc i) (omega arith))
+    (λ e. d.apart 0 (suc i) (omega arith) (omega arith) (sym e)) root (roots (suc i) (omega arith))))
+    k
+
+pub few_roots : (F : IsField 391) → HasFewRoots
+few_roots F cs points bytes t some d roots = elim (cases_lt (length points) (length cs)) [
+  | inl few ↦ few
+  | inr many ↦
+      let zero : trimmed cs ≡ [] = trimmed-zeros cs (zero_from_roots F points cs bytes many d roots) in
+      let none : length cs ≡ 0 = ap length (sym t ∙ zero) in
+      absurd (omega arith)
+]

@@ -1,0 +1,19 @@
+use Rattle.poly256.proofs.ListSums.{coefficient-sum, length-sum_at_most}
+use Rattle.poly256.proofs.ListProducts.{length-product, coefficient-product, coefficient-product_first}
+use Rattle.poly256.proofs.Trims.{length-trimmed}
+use Rattle.poly256.proofs.Degrees.{last_not_zero, sum_of_lower, product_keeps, one_division}
+use Rattle.poly256.proofs.laws.degree_laws.Goals as goal
+
+pub returns : goal.returns
+returns c = let F = c.field_laws.ensures in record {
+  trimmed_is_no_longer = length-trimmed;
+  last_not_zero = last_not_zero;
+  sum_coefficient = coefficient-sum;
+  sum_at_most = length-sum_at_most;
+  sum_of_lower = sum_of_lower;
+  product_coefficient_first = coefficient-product_first F;
+  product_coefficient = coefficient-product F;
+  product_length = length-product;
+  product_keeps = product_keeps F;
+  one_division = one_division F;
+}
