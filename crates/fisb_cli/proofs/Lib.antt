@@ -1,0 +1,3 @@
+mod FirstWord
+mod NoMemory
+mod SomeCommand

@@ -1,0 +1,21 @@
+use Rattle.std.proofs.Common.{IsSomeAnd, map, string_bytes, refl, sym, ◌∙◌, subst}
+use Rattle.fisb_app.specs.Command.{command_named, IsUnbuilt}
+use Rattle.fisb_app.specs.declared.status.Status.TheVariants.{NoMemory}
+use Rattle.fisb_cli.proofs.NoMemory.{decided-without-memory}
+use Rattle.fisb_cli.proofs.SomeCommand.{of-the-value}
+use Rattle.fisb_cli.proofs.ending.run_args.Goals as goal
+
+pub returns-in-Ok-words-clause-unbuilt : goal.returns-in-Ok-words-clause-unbuilt
+returns-in-Ok-words-clause-unbuilt g c =
+    rw c.in-Ok.is (λ is_unbuilt.
+    let words = c.as_slice.ensures.value ∙ c.in-Ok-words.ensures in
+    let refused = of-the-value _ c.run.ensures.unbuilt (subst (λ ws. IsSomeAnd (command_named (map string_bytes ws)) IsUnbuilt) (sym words) is_unbuilt) in
+    (refused.0, (c.run.result, c.code.ensures, refused.1)))
+
+pub returns-in-Err-words-clause-unbuilt : goal.returns-in-Err-words-clause-unbuilt
+returns-in-Err-words-clause-unbuilt g c =
+    rw c.in-Ok.is (λ is_unbuilt. (refl, (NoMemory, c.code-in-Err-words.ensures, tt)))
+
+pub returns-in-Err-words-clause-link : goal.returns-in-Err-words-clause-link
+returns-in-Err-words-clause-link g c =
+    rw c.in-Ok.is (λ alone. (NoMemory, c.code-in-Err-words.ensures, (tt, decided-without-memory _ _ _ _ _)))

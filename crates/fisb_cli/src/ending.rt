@@ -1,0 +1,64 @@
+//! The words of the command line, and the number with which the program ends.
+ghost use Rattle.std.specs.Prelude.{◌≡◌, ◌⊎◌, IfOk, IfErr, IsSomeAnd, None, map, string_bytes};
+ghost use Rattle.std.specs.IoError.{error_kind};
+ghost use Rattle.std.specs.Vec.Iter.{into_iter_items};
+ghost use Rattle.fisb_app.specs.Command.{command_named, IsUnbuilt};
+ghost use Rattle.fisb_app.specs.Run.{HasRefused, HasRun, IsDecided};
+ghost use Rattle.fisb_app.specs.Script.{unbuilt};
+ghost use Rattle.fisb_cli.specs.Ending.{EndsAs, IsLinkAlone, number_without_words, words_of};
+
+use fisb_app::{Status, run};
+use fisb_wire::{Sink, Source};
+use std::alloc::{AllocError, Global};
+use std::env::Args;
+use std::io;
+use std::io::ErrorKind;
+
+/// Runs the command that the words name, and answers the number with which the program ends: that of the run's
+/// status, 0 or 2 to 7. Where the words can't be had nothing is read, written or run, and it is 7 for want of memory,
+/// or else 1.
+pub fn run_args<S: Source, K: Sink>(
+    alloc: Global,
+    args: io::Result<Args>,
+    source: &mut S,
+    sink: &mut K,
+) -> u8
+    requires { K.spare sink.old ≡ None }
+    ensures wordless { IfErr args (λ error. (result ≡ number_without_words (error_kind error)) × (source.new ≡ source.old) × (sink.new ≡ sink.old)) }
+    ensures usage { IfOk args (λ args. result ≡ 2 → command_named (map string_bytes (words_of (into_iter_items args))) ≡ None) }
+    ensures unnamed { IfOk args (λ args. command_named (map string_bytes (words_of (into_iter_items args))) ≡ None → (result ≡ 2) ⊎ (result ≡ 7)) }
+    ensures untouched { result ≡ 2 → (source.new ≡ source.old) × (sink.new ≡ sink.old) }
+    ensures unbuilt { IfOk args (λ args. IsSomeAnd (command_named (map string_bytes (words_of (into_iter_items args)))) IsUnbuilt →
+        (source.new ≡ source.old) × EndsAs result (HasRefused unbuilt (K.written sink.old) (K.written sink.new) (K.faults sink.old) (K.faults sink.new))) }
+    ensures link { IfOk args (λ args. IsLinkAlone (map string_bytes (words_of (into_iter_items args))) →
+        EndsAs result (λ status. HasRun (S.left source.old) (S.left source.new) (S.faults source.old) (S.faults source.new)
+        (K.written sink.old) (K.written sink.new) (K.faults sink.old) (K.faults sink.new) status
+        × IsDecided (S.left source.old) (S.faults source.old) (S.faults source.new) (K.faults sink.old) (K.faults sink.new) status)) }
+{
+    match args {
+        Ok(args) => match words(alloc, args) {
+            Ok(words) => run(alloc, words.as_slice(), source, sink).code(),
+            Err(AllocError) => Status::NoMemory.code(),
+        },
+        Err(error) => number_without_words(&error),
+    }
+}
+
+/// The words of the command line behind the program's name.
+fn words(alloc: Global, args: Args) -> Result<Vec<String>, AllocError>
+    ensures { IfOk result (λ words. words.items ≡ words_of (into_iter_items args)) }
+{
+    let mut args = args;
+    args.next();
+    args.collect(alloc)
+}
+
+/// The number with which the program ends where its words can't be had: that of a want of memory, or 1.
+fn number_without_words(error: &io::Error) -> u8
+    ensures { result ≡ number_without_words (error_kind error.now) }
+{
+    match error.kind() {
+        ErrorKind::OutOfMemory => Status::NoMemory.code(),
+        _ => 1,
+    }
+}
