@@ -1,11 +1,10 @@
 -- Small scenes, computed by the definitions alone: they show what the definitions say where several updates, frames and
 -- segments meet, which is more than the lines that are built can give.
-use Rattle.std.proofs.Common.{◌≡◌, ℕ, List, [], ◌∷◌, ◌++◌, map, Option, Some, None, Ok, Err, refl, codes, replicate}
-use Rattle.std.specs.Prelude.{slice_get}
+use Rattle.std.proofs.Common.{◌≡◌, ℕ, List, [], ◌∷◌, ◌++◌, map, Some, None, Ok, Err, refl, codes, replicate}
 use Rattle.std.specs.Fmt.{digits}
 use Rattle.dlac_text.specs.Payload.{text_payload}
 use Rattle.fisb_time.specs.declared.form.TimeForm.TheVariants.{Minute, DayMinute}
-use Rattle.fisb_app.specs.Script.{Line, text, turn, hear, show}
+use Rattle.fisb_app.specs.Script.{Line, text, turn, hear}
 use Rattle.fisb_app.specs.LifeTable.{default_table}
 use Rattle.fisb_app.specs.TextKey.{text_key, few_words, unlisted}
 use Rattle.fisb_app.specs.Ground.{Frame, used}
@@ -107,8 +106,13 @@ unfolding apdu_of
 apdu-day_minute = refl
 
 pub apdu-segment : apdu_of (0x06 ∷ 0x76 ∷ 0x58 ∷ 0xD0 ∷ 0x00 ∷ 0x04 ∷ 0x01 ∷ 0x05 ∷ [])
-    ≡ Ok (record { product = 413; form = Minute; time = record { month = 0; day = 0; hours = 22; minutes = 13; seconds = 0 };
-      segmentation = Some (record { file = 0; count = 2; number = 1 }); payload = 0x05 ∷ [] })
+    ≡ Ok (record {
+      product = 413;
+      form = Minute;
+      time = record { month = 0; day = 0; hours = 22; minutes = 13; seconds = 0 };
+      segmentation = Some (record { file = 0; count = 2; number = 1 });
+      payload = 0x05 ∷ [];
+    })
 unfolding apdu_of
 apdu-segment = refl
 

@@ -9,11 +9,16 @@ use std::io::{Read, Write};
 use std::process::Abort;
 use std::test::Fail;
 
-const SCRIPT: &str =
-    "---\ntext 1700000000 1699999980 METAR KSEA\nturn 1700000001 0\nhear 1700000002 0\nshow 1700000003\n";
+const SCRIPT: &str = "---\n\
+    text 1700000000 1699999980 METAR KSEA\n\
+    turn 1700000001 0\n\
+    hear 1700000002 0\n\
+    show 1700000003\n";
 
-const OUTPUT: &str =
-    "sent 0 1700000001 0 1 15\nheard 1700000002 0 0 0 0 0 0 0 0\npicture 1700000003 1\ntext METAR KSEA 1699999980 METAR KSEA\n";
+const OUTPUT: &str = "sent 0 1700000001 0 1 15\n\
+    heard 1700000002 0 0 0 0 0 0 0 0\n\
+    picture 1700000003 1\n\
+    text METAR KSEA 1699999980 METAR KSEA\n";
 
 /// A reader that gives its bytes in pieces of at most seven, and fails behind the last one.
 #[derive(Drop)]

@@ -101,11 +101,18 @@ fn the_longest_report_fills_the_frame(rt: HostRuntime) -> Result<(), Fail> {
     // are the 424 of a frame.
     let tail = letters(rt.alloc(), 545)?;
     let script = format!(in rt.alloc();
-        "---\ntext 1700000000 1699999980 METAR KSEA {}\nturn 1700000001 0\nhear 1700000002 0\nshow 1700000003\n",
+        "---\n\
+        text 1700000000 1699999980 METAR KSEA {}\n\
+        turn 1700000001 0\n\
+        hear 1700000002 0\n\
+        show 1700000003\n",
         tail
     )?;
     let output = format!(in rt.alloc();
-        "sent 0 1700000001 0 1 424\nheard 1700000002 0 0 0 0 0 0 0 0\npicture 1700000003 1\ntext METAR KSEA 1699999980 METAR KSEA {}\n",
+        "sent 0 1700000001 0 1 424\n\
+        heard 1700000002 0 0 0 0 0 0 0 0\n\
+        picture 1700000003 1\n\
+        text METAR KSEA 1699999980 METAR KSEA {}\n",
         tail
     )?;
     check_link(
