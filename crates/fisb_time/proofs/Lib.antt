@@ -1,2 +1,6 @@
 pub mod NamingLemmas
-pub mod MinuteLemmas
+pub mod DateLemmas
+pub mod YearLemmas
+pub mod LatestLemmas
+pub mod TimeLemmas
+pub mod RoundTripLemmas

@@ -1,4 +1,5 @@
 pub mod Moment
+pub mod CivilDate
 pub mod TimeForm
 pub mod TimeFields
 pub mod Naming

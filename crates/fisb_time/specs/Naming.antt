@@ -3,6 +3,7 @@
 -- reception: what is broadcast lies in the past, and the minute allows for clocks that differ.
 use Rattle.std.specs.Prelude.{◌≡◌, ℕ, zero, suc, ◌+◌, ◌≤◌, Bool, ◌&&◌, cond, IsTrue, Option, None, Some}
 use Rattle.fisb_time.specs.declared.form.TimeForm.{TimeForm}
+use Rattle.fisb_time.specs.declared.form.TimeForm.TheVariants.{Minute, Second, DayMinute, DaySecond}
 use Rattle.fisb_time.specs.declared.form.TimeFields.{TimeFields}
 use Rattle.fisb_time.specs.Moment.{IsMoment, is_moment}
 use Rattle.fisb_time.specs.TimeForm.{shows}
@@ -35,3 +36,11 @@ greatest_below (suc n) test = cond (test n) (Some n) (greatest_below n test)
 -- the moment that the fields name, if they name one
 unfoldable pub named : TimeForm → TimeFields → ℕ → Option ℕ
 named form fields received = greatest_below (received + 61) (has_fields form fields)
+
+-- the seconds from a moment until its fields may name a later one: they come again after a day, or
+-- with month and day after 365 days at the least
+abbrev pub window : TimeForm → ℕ
+window Minute = 86400
+window Second = 86400
+window DayMinute = 31536000
+window DaySecond = 31536000

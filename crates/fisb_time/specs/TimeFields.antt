@@ -3,6 +3,7 @@ use Rattle.std.specs.Prelude.{◌≡◌, ℕ, ◌/◌, ◌%◌, ◌<◌, ◌==�
 use Rattle.fisb_time.specs.declared.form.TimeForm.{TimeForm}
 use Rattle.fisb_time.specs.declared.form.TimeForm.TheVariants.{Minute, Second, DayMinute, DaySecond}
 use Rattle.fisb_time.specs.declared.form.TimeFields.{TimeFields}
+use Rattle.fisb_time.specs.CivilDate.{date_of, IsMonthAndDay}
 
 -- the full hours since midnight, 0 to 23
 abbrev pub hour_of_day : ℕ → ℕ
@@ -16,9 +17,7 @@ minute_of_hour m = m / 60 % 60
 abbrev pub second_of_minute : ℕ → ℕ
 second_of_minute m = m % 60
 
--- The fields of a moment in a form that shows it. A field that the form lacks is 0. Month and day
--- of the last two forms come with the calendar, and stand here as 0: no function takes these forms
--- until then.
+-- the fields of a moment in a form that shows it; a field that the form lacks is 0
 abbrev pub shown : TimeForm → ℕ → TimeFields
 shown Minute m = record {
   month = 0;
@@ -35,15 +34,15 @@ shown Second m = record {
   seconds = second_of_minute m;
 }
 shown DayMinute m = record {
-  month = 0;
-  day = 0;
+  month = (date_of m).month;
+  day = (date_of m).day;
   hours = hour_of_day m;
   minutes = minute_of_hour m;
   seconds = 0;
 }
 shown DaySecond m = record {
-  month = 0;
-  day = 0;
+  month = (date_of m).month;
+  day = (date_of m).day;
   hours = hour_of_day m;
   minutes = minute_of_hour m;
   seconds = second_of_minute m;
@@ -64,3 +63,24 @@ pub record IsMinuteOfDay (f : TimeFields) : Type 0 where
   pub month : f.month ≡ 0
   pub day : f.day ≡ 0
   pub seconds : f.seconds ≡ 0
+
+-- the second of the minute in a form: 0 where the form has no seconds
+abbrev pub IsSecondIn : TimeForm → ℕ → Type 0
+IsSecondIn Minute second = second ≡ 0
+IsSecondIn Second second = second < 60
+IsSecondIn DayMinute second = second ≡ 0
+IsSecondIn DaySecond second = second < 60
+
+-- the month and the day in a form: 0 where the form has no date
+abbrev pub IsDateIn : TimeForm → ℕ → ℕ → Type 0
+IsDateIn Minute month day = (month ≡ 0) × (day ≡ 0)
+IsDateIn Second month day = (month ≡ 0) × (day ≡ 0)
+IsDateIn DayMinute month day = IsMonthAndDay month day
+IsDateIn DaySecond month day = IsMonthAndDay month day
+
+-- each field that the form has is in its range, and the others are 0
+pub record IsTimeIn (form : TimeForm) (f : TimeFields) : Type 0 where
+  pub hours : f.hours < 24
+  pub minutes : f.minutes < 60
+  pub seconds : IsSecondIn form f.seconds
+  pub date : IsDateIn form f.month f.day

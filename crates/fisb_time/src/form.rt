@@ -3,6 +3,7 @@ ghost use Rattle.std.specs.Prelude.{◌≡◌, IsTrue};
 ghost use Rattle.fisb_time.specs.TimeForm.{shows};
 ghost use Rattle.fisb_time.specs.TimeFields.{shown};
 
+use crate::calendar::date_at;
 use crate::moment::Moment;
 
 /// The form of an APDU's time field.
@@ -36,7 +37,6 @@ pub struct TimeFields {
 
 /// Whether the form shows the moment: a form without seconds shows whole minutes alone.
 pub fn shows(form: TimeForm, moment: Moment) -> bool
-    requires { form ≡ TimeForm.Minute }
     ensures { result ≡ shows form moment }
 {
     match form {
@@ -47,17 +47,30 @@ pub fn shows(form: TimeForm, moment: Moment) -> bool
 
 /// The fields of a moment, in a form that shows it.
 pub fn fields_of(form: TimeForm, moment: Moment) -> TimeFields
-    requires built { form ≡ TimeForm.Minute }
     requires showable { IsTrue (shows form moment) }
     ensures { result ≡ shown form moment }
 {
-    prove!(matches!(form, TimeForm::Minute));
-    let minute_of_day = moment.seconds() / 60 % 1_440;
+    let (month, day) = month_and_day(form, moment);
+    let second_of_day = moment.seconds() % 86_400;
     TimeFields {
-        month: 0,
-        day: 0,
-        hours: (minute_of_day / 60) as u8,
-        minutes: (minute_of_day % 60) as u8,
-        seconds: 0,
+        month,
+        day,
+        hours: (second_of_day / 3_600) as u8,
+        minutes: (second_of_day / 60 % 60) as u8,
+        seconds: (second_of_day % 60) as u8,
+    }
+}
+
+/// The month and the day of a moment in the form, 0 where the form has no date.
+fn month_and_day(form: TimeForm, moment: Moment) -> (u8, u8)
+    ensures month { result.0 ≡ (shown form moment).month }
+    ensures day { result.1 ≡ (shown form moment).day }
+{
+    match form {
+        TimeForm::Minute | TimeForm::Second => (0, 0),
+        TimeForm::DayMinute | TimeForm::DaySecond => {
+            let date = date_at(moment.seconds());
+            (date.month, date.day)
+        }
     }
 }

@@ -2,13 +2,14 @@
 //! moment it names where it is received.
 #![tactic(auto)]
 
+mod calendar;
 mod form;
 mod laws;
 mod moment;
 mod naming;
 
 pub use form::{TimeFields, TimeForm, fields_of, shows};
-pub use laws::{named_is_greatest, time_round_trip};
+pub use laws::{date_of_day, form_round_trip, named_is_greatest, time_round_trip};
 pub use moment::Moment;
 pub use naming::resolve;
 

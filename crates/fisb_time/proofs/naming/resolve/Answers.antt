@@ -1,18 +1,26 @@
--- The two answers: nothing is named where the fields are no hour and minute of a day; else what is
--- made of the latest second at that hour and minute.
-use Rattle.std.proofs.Common.{ℕ, sym, IsSome, arith}
+-- The two answers: nothing is named where the fields are no time of the form; else what is made of
+-- the latest second with these fields.
+use Rattle.std.proofs.Common.{ℕ, refl, sym, IsSome, arith}
 use Rattle.std.proofs.lemmas.Grind.{common_steps}
 use Rattle.fisb_time.specs.Naming.{IsCandidate}
+use Rattle.fisb_time.proofs.TimeLemmas.{candidate_time}
 use Rattle.fisb_time.proofs.NamingLemmas.{named-none, named-by, none-by}
 use Rattle.fisb_time.proofs.naming.resolve.Goals as goal
 
 no_candidate :
-    (c : goal.Then-not-is_minute_of_day) (m : ℕ) → IsCandidate c.args.form c.args.fields.now c.args.received m → ⊥
-no_candidate c m h = grind (arith, common_steps)
+    (c : goal.Then-not-is_time) (m : ℕ) → IsCandidate c.args.form c.args.fields.now c.args.received m → ⊥
+no_candidate c m h =
+    let time = candidate_time c.args.form c.args.fields.now c.args.received m h in
+    grind (arith, common_steps)
 
-pub returns-then-not-is_minute_of_day-clause-value :
-    goal.returns-then-not-is_minute_of_day-clause-value
-returns-then-not-is_minute_of_day-clause-value c =
+pub returns-then-not-is_time-clause-none : goal.returns-then-not-is_time-clause-none
+returns-then-not-is_time-clause-none c = (λ _. no_candidate c, λ _. refl)
+
+pub returns-then-not-is_time-clause-found : goal.returns-then-not-is_time-clause-found
+returns-then-not-is_time-clause-found c m h = absurd (no_candidate c m h)
+
+pub returns-then-not-is_time-clause-value : goal.returns-then-not-is_time-clause-value
+returns-then-not-is_time-clause-value c =
     sym (named-none c.args.form c.args.fields.now c.args.received (no_candidate c))
 
 pub returns-clause-names : goal.returns-clause-names
