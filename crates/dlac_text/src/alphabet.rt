@@ -1,3 +1,4 @@
+//! The characters of the six-bit alphabet, and their codes.
 ghost use Rattle.std.specs.Prelude.{◌≡◌, ◌<◌, ◌≢◌, IsTrue};
 ghost use Rattle.dlac_text.specs.Alphabet.{is_in_alphabet, code_of, character_of};
 

@@ -1,3 +1,4 @@
+//! From the bytes of a payload to its reports.
 ghost use Rattle.std.specs.Prelude.{◌≡◌, IfOk, filter, [], ◌∷◌, ◌++◌};
 ghost use Rattle.dlac_text.specs.Reports.{reports_of, has_characters};
 

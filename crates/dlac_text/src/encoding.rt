@@ -1,3 +1,4 @@
+//! From a text to the bytes of its payload.
 ghost use Rattle.std.specs.Prelude.{◌≡◌, ℕ, ◌<◌, ◌↔◌, ◌^◌, length, IfOk, OnOk, MatchResult, None, Some, map, [], ◌∷◌, ◌++◌};
 ghost use Rattle.std.specs.Str.{chars};
 ghost use Rattle.dlac_text.specs.Alphabet.{IsDlac, code_of};

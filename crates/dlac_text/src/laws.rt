@@ -1,3 +1,4 @@
+//! Laws of the definitions, for the crates above: each is the contract of a function that does nothing.
 ghost use Rattle.std.specs.Prelude.{◌≡◌, ℕ, ◌+◌, ◌*◌, ◌/◌, ◌<◌, List, [], ◌∷◌, length, All, Some};
 ghost use Rattle.dlac_text.specs.Alphabet.{IsDlac};
 ghost use Rattle.dlac_text.specs.Payload.{text_payload};

@@ -1,3 +1,4 @@
+//! A report on one line, in a form that can be read back.
 ghost use Rattle.std.specs.Prelude.{◌≡◌, ◌<◌, [], ◌∷◌, ◌++◌, length, IfOk, IfSome, MatchOption, None, option_map};
 ghost use Rattle.std.specs.String.{string_bytes};
 ghost use Rattle.dlac_text.specs.Plain.{plain_character, plain_text, unplained, prefixed};

@@ -1,3 +1,4 @@
+//! Codes of six bits in bytes.
 ghost use Rattle.std.specs.Prelude.{◌≡◌, ◌<◌, [], ◌∷◌, ◌++◌, length, IfOk, All};
 ghost use Rattle.dlac_text.specs.SixBits.{packed, six_bit_groups};
 

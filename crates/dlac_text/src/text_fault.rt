@@ -1,3 +1,5 @@
+//! Why a text is refused.
+
 use thiserror::Error;
 
 /// Why a text is not sent.

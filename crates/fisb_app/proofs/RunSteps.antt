@@ -16,7 +16,7 @@ use Rattle.fisb_app.specs.Acted.{acted_of, acted_with, is_table_end, script_acte
 use Rattle.fisb_app.specs.Output.{told, heard_picture, promised_picture, picture_text, refused_text, fault_text}
 use Rattle.fisb_app.specs.Status.{reason_view}
 use Rattle.fisb_app.specs.Stands.{AreActed}
-use Rattle.fisb_app.specs.Run.{HasStoppedAt, HasTaken, HasAnswered, IsVerdict, HasRun, given_by, promised_by, acted_part, is_end, status_of, output, promised_output, ending_of, IsDecided}
+use Rattle.fisb_app.specs.Run.{HasStoppedAt, HasTaken, HasAnswered, IsVerdict, HasRun, HasPromised, given_by, promised_by, acted_part, is_end, status_of, output, promised_output, ending_of, IsDecided}
 
 -- the two pictures agree
 abbrev pub PicturesAgree : Type 0
@@ -185,3 +185,15 @@ run-decided lb la rb ra before after fb fa ReadFault ran = decided-answered lb l
 run-decided lb la rb ra before after fb fa WriteFault ran = free lb rb ra fb fa WriteFault (λ quiet. absurd (quiet ran))
 run-decided lb la rb ra before after fb fa TooLong ran = decided-answered lb la rb ra before after fb fa TooLong ran
 run-decided lb la rb ra before after fb fa NoMemory ran = free lb rb ra fb fa NoMemory (λ quiet. refl)
+
+-- what a run wrote is what its lines promise
+pub run-promised : (left_before left_after : Option (List ℕ)) (reads_before reads_after : ℕ) (before after : Option (List ℕ)) (faults_before faults_after : ℕ) (status : Status)
+    → HasRun left_before left_after reads_before reads_after before after faults_before faults_after status
+    → HasPromised left_before left_after reads_before reads_after before after faults_before faults_after status
+run-promised lb la rb ra before after fb fa Done (taken, ending, have) = (taken, ending, have.consumed, have.ended, have.promised)
+run-promised lb la rb ra before after fb fa Usage ran = absurd ran
+run-promised lb la rb ra before after fb fa (Refused line why) (taken, ending, have) = (taken, ending, have.consumed, have.ended, have.promised)
+run-promised lb la rb ra before after fb fa ReadFault (taken, ending, have) = (taken, ending, have.consumed, have.ended, have.promised)
+run-promised lb la rb ra before after fb fa WriteFault ran = ran
+run-promised lb la rb ra before after fb fa TooLong (taken, ending, have) = (taken, ending, have.consumed, have.ended, have.promised)
+run-promised lb la rb ra before after fb fa NoMemory ran = ran

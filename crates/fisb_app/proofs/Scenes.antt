@@ -1,15 +1,20 @@
 -- Small scenes, computed by the definitions alone: they show what the definitions say where several updates, frames and
 -- segments meet, which is more than the lines that are built can give.
-use Rattle.std.proofs.Common.{◌≡◌, ℕ, List, [], ◌∷◌, ◌++◌, map, Some, None, Ok, Err, refl, codes, replicate}
+use Rattle.std.proofs.Common.{◌≡◌, ℕ, true, false, List, [], ◌∷◌, ◌++◌, map, Some, None, Ok, Err, refl, codes, replicate}
 use Rattle.std.specs.Fmt.{digits}
+use Rattle.std.specs.Str.{is_utf8, chars}
+use Rattle.std.specs.Char.{encode_utf8}
 use Rattle.dlac_text.specs.Payload.{text_payload}
 use Rattle.fisb_time.specs.declared.form.TimeForm.TheVariants.{Minute, DayMinute}
-use Rattle.fisb_app.specs.Script.{Line, text, turn, hear}
+use Rattle.fisb_app.specs.Script.{Line, text, turn, hear, show, not_built, syntax, clock, line_long}
 use Rattle.fisb_app.specs.LifeTable.{default_table}
 use Rattle.fisb_app.specs.TextKey.{text_key, few_words, unlisted}
 use Rattle.fisb_app.specs.Ground.{Frame, used}
 use Rattle.fisb_app.specs.UplinkFrame.{information_frames, payload_of}
 use Rattle.fisb_app.specs.Apdu.{apdu_of, short, flagged, bad_segment}
+use Rattle.fisb_app.specs.Reading.{reading}
+use Rattle.fisb_app.specs.Acted.{first_fault, acted_lines}
+use Rattle.fisb_app.specs.Run.{promised_output}
 use Rattle.fisb_app.specs.Output.{sent_frames, promised_picture, picture_text, payload_in}
 
 -- a report of 273 characters, of which two fill a frame
@@ -134,3 +139,52 @@ key-pirep_short = refl
 pub key-notam : text_key default_table (codes "NOTAM KSEA") ≡ Err unlisted
 unfolding default_table text_key
 key-notam = refl
+
+-- scripts, from their bytes: the lines acted on, what they give, and the first fault
+abbrev one_metar : List Line
+one_metar = hear 1700000002 0 ∷ turn 1700000001 0 ∷ text 1700000000 1699999980 (codes "METAR KSEA") ∷ []
+
+pub acted-one_metar : acted_lines true (codes "---\ntext 1700000000 1699999980 METAR KSEA\nturn 1700000001 0\nhear 1700000002 0\nshow 1700000003\n") ≡ show 1700000003 ∷ one_metar
+unfolding default_table text_key acted_lines reading is_utf8 chars encode_utf8
+acted-one_metar = refl
+
+pub picture-one_metar : picture_text 1700000003 (promised_picture default_table one_metar 1700000003) ≡ codes "picture 1700000003 1\ntext METAR KSEA 1699999980 METAR KSEA\n"
+unfolding default_table text_payload text_key digits
+picture-one_metar = refl
+
+pub picture-last_second : picture_text 1700007179 (promised_picture default_table one_metar 1700007179) ≡ codes "picture 1700007179 1\ntext METAR KSEA 1699999980 METAR KSEA\n"
+unfolding default_table text_payload text_key digits
+picture-last_second = refl
+
+pub picture-ended : picture_text 1700007180 (promised_picture default_table one_metar 1700007180) ≡ codes "picture 1700007180 0\n"
+unfolding default_table text_payload text_key digits
+picture-ended = refl
+
+pub output-one_turn : promised_output true (codes "---\ntext 1700000000 1699999980 METAR KSEA\nturn 1700000001 0") ≡ codes "sent 0 1700000001 0 1 15\n"
+unfolding default_table text_payload text_key digits first_fault acted_lines reading is_utf8 chars encode_utf8
+output-one_turn = refl
+
+pub output-empty_frame : promised_output true (codes "---\nturn 1700000001 31\nhear 1700000002 0\nshow 1700000003\n")
+    ≡ codes "sent 0 1700000001 31 0 0\nheard 1700000002 31 0 0 0 0 0 0 0\npicture 1700000003 0\n"
+unfolding default_table text_payload text_key digits payload_of first_fault acted_lines reading information_frames is_utf8 chars encode_utf8
+output-empty_frame = refl
+
+pub output-refused : promised_output true (codes "---\ntext 1700000000 1699999980 METAR KSEA\nturn 1699999999 0\nshow 1700000003\n") ≡ codes "refused 3 clock 1700000000\n"
+unfolding default_table text_payload text_key digits payload_of first_fault acted_lines reading information_frames is_utf8 chars encode_utf8
+output-refused = refl
+
+pub fault-syntax : first_fault true (codes "---\nturn 01700000001 0\n") ≡ Some (record { line = 2; reason = syntax })
+unfolding first_fault reading is_utf8 chars encode_utf8
+fault-syntax = refl
+
+pub fault-not_built : first_fault true (codes "---\n\ntext 1700000000 1699999980 TAF KSEA\nturn\n") ≡ Some (record { line = 3; reason = not_built })
+unfolding first_fault reading is_utf8 chars encode_utf8
+fault-not_built = refl
+
+pub fault-line_long : first_fault false (codes "---\n" ++ replicate 32769 65) ≡ Some (record { line = 2; reason = line_long })
+unfolding first_fault reading is_utf8 chars encode_utf8
+fault-line_long = refl
+
+pub fault-no_line : first_fault true [] ≡ Some (record { line = 1; reason = not_built })
+unfolding first_fault reading is_utf8 chars encode_utf8
+fault-no_line = refl

@@ -137,7 +137,7 @@ entry_by_key table version text (Ok key) = entry_by_row key version text (text_r
 abbrev pub report_entries : LifeTable → ℕ → List ℕ → List Entry
 report_entries table version text = entry_by_key table version text (text_key table text)
 
--- what a whole payload says: of product 413 the reports that have a key
+-- what a whole payload says: of product 413 the reports that have a key. Radar, products 63 and 64, is not defined yet.
 abbrev pub whole_entries : LifeTable → Whole → List Entry
 whole_entries table whole = if whole.product == 413 then flat_map (report_entries table whole.version) (reports_of whole.payload) else []
 

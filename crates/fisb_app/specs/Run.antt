@@ -115,6 +115,14 @@ abbrev pub HasRun : Option (List ℕ) → Option (List ℕ) → ℕ → ℕ → 
 HasRun left_before left_after reads_before reads_after before after faults_before faults_after status =
     IsAnswer (HasAnswered left_before left_after reads_before reads_after before after status) (Rose faults_before faults_after) status
 
+-- the headline: what a run wrote is, byte for byte, the output of the bytes taken, each picture in it the one that updates, fills and
+-- hearings alone promise
+abbrev pub HasPromised : Option (List ℕ) → Option (List ℕ) → ℕ → ℕ → Option (List ℕ) → Option (List ℕ) → ℕ → ℕ → Status → Type 0
+HasPromised left_before left_after reads_before reads_after before after faults_before faults_after status = IsAnswer
+    ((taken : List ℕ) × (ending : Ending) × Consumes left_before left_after taken × HasEnded left_after reads_before reads_after taken ending
+    × Appends before after (promised_output (is_end ending) (acted_part taken)))
+    (Rose faults_before faults_after) status
+
 -- how the reading of an input ends where no read fails
 abbrev pub ending_of : List ℕ → Ending
 ending_of input = if nat_le (length input) input_limit then End else Full

@@ -1,4 +1,4 @@
-//! What a frame's payload brings, from its bytes alone.
+//! What the payload of a frame that this ground sent brings, from its bytes alone.
 ghost use Rattle.std.specs.Prelude.{◌≡◌, ◌+◌, ◌<◌, ◌≤◌, ℕ, List, [], ◌∷◌, length, None, Some, IfOk, IsTrue};
 ghost use Rattle.dlac_text.specs.Payload.{text_payload};
 ghost use Rattle.fisb_app.specs.UplinkFrame.{payload_of};

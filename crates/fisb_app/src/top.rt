@@ -3,7 +3,7 @@ ghost use Rattle.std.specs.Prelude.{◌≡◌, ◌↔◌, ◌≤◌, None, Some,
 ghost use Rattle.fisb_wire.specs.Faults.{Rose};
 ghost use Rattle.fisb_app.specs.Command.{command_named, IsUnbuilt};
 ghost use Rattle.fisb_app.specs.declared.command.Command.{Command};
-ghost use Rattle.fisb_app.specs.Run.{HasRun, IsDecided, HasRefused, acted_part, is_end, status_of};
+ghost use Rattle.fisb_app.specs.Run.{HasRun, HasPromised, IsDecided, HasRefused, acted_part, is_end, status_of};
 ghost use Rattle.fisb_app.specs.Script.{unbuilt};
 
 use crate::command::{Command, command_of};
@@ -29,6 +29,9 @@ pub fn run<S: Source, K: Sink>(
     // `link`: what it took, wrote and answered.
     ensures link { command_named (map string_bytes words.now) ≡ Some Command.Link
         → HasRun (S.left source.old) (S.left source.new) (S.faults source.old) (S.faults source.new)
+        (K.written sink.old) (K.written sink.new) (K.faults sink.old) (K.faults sink.new) result }
+    ensures headline { command_named (map string_bytes words.now) ≡ Some Command.Link
+        → HasPromised (S.left source.old) (S.left source.new) (S.faults source.old) (S.faults source.new)
         (K.written sink.old) (K.written sink.new) (K.faults sink.old) (K.faults sink.new) result }
     ensures decided { command_named (map string_bytes words.now) ≡ Some Command.Link
         → IsDecided (S.left source.old) (S.faults source.old) (S.faults source.new) (K.faults sink.old) (K.faults sink.new) result }
@@ -60,6 +63,8 @@ pub fn run<S: Source, K: Sink>(
 pub fn run_link<S: Source, K: Sink>(alloc: Global, source: &mut S, sink: &mut K) -> Status
     requires { K.spare sink.old ≡ None }
     ensures ran { HasRun (S.left source.old) (S.left source.new) (S.faults source.old) (S.faults source.new)
+        (K.written sink.old) (K.written sink.new) (K.faults sink.old) (K.faults sink.new) result }
+    ensures headline { HasPromised (S.left source.old) (S.left source.new) (S.faults source.old) (S.faults source.new)
         (K.written sink.old) (K.written sink.new) (K.faults sink.old) (K.faults sink.new) result }
     ensures decided { IsDecided (S.left source.old) (S.faults source.old) (S.faults source.new) (K.faults sink.old) (K.faults sink.new) result }
     ensures spare { K.spare sink.new ≡ None }

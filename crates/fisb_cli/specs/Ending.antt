@@ -19,6 +19,10 @@ words_of arguments = drop 1 arguments
 abbrev pub IsLinkAlone : List (List ℕ) → Type 0
 IsLinkAlone words = words ≡ codes "link" ∷ []
 
+-- the words are the one word `gdl`
+abbrev pub IsGdlAlone : List (List ℕ) → Type 0
+IsGdlAlone words = words ≡ codes "gdl" ∷ []
+
 -- the program ends with the number of a status of which this holds
 abbrev pub EndsAs : ℕ → (Status → Type 0) → Type 0
 EndsAs number Holds = (status : Status) × (number ≡ code_of status) × Holds status

@@ -4,10 +4,9 @@ use crate::Status;
 use crate::tests::{check_link, letters};
 use std::test::Fail;
 
+/// A run that always answered `NoMemory` would not pass: no contract can say that memory is found.
 #[test]
-fn with_ample_memory_a_report_goes_over_the_link_into_the_picture(
-    rt: HostRuntime,
-) -> Result<(), Fail> {
+fn always_no_memory(rt: HostRuntime) -> Result<(), Fail> {
     let script = "---\n\
         text 1700000000 1699999980 METAR KSEA\n\
         turn 1700000001 0\n\

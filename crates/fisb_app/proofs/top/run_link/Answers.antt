@@ -1,6 +1,6 @@
 use Rattle.std.proofs.Common.{ap, ◌∙◌}
 use Rattle.fisb_app.specs.Run.{acted_part}
-use Rattle.fisb_app.proofs.RunSteps.{run-done, run-stopped, run-decided}
+use Rattle.fisb_app.proofs.RunSteps.{run-done, run-stopped, run-promised, run-decided}
 use Rattle.fisb_app.proofs.top.run_link.Goals as goal
 
 pub returns-in-Ok-act_on_script-clause-ran : goal.returns-in-Ok-act_on_script-clause-ran
@@ -15,6 +15,12 @@ returns-clause-ran g c =
     run-stopped c.pictures_agree.ensures _ _ _ _ _ _ _ _ c.in-Ok.input.bytes.items c.in-Ok.input.ending c.in-Err.status c.in-Ok.ensures.consumed c.in-Ok.ensures.ended
     _ _ c.is_end.ensures (c.acted_part-text.ensures ∙ ap acted_part c.as_slice.ensures.value)
     c.in-Err.ensures.script
+
+pub returns-in-Ok-act_on_script-clause-headline : goal.returns-in-Ok-act_on_script-clause-headline
+returns-in-Ok-act_on_script-clause-headline g c = run-promised _ _ _ _ _ _ _ _ _ (returns-in-Ok-act_on_script-clause-ran g c)
+
+pub returns-clause-headline : goal.returns-clause-headline
+returns-clause-headline g c = run-promised _ _ _ _ _ _ _ _ _ (returns-clause-ran g c)
 
 pub returns-in-Ok-act_on_script-clause-decided : goal.returns-in-Ok-act_on_script-clause-decided
 returns-in-Ok-act_on_script-clause-decided g c = run-decided _ _ _ _ _ _ _ _ _ (returns-in-Ok-act_on_script-clause-ran g c)
