@@ -1,0 +1,278 @@
+-- What the steps of the generator, of the rows and of the parity do to power sums.
+use Rattle.std.proofs.Common.{◌≡◌, ℕ, zero, suc, ◌+◌, ◌*◌, ◌/◌, ◌%◌, ◌^◌, ◌<◌, ◌≤◌, List, [], ◌∷◌, ◌++◌, length, get_or, set, take, replicate, lit<, refl, sym, ◌∙◌, ap, ap₂, subst, arith, inl, inr, append_assoc, length-append}
+use Rattle.std.specs.Int.Bits.{bit_xor, xor_zero_r, xor_shifted}
+use Rattle.std.proofs.lemmas.Bool.{cases_lt, cases_eq}
+use Rattle.std.proofs.lemmas.List.{get_or-set_same, get_or-set_other, length-take-le, get_or-replicate, length-replicate}
+use Rattle.std.proofs.lemmas.Nat.{xor_comm, shl_below}
+use Rattle.gf256_core.specs.Field.{IsField}
+use Rattle.poly256.specs.Polynomial.{element_product, element_power, scaled}
+use Rattle.rs_code.specs.CodeWord.{power_sum}
+use Rattle.rs_code.specs.Rows.{IsRow, AreRowsAt}
+use Rattle.rs_code.proofs.Xors.{xor-cancel, product-zero_right}
+use Rattle.rs_code.proofs.Distance.{difference, length-difference, get_or-difference}
+use Rattle.rs_code.proofs.Places.{get_or-push_zero, get_or-front, get_or-zeros}
+use Rattle.rs_code.proofs.PowerSums.{power_sum-empty, power_sum-cons_zero, power_sum-zeros, power_sum-sum, power_sum-multiple, power_sum-append}
+
+-- a word with 0 behind it
+pub power_sum-push_zero :
+    (F : IsField 391) (ws : List ℕ) (j : ℕ)
+    → power_sum (ws ++ 0 ∷ []) j ≡ element_product (element_power 2 j) (power_sum ws j)
+power_sum-push_zero F ws j =
+    power_sum-append F ws (0 ∷ []) j
+    ∙ ap₂ bit_xor
+    (ap (λ (n : ℕ). element_product (element_power 2 n) (power_sum ws j)) (let e : j * 1 ≡ j = omega arith in e))
+    (power_sum-cons_zero F [] j ∙ power_sum-empty j)
+    ∙ xor_zero_r (element_product (element_power 2 j) (power_sum ws j))
+
+length-scaled : (a : ℕ) (ws : List ℕ) → length (scaled a ws) ≡ length ws
+unfolding scaled
+length-scaled a [] = refl
+length-scaled a (w ∷ ws) = ap suc (length-scaled a ws)
+
+get_or-scaled :
+    (F : IsField 391) (a : ℕ) (ws : List ℕ) (k : ℕ) → get_or (scaled a ws) k 0 ≡ element_product a (get_or ws k 0)
+unfolding scaled
+get_or-scaled F a [] k = sym (product-zero_right F a)
+get_or-scaled F a (w ∷ ws) zero = refl
+get_or-scaled F a (w ∷ ws) (suc k) = get_or-scaled F a ws k
+
+behind_first :
+    (F : IsField 391) (a : ℕ) (ws : List ℕ) (k : ℕ)
+    → get_or (0 ∷ scaled a ws) k 0 ≡ element_product a (get_or (0 ∷ ws) k 0)
+behind_first F a ws zero = sym (product-zero_right F a)
+behind_first F a ws (suc k) = get_or-scaled F a ws k
+
+-- a word times x + a
+pub power_sum-root :
+    (F : IsField 391) (a : ℕ) (ws vs : List ℕ) (j : ℕ) → length vs ≡ suc (length ws)
+    → ((k : ℕ) → get_or vs k 0 ≡ bit_xor (get_or ws k 0) (element_product a (get_or (0 ∷ ws) k 0)))
+    → power_sum vs j ≡ element_product (bit_xor (element_power 2 j) a) (power_sum ws j)
+power_sum-root F a ws vs j l e =
+    let long : length (ws ++ 0 ∷ []) ≡ length vs = let p = length-append ws (0 ∷ []) in omega arith in
+    let long' : length (0 ∷ scaled a ws) ≡ length vs = let p = length-scaled a ws in omega arith in
+    let behind : (k : ℕ) → get_or (0 ∷ scaled a ws) k 0 ≡ element_product a (get_or (0 ∷ ws) k 0) = behind_first F a ws in
+    power_sum-sum F vs (ws ++ 0 ∷ []) (0 ∷ scaled a ws) long long'
+    (λ k. e k ∙ sym (ap₂ bit_xor (get_or-push_zero ws k) (behind k))) j
+    ∙ ap₂ bit_xor (power_sum-push_zero F ws j)
+    (power_sum-cons_zero F (scaled a ws) j
+    ∙ power_sum-multiple F a (scaled a ws) ws (sym (length-scaled a ws)) (get_or-scaled F a ws) j)
+    ∙ sym (F.distributive (element_power 2 j) a (power_sum ws j))
+
+-- the coefficients of a polynomial of degree d, in a longer list, times x + a
+pub record TakesRoot (a degree : ℕ) (old new : List ℕ) : Type 0 where
+  pub room : degree < length old
+  pub long : length new ≡ length old
+  pub written :
+      (k : ℕ) → k ≤ degree → get_or new k 0 ≡ bit_xor (get_or old k 0) (element_product a (get_or (1 ∷ old) k 0))
+  pub kept : (k : ℕ) → degree < k → get_or new k 0 ≡ get_or old k 0
+  pub zeros : (k : ℕ) → degree ≤ k → get_or old k 0 ≡ 0
+
+written_all :
+    (F : IsField 391) (a degree : ℕ) (old new : List ℕ) → TakesRoot a degree old new → (k : ℕ)
+    → get_or new k 0 ≡ bit_xor (get_or old k 0) (element_product a (get_or (1 ∷ old) k 0))
+written_all F a degree old new t zero = t.written 0 (omega arith)
+written_all F a degree old new t (suc k) = elim (cases_lt degree (suc k)) [
+  | inl behind ↦
+      t.kept (suc k) behind
+      ∙ sym (ap (bit_xor (get_or old (suc k) 0)) (ap (element_product a) (t.zeros k (omega arith)) ∙ product-zero_right F a)
+      ∙ xor_zero_r (get_or old (suc k) 0))
+  | inr inside ↦ t.written (suc k) inside
+]
+
+pub zeros-root :
+    (F : IsField 391) (a degree : ℕ) (old new : List ℕ) → TakesRoot a degree old new → (k : ℕ) → degree + 1 ≤ k
+    → get_or new k 0 ≡ 0
+zeros-root F a degree old new t zero h = absurd (omega arith)
+zeros-root F a degree old new t (suc k) h =
+    written_all F a degree old new t (suc k)
+    ∙ ap₂ bit_xor (t.zeros (suc k) (omega arith))
+    (ap (element_product a) (t.zeros k (omega arith)) ∙ product-zero_right F a)
+    ∙ xor_zero_r 0
+
+front_places :
+    (degree : ℕ) (old : List ℕ) → degree ≤ length old → ((k : ℕ) → degree ≤ k → get_or old k 0 ≡ 0) → (k : ℕ)
+    → get_or (1 ∷ take degree old) k 0 ≡ get_or (1 ∷ old) k 0
+front_places degree old h zeros zero = refl
+front_places degree old h zeros (suc k) = get_or-front degree old h zeros k
+
+word_places :
+    (F : IsField 391) (a degree : ℕ) (old new : List ℕ) → TakesRoot a degree old new → (k : ℕ)
+    → get_or (1 ∷ take (degree + 1) new) k 0
+    ≡ bit_xor (get_or (1 ∷ take degree old) k 0) (element_product a (get_or (0 ∷ 1 ∷ take degree old) k 0))
+word_places F a degree old new t zero = sym (ap (bit_xor 1) (product-zero_right F a) ∙ xor_zero_r 1)
+word_places F a degree old new t (suc k) =
+    let room = t.room in
+    get_or-front (degree + 1) new (let l = t.long in omega arith) (zeros-root F a degree old new t) k
+    ∙ written_all F a degree old new t k
+    ∙ sym (ap₂ bit_xor (get_or-front degree old (omega arith) t.zeros k)
+    (ap (element_product a) (front_places degree old (omega arith) t.zeros k)))
+
+pub power_sum-takes_root :
+    (F : IsField 391) (a degree : ℕ) (old new : List ℕ) → TakesRoot a degree old new → (j : ℕ)
+    → power_sum (1 ∷ take (degree + 1) new) j
+    ≡ element_product (bit_xor (element_power 2 j) a) (power_sum (1 ∷ take degree old) j)
+power_sum-takes_root F a degree old new t j =
+    let room = t.room in
+    let l : length (take (degree + 1) new) ≡ degree + 1 = length-take-le (degree + 1) new (let l = t.long in omega arith) in
+    let l' : length (take degree old) ≡ degree = length-take-le degree old (omega arith) in
+    power_sum-root F a (1 ∷ take degree old) (1 ∷ take (degree + 1) new) j (omega arith) (word_places F a degree old new t)
+
+multiple_places :
+    (F : IsField 391) (byte : ℕ) (row product : List ℕ) → byte < 256
+    → ((k : ℕ) → get_or product k 0 ≡ element_product byte (get_or row k 0)) → (k : ℕ)
+    → get_or (byte ∷ product) k 0 ≡ element_product byte (get_or (1 ∷ row) k 0)
+multiple_places F byte row product h e zero = sym (F.product_comm byte 1 ∙ F.product_one byte h)
+multiple_places F byte row product h e (suc k) = e k
+
+-- a row times an element is a row
+pub IsRow-multiple :
+    (F : IsField 391) (roots j byte : ℕ) (row product : List ℕ) → byte < 256 → length row ≡ roots → length product ≡ roots
+    → ((k : ℕ) → get_or product k 0 ≡ element_product byte (get_or row k 0)) → power_sum (1 ∷ row) j ≡ 0
+    → IsRow roots j byte product
+IsRow-multiple F roots j byte row product h l l' e zero_sum = record {
+  long = l';
+  zero =
+      power_sum-multiple F byte (byte ∷ product) (1 ∷ row) (let m : suc (length row) ≡ suc (length product) = omega arith in m)
+      (multiple_places F byte row product h e) j
+      ∙ ap (element_product byte) zero_sum
+      ∙ product-zero_right F byte;
+}
+
+sum_places :
+    (byte other both : ℕ) (row behind sum : List ℕ) → both ≡ bit_xor byte other
+    → ((k : ℕ) → get_or sum k 0 ≡ bit_xor (get_or row k 0) (get_or behind k 0)) → (k : ℕ)
+    → get_or (both ∷ sum) k 0 ≡ bit_xor (get_or (byte ∷ row) k 0) (get_or (other ∷ behind) k 0)
+sum_places byte other both row behind sum e places zero = e
+sum_places byte other both row behind sum e places (suc k) = places k
+
+-- the sum of two rows is a row
+pub IsRow-sum :
+    (F : IsField 391) (roots j byte other both : ℕ) (row behind sum : List ℕ) → both ≡ bit_xor byte other
+    → length sum ≡ roots → ((k : ℕ) → get_or sum k 0 ≡ bit_xor (get_or row k 0) (get_or behind k 0))
+    → IsRow roots j byte row → IsRow roots j other behind → IsRow roots j both sum
+IsRow-sum F roots j byte other both row behind sum e l places r r' = record {
+  long = l;
+  zero =
+      power_sum-sum F (both ∷ sum) (byte ∷ row) (other ∷ behind)
+      (let m = r.long in let n : suc (length row) ≡ suc (length sum) = omega arith in n)
+      (let m = r'.long in let n : suc (length behind) ≡ suc (length sum) = omega arith in n)
+      (sum_places byte other both row behind sum e places) j
+      ∙ ap₂ bit_xor r.zero r'.zero
+      ∙ xor_zero_r 0;
+}
+
+pow_sum : (a b : ℕ) → 2 ^ (a + b) ≡ 2 ^ a * 2 ^ b
+pow_sum a zero =
+    ap (λ (k : ℕ). 2 ^ k) (let e : a + 0 ≡ a = omega arith in e)
+    ∙ (let e : 2 ^ a ≡ 2 ^ a * 2 ^ 0 = omega arith in e)
+pow_sum a (suc b) =
+    ap (λ (k : ℕ). 2 ^ k) (let e : a + suc b ≡ suc (a + b) = omega arith in e)
+    ∙ (let e : 2 ^ suc (a + b) ≡ 2 * 2 ^ (a + b) = omega arith in e)
+    ∙ ap (λ (n : ℕ). 2 * n) (pow_sum a b)
+    ∙ (let e : 2 * (2 ^ a * 2 ^ b) ≡ 2 ^ a * (2 * 2 ^ b) = omega arith in e)
+    ∙ ap (λ (n : ℕ). 2 ^ a * n) (let e : 2 * 2 ^ b ≡ 2 ^ suc b = omega arith in e)
+
+pow_one_more : (n : ℕ) → 2 ^ (n + 1) ≡ 2 * 2 ^ n
+pow_one_more n =
+    ap (λ (k : ℕ). 2 ^ k) (let e : n + 1 ≡ suc n = omega arith in e)
+    ∙ (let e : 2 ^ suc n ≡ 2 * 2 ^ n = omega arith in e)
+
+-- one more row, from the first of its half and the one as far into the rows as it is into the half
+pub AreRowsAt-more :
+    (F : IsField 391) (roots j bit place low : ℕ) (rows : List (List ℕ)) (row sum : List ℕ) → low < 2 ^ bit
+    → 2 ^ bit + low < length rows → length sum ≡ roots
+    → ((k : ℕ) → get_or sum k 0 ≡ bit_xor (get_or row k 0) (get_or (get_or rows low []) k 0))
+    → IsRow roots j (2 ^ (bit + place)) row → AreRowsAt roots j place (2 ^ bit + low) rows
+    → AreRowsAt roots j place (2 ^ bit + (low + 1)) (set rows (2 ^ bit + low) sum)
+AreRowsAt-more F roots j bit place low rows row sum h room l places first before digit h' = elim (cases_eq digit (2 ^ bit + low)) [
+  | inl same ↦
+      let fits : low * 2 ^ place < 2 ^ (bit + place) = shl_below low bit place h in
+      let power : 2 ^ (bit + place) ≡ 2 ^ bit * 2 ^ place = pow_sum bit place in
+      let both : (2 ^ bit + low) * 2 ^ place ≡ bit_xor (2 ^ (bit + place)) (low * 2 ^ place) =
+      sym (ap (λ (n : ℕ). bit_xor n (low * 2 ^ place)) (let e : 2 ^ (bit + place) ≡ 1 * 2 ^ (bit + place) = omega arith in e)
+      ∙ xor_shifted 1 (bit + place) (low * 2 ^ place) fits
+      ∙ (let e : 1 * 2 ^ (bit + place) + low * 2 ^ place ≡ 2 ^ bit * 2 ^ place + low * 2 ^ place = omega arith in e)
+      ∙ (let e : 2 ^ bit * 2 ^ place + low * 2 ^ place ≡ (2 ^ bit + low) * 2 ^ place = omega arith in e)) in
+      let here : IsRow roots j ((2 ^ bit + low) * 2 ^ place) sum =
+      IsRow-sum F roots j (2 ^ (bit + place)) (low * 2 ^ place) ((2 ^ bit + low) * 2 ^ place) row (get_or rows low []) sum both l places first
+      (before low (omega arith)) in
+      subst (λ (n : ℕ). IsRow roots j (n * 2 ^ place) (get_or (set rows (2 ^ bit + low) sum) n [])) (sym same)
+      (subst (λ (r : List ℕ). IsRow roots j ((2 ^ bit + low) * 2 ^ place) r) (sym (get_or-set_same rows (2 ^ bit + low) sum [] room)) here)
+  | inr apart ↦
+      subst (λ (r : List ℕ). IsRow roots j (digit * 2 ^ place) r) (sym (get_or-set_other rows (2 ^ bit + low) digit sum [] apart))
+      (before digit (omega arith))
+]
+
+IsRow-zeros : (F : IsField 391) (roots j : ℕ) → IsRow roots j 0 (replicate roots 0)
+IsRow-zeros F roots j = record {
+  long = length-replicate roots 0;
+  zero = power_sum-cons_zero F (replicate roots 0) j ∙ power_sum-zeros F (replicate roots 0) (get_or-zeros roots) j;
+}
+
+-- zeros are the row of 0
+pub AreRowsAt-zeros :
+    (F : IsField 391) (roots j place : ℕ) → AreRowsAt roots j place 1 (replicate 16 (replicate roots 0))
+AreRowsAt-zeros F roots j place zero h =
+    subst (λ (r : List ℕ). IsRow roots j (0 * 2 ^ place) r) (sym (get_or-replicate 16 0 (replicate roots 0) [] (lit< tt)))
+    (subst (λ (n : ℕ). IsRow roots j n (replicate roots 0)) (let e : 0 ≡ 0 * 2 ^ place = omega arith in e) (IsRow-zeros F roots j))
+AreRowsAt-zeros F roots j place (suc digit) h = absurd (omega arith)
+
+-- twice as many rows as a power of 2
+pub AreRowsAt-doubled :
+    (roots j bit place low : ℕ) (rows : List (List ℕ)) → 2 ^ bit ≤ low → AreRowsAt roots j place (2 ^ bit + low) rows
+    → AreRowsAt roots j place (2 ^ (bit + 1)) rows
+AreRowsAt-doubled roots j bit place low rows h made digit h' =
+    let twice : 2 ^ (bit + 1) ≡ 2 * 2 ^ bit = pow_one_more bit in
+    made digit (omega arith)
+
+-- the row of a byte, from those of its high and its low four bits
+pub IsRow-byte :
+    (F : IsField 391) (roots j byte : ℕ) (low high : List (List ℕ)) → byte < 256 → AreRowsAt roots j 0 16 low
+    → AreRowsAt roots j 4 16 high
+    → IsRow roots j byte (difference (get_or high (byte / 16) []) (get_or low (byte % 16) []))
+IsRow-byte F roots j byte low high h low_rows high_rows =
+    let above : IsRow roots j (byte / 16 * 16) (get_or high (byte / 16) []) = high_rows (byte / 16) (omega arith) in
+    let below : IsRow roots j (byte % 16) (get_or low (byte % 16) []) =
+    subst (λ (n : ℕ). IsRow roots j n (get_or low (byte % 16) [])) (let e : byte % 16 * 1 ≡ byte % 16 = omega arith in e)
+    (low_rows (byte % 16) (omega arith)) in
+    let both : byte ≡ bit_xor (byte / 16 * 16) (byte % 16) =
+    (let e : byte ≡ byte / 16 * 16 + byte % 16 = omega arith in e) ∙ sym (xor_shifted (byte / 16) 4 (byte % 16) (omega arith)) in
+    let same : length (get_or high (byte / 16) []) ≡ length (get_or low (byte % 16) []) = above.long ∙ sym below.long in
+    IsRow-sum F roots j (byte / 16 * 16) (byte % 16) byte (get_or high (byte / 16) []) (get_or low (byte % 16) [])
+    (difference (get_or high (byte / 16) []) (get_or low (byte % 16) [])) both
+    (length-difference (get_or high (byte / 16) []) (get_or low (byte % 16) []) same ∙ above.long)
+    (get_or-difference (get_or high (byte / 16) []) (get_or low (byte % 16) []) same) above below
+
+step_places :
+    (b byte : ℕ) (rest next row : List ℕ) → byte ≡ bit_xor b (get_or rest 0 0)
+    → ((k : ℕ) → get_or next k 0 ≡ bit_xor (get_or rest (k + 1) 0) (get_or row k 0)) → (k : ℕ)
+    → get_or (b ∷ next) k 0 ≡ bit_xor (get_or (rest ++ 0 ∷ []) k 0) (get_or (byte ∷ row) k 0)
+step_places b byte rest next row e places zero =
+    sym (ap₂ bit_xor (get_or-push_zero rest 0) (e ∙ xor_comm b (get_or rest 0 0)) ∙ xor-cancel (get_or rest 0 0) b)
+step_places b byte rest next row e places (suc k) =
+    places k
+    ∙ ap (λ (n : ℕ). bit_xor n (get_or row k 0))
+    (ap (λ (n : ℕ). get_or rest n 0) (let m : k + 1 ≡ suc k = omega arith in m) ∙ sym (get_or-push_zero rest (suc k)))
+
+-- one more byte of a message
+pub power_sum-step :
+    (F : IsField 391) (roots j b byte : ℕ) (front rest next row : List ℕ) → length rest ≡ roots → length next ≡ roots
+    → byte ≡ bit_xor b (get_or rest 0 0)
+    → ((k : ℕ) → get_or next k 0 ≡ bit_xor (get_or rest (k + 1) 0) (get_or row k 0)) → IsRow roots j byte row
+    → power_sum (front ++ rest) j ≡ 0 → power_sum ((front ++ b ∷ []) ++ next) j ≡ 0
+power_sum-step F roots j b byte front rest next row l l' e places r zero_sum =
+    let long : length (rest ++ 0 ∷ []) ≡ length (b ∷ next) = let p = length-append rest (0 ∷ []) in omega arith in
+    let long' : length (byte ∷ row) ≡ length (b ∷ next) = let p = r.long in omega arith in
+    let behind : power_sum (b ∷ next) j ≡ power_sum (rest ++ 0 ∷ []) j =
+    power_sum-sum F (b ∷ next) (rest ++ 0 ∷ []) (byte ∷ row) long long' (step_places b byte rest next row e places) j
+    ∙ ap (bit_xor (power_sum (rest ++ 0 ∷ []) j)) r.zero
+    ∙ xor_zero_r (power_sum (rest ++ 0 ∷ []) j) in
+    ap (λ (w : List ℕ). power_sum w j) (append_assoc front (b ∷ []) next)
+    ∙ power_sum-append F front (b ∷ next) j
+    ∙ ap₂ bit_xor
+    (ap (λ (n : ℕ). element_product (element_power 2 (j * n)) (power_sum front j)) (sym long)) behind
+    ∙ sym (power_sum-append F front (rest ++ 0 ∷ []) j)
+    ∙ ap (λ (w : List ℕ). power_sum w j) (sym (append_assoc front rest (0 ∷ [])))
+    ∙ power_sum-push_zero F (front ++ rest) j
+    ∙ ap (element_product (element_power 2 j)) zero_sum
+    ∙ product-zero_right F (element_power 2 j)

@@ -1,0 +1,28 @@
+use Rattle.std.proofs.Common.{ℕ, List, Bool, arith, sym, subst, refl, IsTrue}
+use Rattle.rs_code.specs.CodeWord.{IsCodeWord}
+use Rattle.rs_code.proofs.Words.{differences-same, same_from_no_differences}
+use Rattle.rs_code.proofs.code.Rs.correct.Goals as goal
+
+pub returns-then-is_codeword-clause-corrected : goal.returns-then-is_codeword-clause-corrected
+returns-then-is_codeword-clause-corrected g c =
+    let none = differences-same c.args.word.now in (
+      record {
+        code = c.is_codeword.ensures.0 c.if-is_codeword.true;
+        near = omega arith;
+      },
+      sym (differences-same c.args.word.now),
+    )
+
+pub returns-then-is_codeword-clause-exactly : goal.returns-then-is_codeword-clause-exactly
+returns-then-is_codeword-clause-exactly g c =
+    (λ yes. (c.args.word.now, (returns-then-is_codeword-clause-corrected g c).0), λ some. refl)
+
+pub returns-else-is_codeword-clause-exactly : goal.returns-else-is_codeword-clause-exactly
+returns-else-is_codeword-clause-exactly g c = (
+  λ yes. cc,
+  λ some.
+      subst (λ (b : Bool). IsTrue b) c.if-is_codeword.false
+      (c.is_codeword.ensures.1
+      (subst (λ (w : List ℕ). IsCodeWord g.row.N g.row.ROOTS g.row.FIRST w)
+      (sym (same_from_no_differences c.args.word.now some.0 some.1.near)) some.1.code)),
+)

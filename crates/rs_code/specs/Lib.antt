@@ -1,0 +1,3 @@
+pub mod CodeWord
+pub mod Laws
+pub mod Rows

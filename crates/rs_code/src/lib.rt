@@ -1,0 +1,12 @@
+//! Reed-Solomon code words over the field of the uplink's code.
+#![tactic(auto)]
+
+mod code;
+mod generator;
+mod laws;
+mod rows;
+#[cfg(test)]
+mod tests;
+
+pub use code::{Rs, Uncorrectable, UplinkCode};
+pub use laws::{minimum_distance, one_nearest};
