@@ -1,0 +1,56 @@
+//! Weaves a number of frames, which the first argument names, unweaves each of them as often as the second argument
+//! names, and prints a checksum. With no arguments these are two frames, each unwoven once. Each frame's payload has
+//! a byte of the frame before it, so that no frame can be left out.
+#![tactic(auto)]
+
+ghost use Rattle.std.specs.Prelude.{◌≡◌, ◌+◌, ◌*◌, ◌%◌, ◌^◌, None, fold};
+
+use std::{env, io};
+use uplink_weave::{unweave, weave};
+
+// The number that an argument names.
+fn number_in(word: Option<String>, default: u32) -> u32
+    ensures { word ≡ None → result ≡ default }
+{
+    match word {
+        Some(word) => word.as_str().parse::<u32>().unwrap_or(default),
+        None => default,
+    }
+}
+
+// A number that depends on each of these bytes.
+fn checksum(bytes: &[u8]) -> u32
+    ensures { result ≡ fold (λ sum byte. (sum * 31 % 2 ^ 32 + byte) % 2 ^ 32) 0 bytes.now }
+{
+    bytes.iter().fold(
+        0u32,
+        |sum, byte| sum.wrapping_mul(31).wrapping_add(u32::from(*byte)),
+    )
+}
+
+// The frames, and the checksum of the last one and of its payload as it came back.
+fn work(frames: u32, turns: u32) -> u32 {
+    let mut payload = [0x5a; 432];
+    let mut air = [0u8; 552];
+    let mut back = [0; 432];
+    let mut corrected = 0u32;
+    for frame in 0..frames {
+        payload[frame as usize % 432] = air[551].wrapping_add((frame % 256) as u8);
+        weave(&payload, &mut air);
+        for _ in 0..turns {
+            if let Ok(counts) = unweave(&air, &mut back) {
+                corrected = corrected.wrapping_add(checksum(&counts));
+            }
+        }
+    }
+    checksum(&air) ^ checksum(&back) ^ corrected
+}
+
+fn main(rt: HostRuntime) -> io::Result<()> {
+    let mut words = env::args(&rt)?;
+    words.next();
+    let frames = number_in(words.next(), 2);
+    let turns = number_in(words.next(), 1);
+    let sum = work(frames, turns);
+    println!(rt; "{sum}")
+}

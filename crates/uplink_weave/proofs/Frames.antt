@@ -1,0 +1,103 @@
+-- Woven frames, payloads and counts.
+use Rattle.std.proofs.Common.{◌≡◌, ℕ, ◌+◌, ◌*◌, ◌-◌, ◌/◌, ◌%◌, ◌<◌, ◌≤◌, List, length, get_or, refl, sym, ◌∙◌, ap, arith, inl, inr}
+use Rattle.std.proofs.lemmas.Bool.{cases_lt}
+use Rattle.std.proofs.lemmas.List.{ext_get_or, length-replicate, get_or-replicate}
+use Rattle.rs_code.specs.CodeWord.{IsInstance, IsNearest, differences}
+use Rattle.rs_code.specs.Laws.{HasMinimumDistance}
+use Rattle.uplink_weave.specs.Woven.{block}
+use Rattle.uplink_weave.specs.Laws.{WovenGivesPayload, NearGivesPayload, IsUnique, BurstIsSpread}
+use Rattle.uplink_weave.proofs.Differences.{differences-same, same_from_few, differences-between, differences-window}
+use Rattle.uplink_weave.proofs.Places.{length-block, get_or-block}
+
+pub near_gives_payload : NearGivesPayload
+near_gives_payload payload woven air is near = record {
+  full = is.full;
+  parts = λ r h. (block r woven, record { code = is.code r h; near = near r h }, is.parts r h);
+}
+
+pub woven_gives_payload : WovenGivesPayload
+woven_gives_payload payload air is = (
+  near_gives_payload payload air air is (λ r h. let none = differences-same (block r air) in omega arith),
+  record {
+    six = length-replicate {A = ℕ} 6 0;
+    each = λ r h.
+        let none = differences-same (block r air) in (
+          block r air,
+          record { code = is.code r h; near = omega arith },
+          get_or-replicate {A = ℕ} 6 r 0 0 h ∙ sym none,
+        );
+  },
+)
+
+uplink : IsInstance 92 20 120
+uplink = record {
+  some = omega arith;
+  even = refl;
+  below = omega arith;
+  short = omega arith;
+  high = omega arith;
+}
+
+-- one code word is near a word at most
+one_nearest :
+    (D : HasMinimumDistance) (word one other : List ℕ) → IsNearest 92 20 120 word one → IsNearest 92 20 120 word other
+    → length word ≡ 92 → one ≡ other
+one_nearest D word one other near near' long =
+    let l : length one ≡ length word = near.code.long ∙ sym long in
+    let l' : length other ≡ length word = near'.code.long ∙ sym long in
+    let few : differences one other ≤ differences word one + differences word other =
+    differences-between word one other l l' in
+    let d = near.near in
+    let d' = near'.near in
+    same_from_few 20 one other (omega arith) (λ apart. D 92 20 120 one other uplink near.code near'.code apart)
+
+pub unique : HasMinimumDistance → IsUnique
+unique D = record {
+  payload = λ air one other has has'.
+      ext_get_or 0 one other (has.full ∙ sym has'.full)
+      (λ i h.
+      let l = has.full in
+      let low : i / 72 < 6 = omega arith in
+      let inside : i % 72 < 72 = omega arith in
+      let place : 72 * (i / 72) + i % 72 ≡ i = omega arith in
+      let part = has.parts (i / 72) low in
+      let part' = has'.parts (i / 72) low in
+      ap (λ (j : ℕ). get_or one j 0) (sym place)
+      ∙ sym (part.2 (i % 72) inside)
+      ∙ ap (λ (w : List ℕ). get_or w (i % 72) 0)
+      (one_nearest D (block (i / 72) air) part.0 part'.0 part.1 part'.1 (length-block (i / 72) air))
+      ∙ part'.2 (i % 72) inside
+      ∙ ap (λ (j : ℕ). get_or other j 0) place);
+  counts = λ air one other has has'.
+      ext_get_or 0 one other (has.six ∙ sym has'.six)
+      (λ r h.
+      let l = has.six in
+      let low : r < 6 = omega arith in
+      let each = has.each r low in
+      let each' = has'.each r low in
+      each.2
+      ∙ ap (λ (w : List ℕ). differences (block r air) w)
+      (one_nearest D (block r air) each.0 each'.0 each.1 each'.1 (length-block r air))
+      ∙ sym each'.2);
+  lost = λ air one other is is'. elim (cases_lt one other) [
+    | inl lower ↦ absurd (is.lost (is'.first one lower))
+    | inr rest ↦ elim (cases_lt other one) [
+      | inl lower ↦ absurd (is'.lost (is.first other lower))
+      | inr rest' ↦ omega arith
+    ]
+  ];
+}
+
+pub burst_is_spread : BurstIsSpread
+burst_is_spread first air other long long' same r below =
+    let l = length-block r air in
+    let l' = length-block r other in
+    differences-window ((first + 5 - r) / 6) 10 (block r air) (block r other) (l ∙ sym l')
+    (λ k h outside.
+    let inside : k < 92 = omega arith in
+    get_or-block r air k inside
+    ∙ same (6 * k + r) (elim outside [
+      | inl before ↦ inl (omega arith)
+      | inr behind ↦ inr (omega arith)
+    ])
+    ∙ sym (get_or-block r other k inside))

@@ -1,0 +1,5 @@
+use Rattle.uplink_weave.proofs.Frames as Frames
+use Rattle.uplink_weave.proofs.laws.near_gives_payload.Goals as goal
+
+pub returns : goal.returns
+returns c = Frames.near_gives_payload

@@ -1,0 +1,52 @@
+ghost use Rattle.std.specs.Prelude.{◌≡◌, ◌*◌, ◌<◌, ℕ, length, slice_index};
+ghost use Rattle.uplink_weave.specs.Woven.{block, BeginsWithPart};
+
+// A block of a frame.
+#[inline]
+pub(crate) fn read_block(air: &[u8; 552], number: usize) -> [u8; 92]
+    requires { number < 6 }
+    ensures { result ≡ block number air.now }
+{
+    let mut word = [0; 92];
+    for k in 0..92 {
+        word[k] = air[6 * k + number];
+    }
+    word
+}
+
+// Puts a word in the place of a block of a frame.
+#[inline]
+pub(crate) fn write_block(word: &[u8; 92], number: usize, air: &mut [u8; 552])
+    requires { number < 6 }
+    ensures block { block number air.new ≡ word.now }
+    ensures before { (lower : ℕ) → lower < number → block lower air.new ≡ block lower air.old }
+{
+    for k in 0..92 {
+        air[6 * k + number] = word[k];
+    }
+}
+
+// A word that begins with the part of a payload that one block carries.
+#[inline]
+pub(crate) fn read_part(payload: &[u8; 432], number: usize) -> [u8; 92]
+    requires { number < 6 }
+    ensures { BeginsWithPart number payload.now result }
+{
+    let mut word = [0; 92];
+    for k in 0..72 {
+        word[k] = payload[72 * number + k];
+    }
+    word
+}
+
+// Puts the beginning of a word in the place of a part of a payload.
+#[inline]
+pub(crate) fn write_part(word: &[u8; 92], number: usize, payload: &mut [u8; 432])
+    requires { number < 6 }
+    ensures part { BeginsWithPart number payload.new word.now }
+    ensures before { (place : ℕ) → place < 72 * number → slice_index payload.new place ≡ slice_index payload.old place }
+{
+    for k in 0..72 {
+        payload[72 * number + k] = word[k];
+    }
+}

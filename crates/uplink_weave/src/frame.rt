@@ -1,0 +1,50 @@
+ghost use Rattle.std.specs.Prelude.{◌≡◌, ◌↔◌, ℕ, List, is_ok, IsTrue, IfOk, IfErr, OnOk, OnErr};
+ghost use Rattle.uplink_weave.specs.Woven.{AllCorrectable, HasCounts, HasPayload, IsLostBlock, IsWoven};
+
+use crate::blocks::{read_block, read_part, write_block, write_part};
+use rs_code::UplinkCode;
+
+/// No code word is near the block of this number, which is from 0 to 5.
+#[derive(Clone, Copy, Debug, PartialEq, Eq)]
+pub struct Lost {
+    pub block: u8,
+}
+
+/// Writes the frame that is woven of a payload.
+pub fn weave(payload: &[u8; 432], air: &mut [u8; 552])
+    ensures woven { IsWoven payload.now air.new }
+    ensures only { (other : List ℕ) → IsWoven payload.now other → other ≡ air.new }
+{
+    let code = UplinkCode::new();
+    for number in 0..6 {
+        let mut word = read_part(payload, number);
+        code.encode(&mut word);
+        write_block(&word, number, air);
+    }
+}
+
+/// Writes the payload of a frame, and gives the number of bytes that were corrected in each of its six blocks. Where a
+/// block is lost, the answer names the first such block and the payload stays as it is.
+pub fn unweave(air: &[u8; 552], payload: &mut [u8; 432]) -> Result<[u8; 6], Lost>
+    ensures exactly { IsTrue (is_ok result) ↔ AllCorrectable air.now }
+    ensures payload { OnOk result (HasPayload air.now payload.new) }
+    ensures counts { IfOk result (λ counts. HasCounts air.now counts) }
+    ensures lost { IfErr result (λ lost. IsLostBlock air.now lost.block) }
+    ensures unchanged { OnErr result (payload.new ≡ payload.old) }
+{
+    let code = UplinkCode::new();
+    let mut made = [0; 432];
+    let mut counts = [0; 6];
+    for number in 0..6 {
+        let mut word = read_block(air, number);
+        match code.correct(&mut word) {
+            Ok(changed) => counts[number] = changed,
+            Err(_) => return Err(Lost {
+                block: number as u8,
+            }),
+        }
+        write_part(&word, number, &mut made);
+    }
+    *payload = made;
+    Ok(counts)
+}

@@ -1,0 +1,11 @@
+//! Frames of the uplink on the air: a payload of 432 bytes in six code words of 92 bytes, woven byte by byte.
+#![tactic(auto)]
+
+mod blocks;
+mod frame;
+mod laws;
+#[cfg(test)]
+mod tests;
+
+pub use frame::{Lost, unweave, weave};
+pub use laws::{burst_is_spread, near_gives_payload, unique_payload, woven_gives_payload};
