@@ -1,3 +1,4 @@
+//! Codes, and what they do with words.
 ghost use Rattle.std.specs.Prelude.{◌≡◌, ◌+◌, ◌-◌, ℕ, List, take, length, is_ok, IsTrue, IfOk, OnErr, ◌↔◌};
 ghost use Rattle.rs_code.specs.CodeWord.{IsInstance, IsCodeWord, IsNearest, IsCorrectable, differences};
 ghost use Rattle.rs_code.specs.Rows.{AreRows};

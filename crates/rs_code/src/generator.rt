@@ -1,3 +1,4 @@
+//! The polynomial that is 0 at the roots of a code.
 ghost use Rattle.std.specs.Prelude.{◌≡◌, ◌+◌, ◌<◌, ◌≤◌, ℕ, ◌∷◌, length, slice_index, bit_xor};
 ghost use Rattle.poly256.specs.Polynomial.{element_product};
 ghost use Rattle.rs_code.specs.CodeWord.{power_sum};

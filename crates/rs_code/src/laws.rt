@@ -1,3 +1,4 @@
+//! Laws of the definitions, for the crates above: each is the contract of a function that does nothing.
 ghost use Rattle.rs_code.specs.Laws.{HasMinimumDistance, HasOneNearest};
 
 use gf256_core::{UatTables, field_laws};

@@ -1,3 +1,4 @@
+//! The parity of a message, by rows that are made once.
 ghost use Rattle.std.specs.Prelude.{◌≡◌, ◌+◌, ◌<◌, ◌≤◌, ◌^◌, ℕ, ◌∷◌, ◌++◌, length, slice_index, bit_xor};
 ghost use Rattle.poly256.specs.Polynomial.{element_product};
 ghost use Rattle.rs_code.specs.CodeWord.{power_sum};

@@ -1,3 +1,4 @@
+//! The blocks of a frame, and the parts of a payload.
 ghost use Rattle.std.specs.Prelude.{◌≡◌, ◌*◌, ◌<◌, ℕ, length, slice_index};
 ghost use Rattle.uplink_weave.specs.Woven.{block, BeginsWithPart};
 

@@ -1,3 +1,4 @@
+//! Frames on the air, and their payloads.
 ghost use Rattle.std.specs.Prelude.{◌≡◌, ◌↔◌, ℕ, List, is_ok, IsTrue, IfOk, IfErr, OnOk, OnErr};
 ghost use Rattle.uplink_weave.specs.Woven.{AllCorrectable, HasCounts, HasPayload, IsLostBlock, IsWoven};
 

@@ -1,3 +1,4 @@
+//! Laws of the definitions, for the crates above: each is the contract of a function that does nothing.
 ghost use Rattle.uplink_weave.specs.Laws.{BurstIsSpread, IsUnique, NearGivesPayload, WovenGivesPayload};
 
 use rs_code::minimum_distance;
