@@ -8,6 +8,7 @@ pub mod BuiltReports
 pub mod ReportKeys
 pub mod Places
 pub mod PictureLine
+pub mod SegmentRooms
 pub mod OneTextLemmas
 pub mod Underway
 pub mod ScriptStart

@@ -25,6 +25,7 @@ use Rattle.fisb_app.proofs.HeardContents.{Laws}
 use Rattle.fisb_app.proofs.UnreadParts.{unread-none}
 use Rattle.fisb_app.proofs.LineFacts.{InOrder, after}
 use Rattle.fisb_app.proofs.LinkFacts.{frame_moments-stands, moments_kept}
+use Rattle.fisb_app.proofs.SegmentRooms.{room-body}
 use Rattle.fisb_app.proofs.OneTextLemmas.{PayloadSize, the_segment, the_item, body_of-metar, items-metar, log-metar, airing-metar}
 
 -- the clock goes on to the moment of a line
@@ -153,7 +154,8 @@ length-bodies (s ∷ more) = ap (λ n. suc n) (length-bodies more)
 sum-rooms : (segments : List Segment) → sum_by (λ body. length body + 2) (map body_of segments) ≡ sum_by room_of segments
 sum-rooms [] = refl
 sum-rooms (s ∷ more) =
-    sum_by-cons (λ body. length body + 2) (body_of s) (map body_of more) ∙ ap (λ n. room_of s + n) (sum-rooms more) ∙ sym (sum_by-cons room_of s more)
+    sum_by-cons (λ body. length body + 2) (body_of s) (map body_of more) ∙ ap (λ n. length (body_of s) + 2 + n) (sum-rooms more)
+    ∙ ap (λ n. n + sum_by room_of more) (room-body s) ∙ sym (sum_by-cons room_of s more)
 
 -- before a turn no frame was sent
 pub record IsUnsent (link : Link) (acted : List Line) : Type 0 where

@@ -16,6 +16,7 @@ use Rattle.fisb_app.specs.Output.{gifts_of, gift_by_key, gift_by_row}
 use Rattle.fisb_app.specs.OneText.{body_of_text}
 use Rattle.fisb_app.specs.Stands.{metar_entry}
 use Rattle.fisb_app.proofs.ApduLemmas.{length-text_apdu}
+use Rattle.fisb_app.proofs.SegmentRooms.{room-body}
 use Rattle.fisb_app.proofs.BuiltReports.{built-size}
 pub use Rattle.fisb_app.proofs.BuiltReports.{built-is-dlac, built-plain, built-nonempty}
 pub use Rattle.fisb_app.proofs.ReportKeys.{text_key-metar}
@@ -78,7 +79,8 @@ fits-metar size version chars built =
     let body = ap length (body_of-metar size version chars built) in
     let header = length-text_apdu (shown Minute version) (text_payload chars) in
     let few = payload-size size chars built in
-    le-leb (length (body_of (the_segment version chars)) + 2) 424 (omega arith)
+    let room = room-body (the_segment version chars) in
+    le-leb (room_of (the_segment version chars)) 424 (omega (arith, body, header, few, room))
 
 pub items-metar : (moment version : ℕ) (chars : List ℕ) → is_built_report chars ≡ true
     → items default_table (update moment (gifts_of default_table version chars) ∷ []) ≡ the_item version chars ∷ []

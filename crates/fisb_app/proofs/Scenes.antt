@@ -6,7 +6,7 @@ use Rattle.std.specs.Str.{is_utf8, chars}
 use Rattle.std.specs.Char.{encode_utf8}
 use Rattle.dlac_text.specs.Payload.{text_payload}
 use Rattle.fisb_time.specs.declared.form.TimeForm.TheVariants.{Minute, DayMinute}
-use Rattle.fisb_app.specs.Script.{Line, text, turn, hear, show, not_built, syntax, clock, line_long}
+use Rattle.fisb_app.specs.Script.{Line, text, turn, hear, show, not_built, syntax, line_long}
 use Rattle.fisb_app.specs.LifeTable.{default_table}
 use Rattle.fisb_app.specs.TextKey.{text_key, few_words, unlisted}
 use Rattle.fisb_app.specs.Ground.{Frame, used}

@@ -1,10 +1,10 @@
 -- What the ground was given, cut into segments, and the body in which each is sent.
-use Rattle.std.specs.Prelude.{ℕ, zero, suc, ◌+◌, ◌-◌, ◌/◌, Bool, ◌&&◌, ◌==◌, nat_le, if◌then◌else◌, List, [], ◌∷◌, length, take, drop, map, Some, None}
+use Rattle.std.specs.Prelude.{ℕ, zero, suc, ◌+◌, ◌-◌, ◌/◌, Bool, not, ◌&&◌, ◌==◌, nat_le, if◌then◌else◌, List, [], ◌∷◌, length, take, drop, map, Some, None}
 use Rattle.std.specs.List.{range_with_len, slice_index_or}
 use Rattle.fisb_time.specs.declared.form.TimeForm.{TimeForm}
 use Rattle.fisb_time.specs.declared.form.TimeForm.TheVariants.{Minute, Second, DayMinute, DaySecond}
 use Rattle.fisb_time.specs.TimeFields.{shown}
-use Rattle.fisb_app.specs.Apdu.{Apdu, apdu_bytes}
+use Rattle.fisb_app.specs.Apdu.{Apdu, apdu_bytes, header_length}
 use Rattle.fisb_app.specs.Entry.{Entry}
 
 -- what an update gives as one item: it is newest while no later item has each of its keys
@@ -58,6 +58,10 @@ segments_of item = map (λ n. record { item = item; number = n }) (range_with_le
 abbrev pub same_segment : Segment → Segment → Bool
 same_segment a b = (a.item.serial == b.item.serial) && (a.number == b.number)
 
+-- the bytes of the payload that a segment carries
+abbrev pub part_of : Segment → List ℕ
+part_of s = slice_index_or (parts s.item.gift) (s.number - 1) []
+
 -- the body of a segment; only segments of a longer payload say which one they are
 abbrev pub apdu_of_segment : Segment → Apdu
 apdu_of_segment s = let g = s.item.gift in record {
@@ -65,12 +69,12 @@ apdu_of_segment s = let g = s.item.gift in record {
   form = g.form;
   time = shown g.form g.version;
   segmentation = if is_whole_payload g then None else Some (record { file = s.item.file; count = length (parts g); number = s.number });
-  payload = slice_index_or (parts g) (s.number - 1) [];
+  payload = part_of s;
 }
 
 abbrev pub body_of : Segment → List ℕ
 body_of s = apdu_bytes (apdu_of_segment s)
 
--- what a segment takes of a frame: its body and two bytes more
+-- how many bytes a segment takes of a frame: the header of its body, its part of the payload, and two bytes more
 abbrev pub room_of : Segment → ℕ
-room_of s = length (body_of s) + 2
+room_of s = header_length s.item.gift.form (not (is_whole_payload s.item.gift)) + length (part_of s) + 2

@@ -1,5 +1,5 @@
 -- The picture that a link promises, told by updates, fills and hearings alone: an item counts once each of its segments
--- was in a frame that was heard. It reads no byte of a frame: what a frame airs depends on the lengths of segments alone.
+-- was in a frame that was heard. It depends on no byte of a frame, on no field of time and on no file number.
 use Rattle.std.specs.Prelude.{ℕ, Bool, not, ◌&&◌, List, [], ◌∷◌, ◌++◌, filter, flat_map, Option, Some, None, slice_get}
 use Rattle.std.specs.List.{list_all}
 use Rattle.fisb_app.specs.LifeTable.{LifeTable}
