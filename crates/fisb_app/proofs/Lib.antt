@@ -10,6 +10,7 @@ pub mod Places
 pub mod PictureLine
 pub mod SegmentRooms
 pub mod OneTextLemmas
+pub mod Fronts
 pub mod Underway
 pub mod ScriptStart
 pub mod RunSteps

@@ -16,7 +16,7 @@ use Rattle.fisb_app.specs.Acted.{acted_of, acted_with, is_table_end, script_acte
 use Rattle.fisb_app.specs.Output.{told, heard_picture, promised_picture, picture_text, refused_text, fault_text}
 use Rattle.fisb_app.specs.Status.{reason_view}
 use Rattle.fisb_app.specs.Stands.{AreActed}
-use Rattle.fisb_app.specs.Run.{HasStoppedAt, HasTaken, HasAnswered, IsVerdict, HasRun, HasPromised, given_by, promised_by, acted_part, is_end, status_of, output, promised_output, ending_of, IsDecided}
+use Rattle.fisb_app.specs.Run.{HasStoppedAt, HasFailed, HasTaken, HasAnswered, IsVerdict, HasRun, HasPromised, given_by, promised_by, acted_part, is_end, status_of, output, promised_output, ending_of, IsDecided}
 
 -- the two pictures agree
 abbrev pub PicturesAgree : Type 0
@@ -132,7 +132,18 @@ run-stopped agree lb la rb ra before after fb fa taken ending (Refused line why)
     (subst (λ f. Appends before after (given_by (acted_lines (is_end ending) (acted_part taken)) ++ refused_text f)) (sym fault)
     (same-refused _ _ _ _ _ _ (fault_text (record { line = line; reason = reason_view why })) is-end is-part stopped.1))
 run-stopped agree lb la rb ra before after fb fa taken ending ReadFault consumed ends ended part is-end is-part stopped = absurd stopped
-run-stopped agree lb la rb ra before after fb fa taken ending WriteFault consumed ends ended part is-end is-part stopped = stopped
+run-stopped agree lb la rb ra before after fb fa taken ending WriteFault consumed ends ended part is-end is-part stopped =
+    let failed : HasFailed (output (is_end ending) (acted_part taken)) before after fb fa =
+    subst (λ t. HasFailed (output (is_end ending) t) before after fb fa) is-part (subst (λ e. HasFailed (output e part) before after fb fa) is-end stopped) in (
+      taken,
+      ending,
+      record {
+        consumed = consumed;
+        ended = ends;
+        written = failed;
+        promised = subst (λ text. HasFailed text before after fb fa) (output-promised agree (is_end ending) (acted_part taken)) failed;
+      },
+    )
 run-stopped agree lb la rb ra before after fb fa taken ending TooLong consumed ends ended part is-end is-part stopped = absurd stopped
 run-stopped agree lb la rb ra before after fb fa taken ending NoMemory consumed ends ended part is-end is-part stopped = tt
 
@@ -182,7 +193,7 @@ run-decided lb la rb ra before after fb fa Done ran = decided-answered lb la rb 
 run-decided lb la rb ra before after fb fa Usage ran = absurd ran
 run-decided lb la rb ra before after fb fa (Refused line why) ran = decided-answered lb la rb ra before after fb fa (Refused line why) ran
 run-decided lb la rb ra before after fb fa ReadFault ran = decided-answered lb la rb ra before after fb fa ReadFault ran
-run-decided lb la rb ra before after fb fa WriteFault ran = free lb rb ra fb fa WriteFault (λ quiet. absurd (quiet ran))
+run-decided lb la rb ra before after fb fa WriteFault (taken, ending, have) = free lb rb ra fb fa WriteFault (λ quiet. absurd (quiet have.written.0))
 run-decided lb la rb ra before after fb fa TooLong ran = decided-answered lb la rb ra before after fb fa TooLong ran
 run-decided lb la rb ra before after fb fa NoMemory ran = free lb rb ra fb fa NoMemory (λ quiet. refl)
 
@@ -194,6 +205,6 @@ run-promised lb la rb ra before after fb fa Done (taken, ending, have) = (taken,
 run-promised lb la rb ra before after fb fa Usage ran = absurd ran
 run-promised lb la rb ra before after fb fa (Refused line why) (taken, ending, have) = (taken, ending, have.consumed, have.ended, have.promised)
 run-promised lb la rb ra before after fb fa ReadFault (taken, ending, have) = (taken, ending, have.consumed, have.ended, have.promised)
-run-promised lb la rb ra before after fb fa WriteFault ran = ran
+run-promised lb la rb ra before after fb fa WriteFault (taken, ending, have) = (taken, ending, have.consumed, have.ended, have.promised)
 run-promised lb la rb ra before after fb fa TooLong (taken, ending, have) = (taken, ending, have.consumed, have.ended, have.promised)
 run-promised lb la rb ra before after fb fa NoMemory ran = ran

@@ -12,7 +12,8 @@ use Rattle.fisb_app.specs.Acted.{lines_in, part_line, acted_of, acted_with, faul
 use Rattle.fisb_app.specs.Output.{fault_text}
 use Rattle.fisb_app.specs.Stands.{Stands}
 use Rattle.fisb_app.specs.Run.{HasRefused, HasStoppedAt, given_by}
-use Rattle.fisb_app.specs.ActedOnLine.{HasActedAs, HasRefusedLine}
+use Rattle.fisb_app.specs.ActedOnLine.{HasActedAs, HasRefusedLine, text_by}
+use Rattle.fisb_app.proofs.Fronts.{front-behind, text-stands, begins-itself}
 
 -- a text of lines was acted on up to a rest of it, and exactly what its lines give was written
 pub record IsUnderway (link : Link) (ended : Bool) (text rest : List ℕ) (number : ℕ) (before now : Option (List ℕ)) (acted : List Line) : Type 0 where
@@ -68,7 +69,12 @@ underway-stopped link ended text rest line behind number before mid after fb fm 
       rw stopped (Appends-trans _ _ _ _ _ u.written h.2),
     )
 underway-stopped link ended text rest line behind number before mid after fb fm fa acted ReadFault u cut later h = absurd h
-underway-stopped link ended text rest line behind number before mid after fb fm fa acted WriteFault u cut later h = omega (arith, h)
+underway-stopped link ended text rest line behind number before mid after fb fm fa acted WriteFault u cut later h =
+    let part = part_line ended rest in (
+      (let rose = h.0 in omega (arith, rose)),
+      rw (u.lines ∙ ap (acted_of acted) cut, u.faults ∙ ap (λ ls. fault_of acted number ls part) cut)
+          (front-behind before mid after (given_by acted) (text_by number acted (reading acted line)) _ u.written h.1 (text-stands number acted line (lines_in ended behind) part)),
+    )
 underway-stopped link ended text rest line behind number before mid after fb fm fa acted TooLong u cut later h = absurd h
 underway-stopped link ended text rest line behind number before mid after fb fm fa acted NoMemory u cut later h = tt
 
@@ -121,6 +127,13 @@ part-stopped link ended text rest number before mid after fb fm fa acted (Refuse
       rw end.1 (subst (λ f. Appends before after (given_by acted ++ fault_text f)) h.0 (Appends-trans _ _ _ _ _ u.written h.1)),
     )
 part-stopped link ended text rest number before mid after fb fm fa acted ReadFault u none open' part long later h = absurd h
-part-stopped link ended text rest number before mid after fb fm fa acted WriteFault u none open' part long later h = omega (arith, h)
+part-stopped link ended text rest number before mid after fb fm fa acted WriteFault u none open' part long later h =
+    let end = underway-end link ended text rest number before mid acted u none in
+    let is : part_line ended rest ≡ rest = part-is ended (part_line ended rest) rest open' part in
+    let fault : part_fault number (part_line ended rest) ≡ Some (record { line = number; reason = line_long }) = rw is (part_fault-long number rest long) in (
+      (let rose = h.0 in omega (arith, rose)),
+      rw (end.1, end.0 ∙ fault)
+          (front-behind before mid after (given_by acted) (fault_text (record { line = number; reason = line_long })) _ u.written h.1 (begins-itself _)),
+    )
 part-stopped link ended text rest number before mid after fb fm fa acted TooLong u none open' part long later h = absurd h
 part-stopped link ended text rest number before mid after fb fm fa acted NoMemory u none open' part long later h = tt

@@ -12,6 +12,7 @@ use Rattle.fisb_app.specs.Script.{Line, Fault}
 use Rattle.fisb_app.specs.Status.{reason_view}
 use Rattle.fisb_app.specs.LifeTable.{default_table}
 use Rattle.fisb_app.specs.Acted.{first_fault, acted_lines}
+use Rattle.fisb_app.specs.Wire.{AppendsFront}
 use Rattle.fisb_app.specs.Output.{told_by, heard_picture, promised_picture, fault_text, refused_text}
 
 -- What is known where acting on lines stopped: of a refusal, and of a failed write. Nothing is known of want of memory, and it
@@ -25,18 +26,23 @@ HasStopped refused failed WriteFault = failed
 HasStopped refused failed TooLong = ⊥
 HasStopped refused failed NoMemory = Unit {0}
 
+-- a write failed: the sink's count shows it, and a front of the text was written
+abbrev pub HasFailed : List ℕ → Option (List ℕ) → Option (List ℕ) → ℕ → ℕ → Type 0
+HasFailed text before after faults_before faults_after = Rose faults_before faults_after × AppendsFront before after text
+
 abbrev pub fault_at : ℕ → rust.Reason → Fault
 fault_at line why = record { line = line; reason = reason_view why }
 
 -- the refusal of this fault is what was written and answered
 abbrev pub HasRefused : Fault → Option (List ℕ) → Option (List ℕ) → ℕ → ℕ → Status → Type 0
 HasRefused fault before after faults_before faults_after status =
-    HasStopped (λ line why. (fault ≡ fault_at line why) × Appends before after (fault_text fault)) (Rose faults_before faults_after) status
+    HasStopped (λ line why. (fault ≡ fault_at line why) × Appends before after (fault_text fault)) (HasFailed (fault_text fault) before after faults_before faults_after) status
 
 -- it stopped at the first fault, whose refusal was written behind what the lines before it gave
 abbrev pub HasStoppedAt : Option Fault → List ℕ → Option (List ℕ) → Option (List ℕ) → ℕ → ℕ → Status → Type 0
 HasStoppedAt fault given before after faults_before faults_after status =
-    HasStopped (λ line why. (fault ≡ Some (fault_at line why)) × Appends before after (given ++ fault_text (fault_at line why))) (Rose faults_before faults_after) status
+    HasStopped (λ line why. (fault ≡ Some (fault_at line why)) × Appends before after (given ++ fault_text (fault_at line why)))
+    (HasFailed (given ++ refused_text fault) before after faults_before faults_after) status
 
 -- the lines have no fault, and exactly what they give was written; or acting on them stopped
 abbrev pub HasActedOn : Option Fault → List ℕ → Option (List ℕ) → Option (List ℕ) → ℕ → ℕ → Result (Unit {0}) Status → Type 0
@@ -99,8 +105,20 @@ abbrev pub HasAnswered : Option (List ℕ) → Option (List ℕ) → ℕ → ℕ
 HasAnswered left_before left_after reads_before reads_after before after status =
     (taken : List ℕ) × (ending : Ending) × HasTaken left_before left_after reads_before reads_after before after status taken ending
 
--- What is known of a run by its answer: a failed write shows in the sink's count, want of memory is free, and `Usage` is none of its
--- answers. Each other answer is the verdict on the bytes taken.
+-- A run whose write failed took these bytes until its reading ended so, and wrote a front of their output; a front of what is
+-- promised too.
+pub record HasBrokenOff (left_before left_after : Option (List ℕ)) (reads_before reads_after : ℕ) (before after : Option (List ℕ)) (faults_before faults_after : ℕ) (taken : List ℕ) (ending : Ending) : Type 0 where
+  pub consumed : Consumes left_before left_after taken
+  pub ended : HasEnded left_after reads_before reads_after taken ending
+  pub written : HasFailed (output (is_end ending) (acted_part taken)) before after faults_before faults_after
+  pub promised : HasFailed (promised_output (is_end ending) (acted_part taken)) before after faults_before faults_after
+
+abbrev pub HasWrittenFront : Option (List ℕ) → Option (List ℕ) → ℕ → ℕ → Option (List ℕ) → Option (List ℕ) → ℕ → ℕ → Type 0
+HasWrittenFront left_before left_after reads_before reads_after before after faults_before faults_after =
+    (taken : List ℕ) × (ending : Ending) × HasBrokenOff left_before left_after reads_before reads_after before after faults_before faults_after taken ending
+
+-- What is known of a run by its answer. Of want of memory nothing is claimed, and `Usage` is none of its answers. Each other
+-- answer is the verdict on the bytes taken, or tells of a failed write.
 abbrev pub IsAnswer : Type 0 → Type 0 → Status → Type 0
 IsAnswer answered failed Done = answered
 IsAnswer answered failed Usage = ⊥
@@ -113,15 +131,18 @@ IsAnswer answered failed NoMemory = Unit {0}
 -- how a run went, over what its source has left with its count of faults, and over what its sink holds with its own
 abbrev pub HasRun : Option (List ℕ) → Option (List ℕ) → ℕ → ℕ → Option (List ℕ) → Option (List ℕ) → ℕ → ℕ → Status → Type 0
 HasRun left_before left_after reads_before reads_after before after faults_before faults_after status =
-    IsAnswer (HasAnswered left_before left_after reads_before reads_after before after status) (Rose faults_before faults_after) status
+    IsAnswer (HasAnswered left_before left_after reads_before reads_after before after status)
+    (HasWrittenFront left_before left_after reads_before reads_after before after faults_before faults_after) status
 
 -- the headline: what a run wrote is, byte for byte, the output of the bytes taken, each picture in it the one that updates, fills and
--- hearings alone promise
+-- hearings alone promise; where a write failed, a front of it
 abbrev pub HasPromised : Option (List ℕ) → Option (List ℕ) → ℕ → ℕ → Option (List ℕ) → Option (List ℕ) → ℕ → ℕ → Status → Type 0
 HasPromised left_before left_after reads_before reads_after before after faults_before faults_after status = IsAnswer
     ((taken : List ℕ) × (ending : Ending) × Consumes left_before left_after taken × HasEnded left_after reads_before reads_after taken ending
     × Appends before after (promised_output (is_end ending) (acted_part taken)))
-    (Rose faults_before faults_after) status
+    ((taken : List ℕ) × (ending : Ending) × Consumes left_before left_after taken × HasEnded left_after reads_before reads_after taken ending
+    × HasFailed (promised_output (is_end ending) (acted_part taken)) before after faults_before faults_after)
+    status
 
 -- how the reading of an input ends where no read fails
 abbrev pub ending_of : List ℕ → Ending
