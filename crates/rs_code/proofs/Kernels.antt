@@ -24,12 +24,12 @@ power_sum-push_zero F ws j =
     (power_sum-cons_zero F [] j ∙ power_sum-empty j)
     ∙ xor_zero_r (element_product (element_power 2 j) (power_sum ws j))
 
-length-scaled : (a : ℕ) (ws : List ℕ) → length (scaled a ws) ≡ length ws
+pub length-scaled : (a : ℕ) (ws : List ℕ) → length (scaled a ws) ≡ length ws
 unfolding scaled
 length-scaled a [] = refl
 length-scaled a (w ∷ ws) = ap suc (length-scaled a ws)
 
-get_or-scaled :
+pub get_or-scaled :
     (F : IsField 391) (a : ℕ) (ws : List ℕ) (k : ℕ) → get_or (scaled a ws) k 0 ≡ element_product a (get_or ws k 0)
 unfolding scaled
 get_or-scaled F a [] k = sym (product-zero_right F a)

@@ -6,3 +6,6 @@ pub mod Places
 pub mod Kernels
 pub mod Words
 pub mod Nearest
+pub mod Existence
+pub mod Finding
+pub mod Functions

@@ -1,5 +1,5 @@
 -- The bytes of a list by their places.
-use Rattle.std.proofs.Common.{◌≡◌, ℕ, zero, suc, ◌+◌, ◌<◌, ◌≤◌, List, [], ◌∷◌, ◌++◌, length, get_or, set, take, replicate, refl, sym, ◌∙◌, ap, arith, inl, inr}
+use Rattle.std.proofs.Common.{◌≡◌, ℕ, zero, suc, ◌+◌, ◌<◌, ◌≤◌, List, [], ◌∷◌, ◌++◌, length, get_or, set, take, replicate, lit<, refl, sym, ◌∙◌, ap, arith, inl, inr}
 use Rattle.std.proofs.lemmas.Bool.{cases_lt, cases_eq}
 use Rattle.std.proofs.lemmas.List.{get_or-set_same, get_or-set_other, get_or_past, get_or-take, get_or-replicate, length-replicate, length-take-le}
 
@@ -53,3 +53,9 @@ pub bytes-append :
 bytes-append [] ys h h' k = h' k
 bytes-append (x ∷ xs) ys h h' zero = h 0
 bytes-append (x ∷ xs) ys h h' (suc k) = bytes-append xs ys (λ i. h (suc i)) h' k
+
+pub bytes-front :
+    (xs ys : List ℕ) → ((k : ℕ) → get_or (xs ++ ys) k 0 < 256) → (k : ℕ) → get_or xs k 0 < 256
+bytes-front [] ys h k = lit< tt
+bytes-front (x ∷ xs) ys h zero = h 0
+bytes-front (x ∷ xs) ys h (suc k) = bytes-front xs ys (λ i. h (suc i)) k

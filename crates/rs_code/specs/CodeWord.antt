@@ -6,7 +6,6 @@ use Rattle.poly256.specs.Polynomial.{element_product, element_power}
 
 -- the numbers that make a code
 pub record IsInstance (count roots first : ℕ) : Type 0 where
-  pub some : 2 ≤ roots
   pub even : roots % 2 ≡ 0
   pub below : roots < count
   pub short : count ≤ 255

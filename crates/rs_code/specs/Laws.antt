@@ -1,6 +1,7 @@
--- The laws of the distance between code words.
-use Rattle.std.specs.Prelude.{◌≡◌, ◌≢◌, ℕ, ◌+◌, ◌≤◌, List}
-use Rattle.rs_code.specs.CodeWord.{IsInstance, IsCodeWord, IsNearest, differences}
+-- The laws of the distance between code words, and of the functions that give code words.
+use Rattle.std.specs.Prelude.{◌≡◌, ◌≢◌, ◌↔◌, ℕ, ◌+◌, ◌-◌, ◌<◌, ◌≤◌, List, length, take, slice_index, IsTrue, Some, None}
+use Rattle.rs_code.specs.CodeWord.{IsInstance, IsCodeWord, IsNearest, IsCorrectable, differences}
+use Rattle.rs_code.specs.Functions.{is_code_word, encoded, corrected}
 
 -- two different code words differ in at least one place more than the code has roots
 abbrev pub HasMinimumDistance : Type 0
@@ -14,3 +15,24 @@ abbrev pub HasOneNearest : Type 0
 HasOneNearest =
     (count roots first : ℕ) (word near other : List ℕ) → IsInstance count roots first
     → IsNearest count roots first word near → IsNearest count roots first word other → near ≡ other
+
+-- the test of a code word tells them
+abbrev pub HasCodeWordTest : Type 0
+HasCodeWordTest =
+    (count roots first : ℕ) (word : List ℕ) → IsTrue (is_code_word count roots first word) ↔ IsCodeWord count roots first word
+
+-- one word alone is a code word and begins with a message: the one that `encoded` gives
+abbrev pub HasOneEncoded : Type 0
+HasOneEncoded =
+    (count roots first : ℕ) (message word : List ℕ) → IsInstance count roots first → length message ≡ count - roots
+    → ((i : ℕ) → slice_index message i < 256)
+    → (word ≡ encoded count roots first message) ↔ (IsCodeWord count roots first word × (take (count - roots) word ≡ message))
+
+-- `corrected` gives the code word near a word, and none exactly where none is near
+pub record IsCorrected : Type 0 where
+  pub nearest :
+      (count roots first : ℕ) (word other : List ℕ) → IsInstance count roots first
+      → (corrected count roots first word ≡ Some other) ↔ IsNearest count roots first word other
+  pub none :
+      (count roots first : ℕ) (word : List ℕ) → IsInstance count roots first
+      → (corrected count roots first word ≡ None) ↔ ¬ IsCorrectable count roots first word

@@ -1,3 +1,4 @@
 pub mod CodeWord
+pub mod Functions
 pub mod Laws
 pub mod Rows

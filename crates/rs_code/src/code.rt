@@ -1,9 +1,11 @@
 //! Codes, and what they do with words.
-ghost use Rattle.std.specs.Prelude.{◌≡◌, ◌+◌, ◌-◌, ℕ, List, take, length, is_ok, IsTrue, IfOk, OnErr, ◌↔◌};
+ghost use Rattle.std.specs.Prelude.{◌≡◌, ◌+◌, ◌-◌, ℕ, List, take, length, is_ok, IsTrue, Some, None, IfOk, OnOk, OnErr, ◌↔◌};
 ghost use Rattle.rs_code.specs.CodeWord.{IsInstance, IsCodeWord, IsNearest, IsCorrectable, differences};
+ghost use Rattle.rs_code.specs.Functions.{encoded, corrected};
 ghost use Rattle.rs_code.specs.Rows.{AreRows};
 
 use crate::generator::generator;
+use crate::laws::{corrected_is_nearest, one_encoded};
 use crate::rows::{parity, rows_of};
 use gf256_core::{UatTables, field_laws};
 
@@ -26,7 +28,8 @@ pub type UplinkCode = Rs<92, 20, 120>;
 pub struct Uncorrectable;
 
 impl<const N: usize, const ROOTS: usize, const FIRST: usize> Rs<N, ROOTS, FIRST> {
-    /// The code. `ROOTS` is even, at least 2 and below `N`; `N` and `FIRST + ROOTS` are at most 255.
+    /// The code. `ROOTS` is even and below `N`; `N` and `FIRST + ROOTS` are at most 255. Of a code without roots every word
+    /// is a code word.
     pub fn new() -> Self
         requires { IsInstance N ROOTS FIRST }
         ensures { IsInstance N ROOTS FIRST }
@@ -43,7 +46,9 @@ impl<const N: usize, const ROOTS: usize, const FIRST: usize> Rs<N, ROOTS, FIRST>
         ensures code { IsCodeWord N ROOTS FIRST word.new }
         ensures front { take (N - ROOTS) word.new ≡ take (N - ROOTS) word.old }
         ensures only { (other : List ℕ) → IsCodeWord N ROOTS FIRST other → take (N - ROOTS) other ≡ take (N - ROOTS) word.old → other ≡ word.new }
+        ensures function { word.new ≡ encoded N ROOTS FIRST (take (N - ROOTS) word.old) }
     {
+        one_encoded();
         field_laws::<UatTables>();
         let (message, back) = word.split_at_mut(N - ROOTS);
         let made = parity(&self.low, &self.high, message);
@@ -67,7 +72,10 @@ impl<const N: usize, const ROOTS: usize, const FIRST: usize> Rs<N, ROOTS, FIRST>
         ensures exactly { IsTrue (is_ok result) ↔ IsCorrectable N ROOTS FIRST word.old }
         ensures corrected { IfOk result (λ changed. IsNearest N ROOTS FIRST word.old word.new × (changed ≡ differences word.old word.new)) }
         ensures unchanged { OnErr result (word.new ≡ word.old) }
+        ensures function { OnOk result (corrected N ROOTS FIRST word.old ≡ Some word.new) }
+        ensures none { OnErr result (corrected N ROOTS FIRST word.old ≡ None) }
     {
+        corrected_is_nearest();
         if self.is_codeword(word) {
             Ok(0)
         } else {

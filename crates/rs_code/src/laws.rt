@@ -1,5 +1,5 @@
 //! Laws of the definitions, for the crates above: each is the contract of a function that does nothing.
-ghost use Rattle.rs_code.specs.Laws.{HasMinimumDistance, HasOneNearest};
+ghost use Rattle.rs_code.specs.Laws.{HasCodeWordTest, HasMinimumDistance, HasOneEncoded, HasOneNearest, IsCorrected};
 
 use gf256_core::{UatTables, field_laws};
 
@@ -15,6 +15,28 @@ pub fn minimum_distance()
 #[inline]
 pub fn one_nearest()
     ensures { HasOneNearest }
+{
+    field_laws::<UatTables>()
+}
+
+/// The law that the test of a code word, a function of the definitions, tells code words from all other words.
+#[inline]
+pub fn code_word_test()
+    ensures { HasCodeWordTest }
+{}
+
+/// The law that one word alone is a code word and begins with a message: the one that the definition `encoded` gives.
+#[inline]
+pub fn one_encoded()
+    ensures { HasOneEncoded }
+{
+    field_laws::<UatTables>()
+}
+
+/// The law that the definition `corrected` gives the code word near a word, and none exactly where none is near.
+#[inline]
+pub fn corrected_is_nearest()
+    ensures { IsCorrected }
 {
     field_laws::<UatTables>()
 }

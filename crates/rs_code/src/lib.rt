@@ -9,4 +9,4 @@ mod rows;
 mod tests;
 
 pub use code::{Rs, Uncorrectable, UplinkCode};
-pub use laws::{minimum_distance, one_nearest};
+pub use laws::{code_word_test, corrected_is_nearest, minimum_distance, one_encoded, one_nearest};

@@ -89,13 +89,15 @@ pub(crate) fn parity<const ROOTS: usize>(
     high: &[[u8; ROOTS]; 16],
     message: &[u8],
 ) -> [u8; ROOTS]
-    requires { 1 ≤ ROOTS }
-    ensures sums { (j : ℕ) → AreRowsAt ROOTS j 0 16 low.now → AreRowsAt ROOTS j 4 16 high.now → power_sum (message.now ++ result) j ≡ 0 }
+    ensures sums { (j : ℕ) → 1 ≤ ROOTS → AreRowsAt ROOTS j 0 16 low.now → AreRowsAt ROOTS j 4 16 high.now → power_sum (message.now ++ result) j ≡ 0 }
     ensures long { length result ≡ ROOTS }
     ensures bytes { (k : ℕ) → slice_index (message.now ++ result) k < 256 }
 {
     field_laws::<UatTables>();
     let mut rest = [0; ROOTS];
+    if ROOTS == 0 {
+        return rest;
+    }
     for byte in message {
         let first = *byte ^ rest[0];
         step(

@@ -1,4 +1,7 @@
-use crate::{Rs, Uncorrectable, UplinkCode, minimum_distance, one_nearest};
+use crate::{
+    Rs, Uncorrectable, UplinkCode, code_word_test, corrected_is_nearest, minimum_distance,
+    one_encoded, one_nearest,
+};
 
 // The parity in these tests was worked out by solving the power sums for it.
 
@@ -78,9 +81,22 @@ fn a_code_of_another_size_has_its_own_parity(rt: HostRuntime) {
 }
 
 #[test]
-fn the_laws_of_the_distance_may_be_called(rt: HostRuntime) {
+fn of_a_code_without_roots_every_word_is_a_code_word(rt: HostRuntime) {
+    let code = Rs::<4, 0, 7>::new();
+    let mut word = [1, 2, 3, 0xff];
+    assert!(rt; code.is_codeword(&word));
+    assert_eq!(rt; code.correct(&mut word), Ok(0));
+    code.encode(&mut word);
+    assert!(rt; word == [1, 2, 3, 0xff]);
+}
+
+#[test]
+fn the_laws_may_be_called(rt: HostRuntime) {
     minimum_distance();
     one_nearest();
+    code_word_test();
+    one_encoded();
+    corrected_is_nearest();
     let mut word = [9, 9, 9, 9];
     let code = Rs::<4, 2, 250>::new();
     word[0] = 0x11;

@@ -1,6 +1,6 @@
 use Rattle.std.proofs.Common.{◌<◌, ◌+◌, ◌/◌, ◌%◌, ℕ, List, [], ◌++◌, get_or, take, arith, ap, sym, ◌∙◌, refl, rules}
 use Rattle.std.specs.Int.Bits.{bit_xor}
-use Rattle.std.proofs.lemmas.List.{take_more, length-replicate}
+use Rattle.std.proofs.lemmas.List.{take_more, take_all, length-replicate}
 use Rattle.rs_code.specs.CodeWord.{power_sum}
 use Rattle.rs_code.proofs.Distance.{difference, get_or-difference}
 use Rattle.rs_code.proofs.Places.{get_or-zeros, bytes-append}
@@ -40,6 +40,12 @@ loop-byte-preserved g c =
           c.args.low.now c.args.high.now fits low high)
           (c.loop-byte.invariant.sums j low high);
     }
+
+pub returns-clause-sums : goal.returns-clause-sums
+returns-clause-sums g c = λ j some low high.
+    ap (λ (w : List ℕ). power_sum (w ++ c.loop-byte.rest) j)
+    (sym (take_all c.loop-byte.byte-index c.args.message.now (let t = c.loop-byte-test.false in omega arith)))
+    ∙ c.loop-byte.invariant.sums j low high
 
 pub returns-clause-bytes : goal.returns-clause-bytes
 returns-clause-bytes g c =

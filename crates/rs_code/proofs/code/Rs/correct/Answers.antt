@@ -26,3 +26,13 @@ returns-else-is_codeword-clause-exactly g c = (
       (subst (λ (w : List ℕ). IsCodeWord g.row.N g.row.ROOTS g.row.FIRST w)
       (sym (same_from_no_differences c.args.word.now some.0 some.1.near)) some.1.code)),
 )
+
+pub returns-then-is_codeword-clause-function : goal.returns-then-is_codeword-clause-function
+returns-then-is_codeword-clause-function g c =
+    (c.corrected_is_nearest.ensures.nearest g.row.N g.row.ROOTS g.row.FIRST c.args.word.now c.args.word.now c.args.self.now.instance).1
+    (returns-then-is_codeword-clause-corrected g c).0
+
+pub returns-else-is_codeword-clause-none : goal.returns-else-is_codeword-clause-none
+returns-else-is_codeword-clause-none g c =
+    (c.corrected_is_nearest.ensures.none g.row.N g.row.ROOTS g.row.FIRST c.args.word.now c.args.self.now.instance).1
+    (λ some. let impossible = (returns-else-is_codeword-clause-exactly g c).1 some in cc)

@@ -18,7 +18,7 @@ returns g c =
     let made : IsCodeWord g.row.N g.row.ROOTS g.row.FIRST (c.split_at.result.0.now ++ c.parity-made.result) = record {
       long = length-append c.split_at.result.0.now c.parity-made.result ∙ (let l = c.parity-made.ensures.long in omega arith);
       bytes = c.parity-made.ensures.bytes;
-      sums = λ j h h'. c.parity-made.ensures.sums j (c.args.self.now.made.low_rows j h h') (c.args.self.now.made.high_rows j h h');
+      sums = λ j h h'. c.parity-made.ensures.sums j (omega arith) (c.args.self.now.made.low_rows j h h') (c.args.self.now.made.high_rows j h h');
     } in
     let test : Decides c.eq.result (c.split_at.result.1.now ≡ c.parity-made.result) = slice_eq-Decides Decides-eqb _ _ _ c.eq.ensures in (
       λ yes.
