@@ -1,12 +1,16 @@
 //! Weaves a number of frames, which the first argument names, unweaves each of them as often as the second argument
 //! names, and prints a checksum. With no arguments these are two frames, each unwoven once. Each frame's payload has
-//! a byte of the frame before it, so that no frame can be left out.
+//! a byte of the frame before it, so that no frame can be left out. Then prints as many pseudo-random words as the third
+//! argument names, none without it.
 #![tactic(auto)]
+
+mod words;
 
 ghost use Rattle.std.specs.Prelude.{◌≡◌, ◌+◌, ◌*◌, ◌%◌, ◌^◌, None, fold};
 
 use std::{env, io};
 use uplink_weave::{unweave, weave};
+use words::print_words;
 
 // The number that an argument names.
 fn number_in(word: Option<String>, default: u32) -> u32
@@ -47,10 +51,11 @@ fn work(frames: u32, turns: u32) -> u32 {
 }
 
 fn main(rt: HostRuntime) -> io::Result<()> {
-    let mut words = env::args(&rt)?;
-    words.next();
-    let frames = number_in(words.next(), 2);
-    let turns = number_in(words.next(), 1);
+    let mut arguments = env::args(&rt)?;
+    arguments.next();
+    let frames = number_in(arguments.next(), 2);
+    let turns = number_in(arguments.next(), 1);
     let sum = work(frames, turns);
-    println!(rt; "{sum}")
+    println!(rt; "{sum}")?;
+    print_words(rt, number_in(arguments.next(), 0))
 }

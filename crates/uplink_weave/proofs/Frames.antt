@@ -29,9 +29,8 @@ woven_gives_payload payload air is = (
   },
 )
 
-uplink : IsInstance 92 20 120
+pub uplink : IsInstance 92 20 120
 uplink = record {
-  some = omega arith;
   even = refl;
   below = omega arith;
   short = omega arith;

@@ -1,7 +1,8 @@
 -- The laws of woven frames.
-use Rattle.std.specs.Prelude.{◌≡◌, ℕ, ◌+◌, ◌<◌, ◌≤◌, ◌⊎◌, List, length, slice_index, replicate}
+use Rattle.std.specs.Prelude.{◌≡◌, ◌↔◌, ℕ, ◌+◌, ◌<◌, ◌≤◌, ◌⊎◌, List, length, slice_index, replicate, Some, None}
 use Rattle.rs_code.specs.CodeWord.{bound, differences}
-use Rattle.uplink_weave.specs.Woven.{block, IsWoven, HasPayload, HasCounts, IsLostBlock}
+use Rattle.uplink_weave.specs.Woven.{block, IsWoven, AllCorrectable, HasPayload, HasCounts, IsLostBlock}
+use Rattle.uplink_weave.specs.Functions.{woven, payload_in, counts_in, lost_block_in}
 
 -- a woven frame has the payload that it is woven of, and no byte of it is to be changed
 abbrev pub WovenGivesPayload : Type 0
@@ -25,3 +26,26 @@ BurstIsSpread =
     (first : ℕ) (air other : List ℕ) → length air ≡ 552 → length other ≡ 552
     → ((place : ℕ) → (place < first) ⊎ (first + 60 ≤ place) → slice_index air place ≡ slice_index other place)
     → (r : ℕ) → r < 6 → differences (block r air) (block r other) ≤ 10
+
+-- `woven` gives the frame that is woven of a payload, and there is no other
+pub record IsTheFrame : Type 0 where
+  pub only : (payload air : List ℕ) → IsWoven payload air → air ≡ woven payload
+  pub made :
+      (payload : List ℕ) → length payload ≡ 432 → ((i : ℕ) → slice_index payload i < 256)
+      → IsWoven payload (woven payload) × ((i : ℕ) → slice_index (woven payload) i < 256)
+  pub long : (payload : List ℕ) → length (woven payload) ≡ 552
+
+-- the functions of a frame give its payload, its counts and its first lost block, and give none exactly where there is none
+pub record GivesPayload : Type 0 where
+  pub payload : (air payload : List ℕ) → (payload_in air ≡ Some payload) ↔ HasPayload air payload
+  pub no_payload : (air : List ℕ) → (payload_in air ≡ None) ↔ ¬ AllCorrectable air
+  pub counts : (air counts : List ℕ) → AllCorrectable air → (counts ≡ counts_in air) ↔ HasCounts air counts
+  pub lost : (air : List ℕ) (r : ℕ) → (lost_block_in air ≡ Some r) ↔ IsLostBlock air r
+  pub none_lost : (air : List ℕ) → (lost_block_in air ≡ None) ↔ AllCorrectable air
+
+-- the frame of a payload has that payload, and no byte of it is to be changed
+abbrev pub FrameGivesPayload : Type 0
+FrameGivesPayload =
+    (payload : List ℕ) → length payload ≡ 432 → ((i : ℕ) → slice_index payload i < 256)
+    → (payload_in (woven payload) ≡ Some payload) × (counts_in (woven payload) ≡ replicate 6 0)
+    × (lost_block_in (woven payload) ≡ None)

@@ -1,8 +1,10 @@
 //! Frames on the air, and their payloads.
-ghost use Rattle.std.specs.Prelude.{◌≡◌, ◌↔◌, ℕ, List, is_ok, IsTrue, IfOk, IfErr, OnOk, OnErr};
+ghost use Rattle.std.specs.Prelude.{◌≡◌, ◌↔◌, ℕ, List, Some, None, is_ok, IsTrue, IfOk, IfErr, OnOk, OnErr};
+ghost use Rattle.uplink_weave.specs.Functions.{woven, payload_in, counts_in, lost_block_in};
 ghost use Rattle.uplink_weave.specs.Woven.{AllCorrectable, HasCounts, HasPayload, IsLostBlock, IsWoven};
 
 use crate::blocks::{read_block, read_part, write_block, write_part};
+use crate::laws::{functions_of_a_frame, woven_is_the_frame};
 use rs_code::UplinkCode;
 
 /// No code word is near the block of this number, which is from 0 to 5.
@@ -15,7 +17,9 @@ pub struct Lost {
 pub fn weave(payload: &[u8; 432], air: &mut [u8; 552])
     ensures woven { IsWoven payload.now air.new }
     ensures only { (other : List ℕ) → IsWoven payload.now other → other ≡ air.new }
+    ensures function { air.new ≡ woven payload.now }
 {
+    woven_is_the_frame();
     let code = UplinkCode::new();
     for number in 0..6 {
         let mut word = read_part(payload, number);
@@ -32,7 +36,12 @@ pub fn unweave(air: &[u8; 552], payload: &mut [u8; 432]) -> Result<[u8; 6], Lost
     ensures counts { IfOk result (λ counts. HasCounts air.now counts) }
     ensures lost { IfErr result (λ lost. IsLostBlock air.now lost.block) }
     ensures unchanged { OnErr result (payload.new ≡ payload.old) }
+    ensures function { OnOk result (payload_in air.now ≡ Some payload.new) }
+    ensures counted { IfOk result (λ counts. counts ≡ counts_in air.now) }
+    ensures none { OnErr result (payload_in air.now ≡ None) }
+    ensures first_lost { IfErr result (λ lost. lost_block_in air.now ≡ Some lost.block) }
 {
+    functions_of_a_frame();
     let code = UplinkCode::new();
     let mut made = [0; 432];
     let mut counts = [0; 6];

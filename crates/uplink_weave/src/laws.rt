@@ -1,7 +1,8 @@
 //! Laws of the definitions, for the crates above: each is the contract of a function that does nothing.
-ghost use Rattle.uplink_weave.specs.Laws.{BurstIsSpread, IsUnique, NearGivesPayload, WovenGivesPayload};
+ghost use Rattle.uplink_weave.specs.Laws.{BurstIsSpread, FrameGivesPayload, GivesPayload, IsTheFrame};
+ghost use Rattle.uplink_weave.specs.Laws.{IsUnique, NearGivesPayload, WovenGivesPayload};
 
-use rs_code::minimum_distance;
+use rs_code::{corrected_is_nearest, minimum_distance, one_encoded};
 
 /// The law that a woven frame has the payload that it is woven of, with no byte to be changed.
 #[inline]
@@ -28,3 +29,29 @@ pub fn unique_payload()
 pub fn burst_is_spread()
     ensures { BurstIsSpread }
 {}
+
+/// The law that the definition `woven` gives the frame that is woven of a payload, and that there is no other.
+#[inline]
+pub fn woven_is_the_frame()
+    ensures { IsTheFrame }
+{
+    one_encoded()
+}
+
+/// The law that the definitions `payload_in`, `counts_in` and `lost_block_in` give the payload of a frame, the counts of
+/// its corrected bytes and its first lost block.
+#[inline]
+pub fn functions_of_a_frame()
+    ensures { GivesPayload }
+{
+    corrected_is_nearest()
+}
+
+/// The law that the frame of a payload has that payload, with no byte to be changed.
+#[inline]
+pub fn frame_gives_payload()
+    ensures { FrameGivesPayload }
+{
+    woven_is_the_frame();
+    functions_of_a_frame()
+}

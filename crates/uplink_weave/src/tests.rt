@@ -1,5 +1,6 @@
 use crate::{
-    Lost, burst_is_spread, near_gives_payload, unique_payload, unweave, weave, woven_gives_payload,
+    Lost, burst_is_spread, frame_gives_payload, functions_of_a_frame, near_gives_payload,
+    unique_payload, unweave, weave, woven_gives_payload, woven_is_the_frame,
 };
 
 // The parity in these tests was worked out by solving the power sums for it.
@@ -49,6 +50,9 @@ fn a_woven_report_gives_its_payload_back(rt: HostRuntime) {
     woven_gives_payload();
     near_gives_payload();
     unique_payload();
+    woven_is_the_frame();
+    functions_of_a_frame();
+    frame_gives_payload();
     let payload = one_report();
     let mut air = [0xff; 552];
     weave(&payload, &mut air);

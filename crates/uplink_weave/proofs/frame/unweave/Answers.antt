@@ -62,3 +62,20 @@ returns-clause-exactly c = (
   λ yes r h. let part = c.loop-number.invariant.parts r (omega arith) in (part.0, part.1),
   λ all. refl,
 )
+
+pub returns-in-Err-clause-none : goal.returns-in-Err-clause-none
+returns-in-Err-clause-none c =
+    (c.functions_of_a_frame.ensures.no_payload c.args.air.now).1
+    (λ all. let impossible = (returns-in-Err-clause-exactly c).1 all in cc)
+
+pub returns-in-Err-clause-first_lost : goal.returns-in-Err-clause-first_lost
+returns-in-Err-clause-first_lost c =
+    (c.functions_of_a_frame.ensures.lost c.args.air.now c.loop-number.number).1 (returns-in-Err-clause-lost c)
+
+pub returns-clause-counted : goal.returns-clause-counted
+returns-clause-counted c =
+    (c.functions_of_a_frame.ensures.counts c.args.air.now c.loop-number.counts ((returns-clause-exactly c).0 refl)).1
+    (record {
+      six = c.loop-number.invariant.six;
+      each = λ r h. c.loop-number.invariant.each r (omega arith);
+    })

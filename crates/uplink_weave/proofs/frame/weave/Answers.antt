@@ -1,6 +1,6 @@
-use Rattle.std.proofs.Common.{◌≡◌, ℕ, List, arith, sym, ◌∙◌, subst}
+use Rattle.std.proofs.Common.{◌≡◌, ℕ, List, arith, rules, sym, ◌∙◌, subst}
 use Rattle.rs_code.specs.CodeWord.{IsCodeWord}
-use Rattle.uplink_weave.specs.Woven.{block, BeginsWithPart}
+use Rattle.uplink_weave.specs.Woven.{block, BeginsWithPart, IsWoven}
 use Rattle.uplink_weave.proofs.Places.{one_more, same_in_front, same_front, same_frame}
 use Rattle.uplink_weave.proofs.frame.weave.Goals as goal
 
@@ -32,3 +32,8 @@ pub returns-clause-only : goal.returns-clause-only
 returns-clause-only c = λ other woven.
     same_frame other c.loop-number.air woven.long c.loop-number.invariant.long
     (λ r h. c.loop-number.invariant.only r (omega arith) (block r other) (woven.code r h) (woven.parts r h))
+
+pub returns-clause-function : goal.returns-clause-function
+returns-clause-function c =
+    let is : IsWoven c.args.payload.now c.loop-number.air = search rules in
+    c.woven_is_the_frame.ensures.only c.args.payload.now c.loop-number.air is

@@ -1,0 +1,38 @@
+-- Frames as functions, for definitions that stand above: the frame of a payload, and the payload of a frame.
+use Rattle.std.specs.Prelude.{ℕ, ◌*◌, ◌/◌, ◌%◌, List, [], ◌∷◌, ◌++◌, slice_index, take, drop, map, find, Option, Some, None, option_map, unwrap_or, is_none}
+use Rattle.std.specs.List.{range_with_len}
+use Rattle.rs_code.specs.CodeWord.{differences}
+use Rattle.rs_code.specs.Functions.{encoded, corrected}
+use Rattle.uplink_weave.specs.Woven.{block}
+
+-- the part of a payload that a block carries
+abbrev pub part : ℕ → List ℕ → List ℕ
+part r payload = take 72 (drop (72 * r) payload)
+
+-- the frame of a payload: byte 6k + r on the air is byte k of the code word that begins with part r
+unfoldable pub woven : List ℕ → List ℕ
+woven payload =
+    map (λ place. slice_index (encoded 92 20 120 (part (place % 6) payload)) (place / 6)) (range_with_len 0 552)
+
+-- the code word near a block, where there is one
+unfoldable pub corrected_block : List ℕ → ℕ → Option (List ℕ)
+corrected_block air r = corrected 92 20 120 (block r air)
+
+-- the first 72 bytes of each word, joined, where none is missing
+abbrev pub joined : List (Option (List ℕ)) → Option (List ℕ)
+joined [] = Some []
+joined (None ∷ words) = None
+joined (Some word ∷ words) = option_map (λ rest. take 72 word ++ rest) (joined words)
+
+-- the payload of a frame, where each block has a code word near it
+unfoldable pub payload_in : List ℕ → Option (List ℕ)
+payload_in air = joined (map (corrected_block air) (range_with_len 0 6))
+
+-- in how many places each block differs from the code word near it; 0 where there is none
+unfoldable pub counts_in : List ℕ → List ℕ
+counts_in air =
+    map (λ r. differences (block r air) (unwrap_or (corrected_block air r) (block r air))) (range_with_len 0 6)
+
+-- the first block that no code word is near, where there is one
+unfoldable pub lost_block_in : List ℕ → Option ℕ
+lost_block_in air = find (λ r. is_none (corrected_block air r)) (range_with_len 0 6)
