@@ -1,0 +1,5 @@
+pub mod FrameList
+pub mod HeaderBits
+pub mod Pushed
+pub mod ReadBack
+pub mod Scenes

@@ -1,0 +1,4 @@
+pub mod UplinkFrame
+pub mod AppDataBytes
+pub mod Views
+pub mod Laws

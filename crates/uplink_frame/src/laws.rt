@@ -1,0 +1,8 @@
+//! Laws of the definitions, for the crates above: each is the contract of a function that does nothing.
+ghost use Rattle.uplink_frame.specs.Laws.{PayloadReadsBack};
+
+/// The law that a header and information frames, each of which fits, read back from the payload that is made of them.
+#[inline]
+pub fn payload_reads_back()
+    ensures { PayloadReadsBack }
+{}

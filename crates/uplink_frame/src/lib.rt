@@ -1,0 +1,14 @@
+//! The payload of a ground uplink message (RTCA DO-282B): a header of 8 bytes, and 424 bytes of information frames.
+#![tactic(auto)]
+
+mod app_data;
+mod header;
+mod laws;
+#[cfg(test)]
+mod tests;
+mod walk;
+
+pub use app_data::{AppData, NoRoom};
+pub use header::{UplinkHeader, read_header, write_header};
+pub use laws::payload_reads_back;
+pub use walk::{FrameWalk, InfoFrame, frames};
