@@ -4,3 +4,5 @@ pub mod Characters
 pub mod Joining
 pub mod RoundTrip
 pub mod PlainLemmas
+pub mod ShownTexts
+pub mod Refusals

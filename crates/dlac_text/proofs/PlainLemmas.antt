@@ -28,7 +28,7 @@ unplained-other : (c : ℕ) (text : List ℕ) → c ≢ 92 → unplained (c ∷ 
 unplained-other c [] h = let other : eqb c 92 ≡ false = grind (arith, nat_tests) in rw other refl
 unplained-other c (d ∷ text) h = let other : eqb c 92 ≡ false = grind (arith, nat_tests) in rw other refl
 
-unplained-append : (front rest : List ℕ) → ((i : ℕ) → i < length front → get_or front i 0 ≢ 92) → unplained (front ++ rest) ≡ prefixed front (unplained rest)
+pub unplained-append : (front rest : List ℕ) → ((i : ℕ) → i < length front → get_or front i 0 ≢ 92) → unplained (front ++ rest) ≡ prefixed front (unplained rest)
 unplained-append [] rest h = sym (prefixed-nil (unplained rest))
 unplained-append (c ∷ front) rest h =
     let others = unplained-append front rest (λ i l. h (suc i) (omega arith)) in

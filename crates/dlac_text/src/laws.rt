@@ -1,8 +1,10 @@
 //! Laws of the definitions, for the crates above: each is the contract of a function that does nothing.
-ghost use Rattle.std.specs.Prelude.{◌≡◌, ℕ, ◌+◌, ◌*◌, ◌/◌, ◌<◌, List, [], ◌∷◌, length, All, Some};
+ghost use Rattle.std.specs.Prelude.{◌≡◌, ℕ, ◌+◌, ◌*◌, ◌/◌, ◌<◌, List, [], ◌∷◌, length, All, None, Some};
+ghost use Rattle.std.specs.Str.{chars, IsUtf8};
 ghost use Rattle.dlac_text.specs.Alphabet.{IsDlac};
 ghost use Rattle.dlac_text.specs.Payload.{text_payload};
 ghost use Rattle.dlac_text.specs.Plain.{plain_text, unplained};
+ghost use Rattle.dlac_text.specs.Refusal.{IsSendable, text_refusal};
 ghost use Rattle.dlac_text.specs.Reports.{reports_of};
 
 /// Reading undoes writing: the reports of the payload of a text are that text alone.
@@ -21,4 +23,14 @@ pub fn payload_size()
 /// Reading a plain text undoes showing a report as one.
 pub fn plain_text_reads_back()
     ensures { (text : List ℕ) → IsDlac text → unplained (plain_text text) ≡ Some text }
+{}
+
+/// What a plain text shows is UTF-8, as the plain text is.
+pub fn shown_texts()
+    ensures { (text shown : List ℕ) → IsUtf8 text → unplained text ≡ Some shown → IsUtf8 shown }
+{}
+
+/// A text that is not refused can be sent.
+pub fn refused_texts()
+    ensures { (text : List ℕ) → IsUtf8 text → text_refusal (chars text) ≡ None → IsSendable text }
 {}

@@ -13,7 +13,9 @@ mod text_fault;
 
 pub use decoding::reports;
 pub use encoding::encode_text;
-pub use laws::{payload_size, plain_text_reads_back, reading_undoes_writing};
+pub use laws::{
+    payload_size, plain_text_reads_back, reading_undoes_writing, refused_texts, shown_texts,
+};
 pub use printing::{plain, unplain};
 pub use report_text::Report;
 pub use text_fault::TextFault;

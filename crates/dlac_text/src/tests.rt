@@ -1,6 +1,6 @@
 use crate::{
     Report, TextFault, encode_text, payload_size, plain, plain_text_reads_back,
-    reading_undoes_writing, reports, unplain,
+    reading_undoes_writing, refused_texts, reports, shown_texts, unplain,
 };
 use std::alloc::{AllocError, Global};
 use std::test::Fail;
@@ -59,6 +59,7 @@ fn first_character_outside_the_alphabet_is_named(rt: HostRuntime) {
 
 #[test]
 fn greatest_text_is_taken(rt: HostRuntime) -> Result<(), Fail> {
+    refused_texts();
     let greatest = repeated(rt.alloc(), 16_384)?;
     let text = greatest.as_str();
     assert_eq!(rt; text.len(), 16_384);
@@ -73,6 +74,7 @@ fn greatest_text_is_taken(rt: HostRuntime) -> Result<(), Fail> {
 #[test]
 fn report_is_shown_on_one_line(rt: HostRuntime) -> Result<(), Fail> {
     plain_text_reads_back();
+    shown_texts();
     let bytes = encode_text(rt.alloc(), "A\nB\u{1A}")?;
     let found = reports(rt.alloc(), bytes.all())?;
     assert_eq!(rt; found.len(), 1);
