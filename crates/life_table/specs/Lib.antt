@@ -1,0 +1,6 @@
+pub mod LifeTable
+pub mod Rules
+pub mod Document
+pub mod RowsOf
+pub mod TableIn
+pub mod Views

@@ -1,0 +1,58 @@
+-- How long weather lives, and in which form its time is sent. Lives are seconds.
+use Rattle.std.specs.Prelude.{ℕ, ◌==◌, if◌then◌else◌, List, [], ◌∷◌, map, filter, fold, max, find, Option, Some, None, codes}
+use Rattle.std.specs.Str.{bytes_eq}
+use Rattle.fisb_time.specs.declared.form.TimeForm.{TimeForm}
+use Rattle.fisb_time.specs.declared.form.TimeForm.TheVariants.{Minute, DayMinute}
+
+-- a type of report: the type that keys name, how many words make a key, the life, the form
+pub record TextRow : Type 0 where
+  pub word : List ℕ
+  pub kind : List ℕ
+  pub words : ℕ
+  pub life : ℕ
+  pub form : TimeForm
+
+pub record RadarRow : Type 0 where
+  pub product : ℕ
+  pub life : ℕ
+  pub form : TimeForm
+
+-- late: how long after it was sent a frame may be heard
+pub record LifeTable : Type 0 where
+  pub late : ℕ
+  pub texts : List TextRow
+  pub radars : List RadarRow
+
+abbrev pub row : List ℕ → List ℕ → ℕ → ℕ → TimeForm → TextRow
+row word kind words life form = record { word = word; kind = kind; words = words; life = life; form = form }
+
+abbrev pub radar : ℕ → ℕ → TimeForm → RadarRow
+radar product life form = record { product = product; life = life; form = form }
+
+-- the table that holds where none is given; a SPECI is kept as a METAR, an amended TAF as a TAF
+unfoldable pub default_table : LifeTable
+default_table = record {
+  late = 600;
+  texts = row (codes "METAR") (codes "METAR") 2 7200 Minute ∷ row (codes "SPECI") (codes "METAR") 2 7200 Minute
+      ∷ row (codes "TAF") (codes "TAF") 2 28800 Minute ∷ row (codes "TAF.AMD") (codes "TAF") 2 28800 Minute
+      ∷ row (codes "PIREP") (codes "PIREP") 3 10800 Minute ∷ row (codes "WINDS") (codes "WINDS") 3 86400 DayMinute ∷ [];
+  radars = radar 63 1200 Minute ∷ radar 64 2700 Minute ∷ [];
+}
+
+-- the row of reports that begin with this word
+abbrev pub text_row : LifeTable → List ℕ → Option TextRow
+text_row table word = find (λ r. bytes_eq r.word word) table.texts
+
+-- the row of a radar product
+abbrev pub radar_row : LifeTable → ℕ → Option RadarRow
+radar_row table product = find (λ r. r.product == product) table.radars
+
+-- the greatest number, where there is one
+abbrev pub greatest_of : List ℕ → Option ℕ
+greatest_of [] = None
+greatest_of (n ∷ more) = Some (fold max n more)
+
+-- the greatest life of a product's rows; reports are product 413
+abbrev pub longest : LifeTable → ℕ → Option ℕ
+longest table product = if product == 413 then greatest_of (map (λ r. r.life) table.texts)
+    else greatest_of (map (λ r. r.life) (filter (λ r. r.product == product) table.radars))

@@ -1,0 +1,18 @@
+//! How long weather lives, and in which form its time is sent: the table of lives, by the first word of a report and by
+//! the product of a radar block, and the TOML document that it is read from.
+#![tactic(auto)]
+
+mod document;
+mod entries;
+mod fault;
+mod laws;
+mod rows;
+mod table;
+
+pub use fault::{RowFault, TableFault};
+pub use laws::{longest_is_greatest, tables_keep_rules};
+pub use rows::{RadarRow, TextRow};
+pub use table::LifeTable;
+
+#[cfg(test)]
+mod tests;

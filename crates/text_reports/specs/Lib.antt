@@ -1,0 +1,2 @@
+pub mod TextKey
+pub mod Views

@@ -1,0 +1,12 @@
+//! What names a report of weather: its type, its place, and for some types a third word.
+#![tactic(auto)]
+
+mod key;
+mod word;
+mod words;
+
+pub use key::{KeyFault, TextKey, key_of, order_of_keys};
+pub use word::Word;
+
+#[cfg(test)]
+mod tests;
