@@ -1,0 +1,14 @@
+pub mod Entry
+pub mod Item
+pub mod Ground
+pub mod Receiver
+pub mod Membership
+pub mod Picture
+pub mod Shown
+pub mod LinkPicture
+pub mod Station
+pub mod Update
+pub mod History
+pub mod Unread
+pub mod SoundFrames
+pub mod LongerHistories
