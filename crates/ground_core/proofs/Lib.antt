@@ -1,0 +1,12 @@
+pub mod ListLemmas
+pub mod PlaceLemmas
+pub mod KeyLemmas
+pub mod GiftLemmas
+pub mod LineLemmas
+pub mod LineSteps
+pub mod NewestLemmas
+pub mod RefusalLemmas
+pub mod StateLemmas
+pub mod AiringLemmas
+pub mod GroundLemmas
+pub mod JudgedLemmas

@@ -1,0 +1,5 @@
+pub mod Waiting
+pub mod Waits
+pub mod Views
+pub mod Refusal
+pub mod StandsFor
