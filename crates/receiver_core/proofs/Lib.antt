@@ -1,0 +1,5 @@
+mod Keeping
+mod Unsegmented
+mod Places
+mod Lives
+mod Steps
