@@ -1,0 +1,15 @@
+-- What a line is, by its first field.
+use Rattle.std.proofs.Common.{◌≡◌, ◌<◌, ℕ, true, false, List, [], ◌∷◌, length, codes, arith, refl, ap, ◌∙◌}
+use Rattle.script_core.specs.Fields.{fields, line_of, line_of_fields, text_line, other_line, is_word}
+
+pub line_of-fields : (bytes : List ℕ) → 0 < length bytes → line_of bytes ≡ line_of_fields (fields bytes)
+line_of-fields [] some = absurd (omega arith)
+line_of-fields (b ∷ more) some = refl
+
+pub line_of_text : (bytes word : List ℕ) (others : List (List ℕ)) → 0 < length bytes → fields bytes ≡ word ∷ others → is_word word (codes "text") ≡ true
+    → line_of bytes ≡ text_line others
+line_of_text bytes word others some cut is_text = line_of-fields bytes some ∙ ap line_of_fields cut ∙ rw is_text
+
+pub line_of_other : (bytes word : List ℕ) (others : List (List ℕ)) → 0 < length bytes → fields bytes ≡ word ∷ others → is_word word (codes "text") ≡ false
+    → line_of bytes ≡ other_line word others
+line_of_other bytes word others some cut other = line_of-fields bytes some ∙ ap line_of_fields cut ∙ rw other

@@ -1,0 +1,205 @@
+-- What a line says is within its ranges.
+use Rattle.std.proofs.Common.{◌≡◌, ℕ, ◌<◌, ◌≤◌, ◌^◌, Bool, true, false, ◌&&◌, nat_le, cond, List, [], ◌∷◌, Option, Some, None, length, length-append, codes, refl, ap, subst, arith, inl, inr, lit<}
+use Rattle.std.proofs.lemmas.Bool.{cases_Bool, cond_both}
+use Rattle.std.proofs.lemmas.Bool.Decides.{nat_tests}
+use Rattle.std.proofs.lemmas.List.Splits.{join_with_byte-slice_split}
+use Rattle.std.proofs.lemmas.Str.{IsUtf8-from_is_utf8}
+use Rattle.std.specs.List.{join_with_byte}
+use Rattle.std.specs.Option.{IfSome}
+use Rattle.std.specs.Str.{is_utf8, IsUtf8}
+use Rattle.fisb_time.specs.Moment.{IsMoment, first_moment, last_moment}
+use Rattle.dlac_text.specs.Plain.{unplained}
+use Rattle.script_core.specs.Fields.{◌>>=◌, fields, is_word, is_number, digits_value, number_within, moment_in, report_in, unbuilt_where, are_places, is_radar, is_blank, is_rx, station_line, text_line, turn_line, heard_line, hear_line, show_line, other_line, line_of_fields, line_of}
+use Rattle.script_core.specs.Laws.{LinesHaveRanges}
+use Rattle.script_core.specs.LineView.{HasRanges}
+use Rattle.script_core.specs.Script.{Line, station, text, turn, show}
+use Rattle.script_core.proofs.ReportTexts.{report_size}
+
+-- what a plain text shows is UTF-8, as the plain text is
+abbrev ShowsUtf8 : Type 0
+ShowsUtf8 = (plain shown : List ℕ) → IsUtf8 plain → unplained plain ≡ Some shown → IsUtf8 shown
+
+-- a line, if there is one, is within its ranges
+abbrev IsRanged : ℕ → Option Line → Type 0
+IsRanged size line = IfSome line (HasRanges size)
+
+number_where : (b : Bool) (low high n : ℕ) → IfSome (cond (b && nat_le low n && nat_le n high) (Some n) None) (λ m. (low ≤ m) × (m ≤ high))
+number_where b low high n =
+    elim (cases_Bool (b && nat_le low n && nat_le n high)) [
+      | inl holds ↦ rw holds (grind (arith, nat_tests), grind (arith, nat_tests))
+      | inr fails ↦ rw fails tt
+    ]
+
+number_bounds : (low high : ℕ) (field : List ℕ) → IfSome (number_within low high field) (λ m. (low ≤ m) × (m ≤ high))
+number_bounds low high field = number_where (is_number field) low high (digits_value field)
+
+lower : (high bound : ℕ) (number : Option ℕ) → high < bound → IfSome number (λ m. (0 ≤ m) × (m ≤ high)) → IfSome number (λ m. m < bound)
+lower high bound None below h = tt
+lower high bound (Some n) below h = let most : n ≤ high = h.1 in omega (arith, most)
+
+number_below : (high bound : ℕ) (field : List ℕ) → high < bound → IfSome (number_within 0 high field) (λ m. m < bound)
+number_below high bound field below = lower high bound (number_within 0 high field) below (number_bounds 0 high field)
+
+moment_range : (field : List ℕ) → IfSome (moment_in field) IsMoment
+moment_range field = number_bounds first_moment last_moment field
+
+unbuilt_ranged : (size : ℕ) (is_form : Bool) → IsRanged size (unbuilt_where is_form)
+unbuilt_ranged size true = tt
+unbuilt_ranged size false = tt
+
+-- each line, by what its fields spell
+abbrev station_by : Option ℕ → Option ℕ → Option ℕ → Option Line
+station_by latitude longitude site = do
+  a ← latitude
+  o ← longitude
+  s ← site
+  Some (station a o s)
+
+station_by_ranged : (size : ℕ) (latitude longitude site : Option ℕ) → IfSome latitude (λ n. n < 2 ^ 23) → IfSome longitude (λ n. n < 2 ^ 24) → IfSome site (λ n. n < 16)
+    → IsRanged size (station_by latitude longitude site)
+station_by_ranged size None longitude site a o s = tt
+station_by_ranged size (Some latitude) None site a o s = tt
+station_by_ranged size (Some latitude) (Some longitude) None a o s = tt
+station_by_ranged size (Some latitude) (Some longitude) (Some site) a o s = (a, o, s)
+
+station_ranged : (size : ℕ) (rest : List (List ℕ)) → IsRanged size (station_line rest)
+station_ranged size [] = tt
+station_ranged size (latitude ∷ []) = tt
+station_ranged size (latitude ∷ longitude ∷ []) = tt
+station_ranged size (latitude ∷ longitude ∷ site ∷ []) =
+    station_by_ranged size (number_within 0 8388607 latitude) (number_within 0 16777215 longitude) (number_within 0 15 site)
+    (number_below 8388607 (2 ^ 23) latitude (lit< tt)) (number_below 16777215 (2 ^ 24) longitude (lit< tt)) (number_below 15 16 site (lit< tt))
+station_ranged size (latitude ∷ longitude ∷ site ∷ more ∷ others) = tt
+
+abbrev turn_by : Option ℕ → Option ℕ → Option Line
+turn_by moment slot = do
+  m ← moment
+  s ← slot
+  Some (turn m s)
+
+turn_by_ranged : (size : ℕ) (moment slot : Option ℕ) → IfSome moment IsMoment → IfSome slot (λ n. n < 32) → IsRanged size (turn_by moment slot)
+turn_by_ranged size None slot m s = tt
+turn_by_ranged size (Some moment) None m s = tt
+turn_by_ranged size (Some moment) (Some slot) m s = (m, s)
+
+turn_ranged : (size : ℕ) (rest : List (List ℕ)) → IsRanged size (turn_line rest)
+turn_ranged size [] = tt
+turn_ranged size (moment ∷ []) = tt
+turn_ranged size (moment ∷ slot ∷ []) =
+    turn_by_ranged size (moment_in moment) (number_within 0 31 slot) (moment_range moment) (number_below 31 32 slot (lit< tt))
+turn_ranged size (moment ∷ slot ∷ more ∷ others) = tt
+
+heard_ranged : (size moment frame : ℕ) (places : List (List ℕ)) → IsMoment moment → frame < 2 ^ 32 → IsRanged size (heard_line moment frame places)
+heard_ranged size moment frame [] m f = (m, f)
+heard_ranged size moment frame (place ∷ others) m f = unbuilt_ranged size (are_places (place ∷ others))
+
+abbrev hear_by : Option ℕ → Option ℕ → List (List ℕ) → Option Line
+hear_by moment frame places = do
+  m ← moment
+  f ← frame
+  heard_line m f places
+
+hear_by_ranged : (size : ℕ) (moment frame : Option ℕ) (places : List (List ℕ)) → IfSome moment IsMoment → IfSome frame (λ n. n < 2 ^ 32)
+    → IsRanged size (hear_by moment frame places)
+hear_by_ranged size None frame places m f = tt
+hear_by_ranged size (Some moment) None places m f = tt
+hear_by_ranged size (Some moment) (Some frame) places m f = heard_ranged size moment frame places m f
+
+hear_ranged : (size : ℕ) (rest : List (List ℕ)) → IsRanged size (hear_line rest)
+hear_ranged size [] = tt
+hear_ranged size (moment ∷ []) = tt
+hear_ranged size (moment ∷ frame ∷ places) =
+    hear_by_ranged size (moment_in moment) (number_within 0 4294967295 frame) places (moment_range moment) (number_below 4294967295 (2 ^ 32) frame (lit< tt))
+
+abbrev show_by : Option ℕ → Option Line
+show_by moment = do
+  m ← moment
+  Some (show m)
+
+show_by_ranged : (size : ℕ) (moment : Option ℕ) → IfSome moment IsMoment → IsRanged size (show_by moment)
+show_by_ranged size None m = tt
+show_by_ranged size (Some moment) m = m
+
+show_ranged : (size : ℕ) (rest : List (List ℕ)) → IsRanged size (show_line rest)
+show_ranged size [] = tt
+show_ranged size (moment ∷ []) = show_by_ranged size (moment_in moment) (moment_range moment)
+show_ranged size (moment ∷ more ∷ others) = tt
+
+-- a report is UTF-8, and no longer than the line
+abbrev IsReport : ℕ → List ℕ → Type 0
+IsReport size report = IsUtf8 report × (length report ≤ size)
+
+abbrev text_by : Option ℕ → Option ℕ → Option (List ℕ) → Option Line
+text_by moment version report = do
+  m ← moment
+  v ← version
+  r ← report
+  Some (text m v r)
+
+text_by_ranged : (size : ℕ) (moment version : Option ℕ) (report : Option (List ℕ)) → IfSome moment IsMoment → IfSome version IsMoment → IfSome report (IsReport size)
+    → IsRanged size (text_by moment version report)
+text_by_ranged size None version report m v r = tt
+text_by_ranged size (Some moment) None report m v r = tt
+text_by_ranged size (Some moment) (Some version) None m v r = tt
+text_by_ranged size (Some moment) (Some version) (Some report) m v r = (m, v, r.0, r.1)
+
+where_utf8 : ShowsUtf8 → (bytes shown : List ℕ) → report_in bytes ≡ Some shown → IsUtf8 shown
+where_utf8 law bytes shown e =
+    elim (cases_Bool (is_utf8 bytes)) [
+      | inl holds ↦ (let same : unplained bytes ≡ Some shown = rw holds at e in law bytes shown (IsUtf8-from_is_utf8 bytes holds) same)
+      | inr fails ↦ absurd (let none = rw fails at e in cc)
+    ]
+
+where_some : (size : ℕ) (report : Option (List ℕ)) → ((shown : List ℕ) → report ≡ Some shown → IsReport size shown) → IfSome report (IsReport size)
+where_some size None h = tt
+where_some size (Some shown) h = h shown refl
+
+report_ranged : ShowsUtf8 → (size : ℕ) (bytes : List ℕ) → length bytes ≤ size → IfSome (report_in bytes) (IsReport size)
+report_ranged law size bytes fits =
+    where_some size (report_in bytes)
+    (λ shown e. let short = report_size bytes shown e in (where_utf8 law bytes shown e, omega (arith, short)))
+
+-- the parts behind the first are no longer, joined, than all
+joined_behind : (part : List ℕ) (others : List (List ℕ)) → length (join_with_byte 32 others) ≤ length (join_with_byte 32 (part ∷ others))
+joined_behind part [] = omega arith
+joined_behind part (next ∷ more) =
+    let whole = length-append part (32 ∷ join_with_byte 32 (next ∷ more)) in
+    omega (arith, whole)
+
+text_ranged : ShowsUtf8 → (size : ℕ) (rest : List (List ℕ)) → length (join_with_byte 32 rest) ≤ size → IsRanged size (text_line rest)
+text_ranged law size [] fits = tt
+text_ranged law size (moment ∷ []) fits = tt
+text_ranged law size (moment ∷ version ∷ []) fits = tt
+text_ranged law size (moment ∷ version ∷ word ∷ rest) fits =
+    let one = joined_behind moment (version ∷ word ∷ rest) in
+    let two = joined_behind version (word ∷ rest) in
+    text_by_ranged size (moment_in moment) (moment_in version) (report_in (join_with_byte 32 (word ∷ rest))) (moment_range moment) (moment_range version)
+    (report_ranged law size (join_with_byte 32 (word ∷ rest)) (omega (arith, one, two, fits)))
+
+either_ranged : (size : ℕ) (b : Bool) (one other : Option Line) → IsRanged size one → IsRanged size other → IsRanged size (cond b one other)
+either_ranged size b one other h k = cond_both b one other (IsRanged size) (λ e. h) (λ e. k)
+
+other_ranged : (size : ℕ) (word : List ℕ) (rest : List (List ℕ)) → IsRanged size (other_line word rest)
+other_ranged size word rest =
+    either_ranged size (is_word word (codes "station")) (station_line rest) _ (station_ranged size rest)
+    (either_ranged size (is_word word (codes "radar")) (unbuilt_where (is_radar rest)) _ (unbuilt_ranged size (is_radar rest))
+    (either_ranged size (is_word word (codes "blank")) (unbuilt_where (is_blank rest)) _ (unbuilt_ranged size (is_blank rest))
+    (either_ranged size (is_word word (codes "turn")) (turn_line rest) _ (turn_ranged size rest)
+    (either_ranged size (is_word word (codes "hear")) (hear_line rest) _ (hear_ranged size rest)
+    (either_ranged size (is_word word (codes "rx")) (unbuilt_where (is_rx rest)) _ (unbuilt_ranged size (is_rx rest))
+    (either_ranged size (is_word word (codes "show")) (show_line rest) None (show_ranged size rest) tt))))))
+
+fields_ranged : ShowsUtf8 → (size : ℕ) (parts : List (List ℕ)) → length (join_with_byte 32 parts) ≤ size → IsRanged size (line_of_fields parts)
+fields_ranged law size [] fits = tt
+fields_ranged law size (word ∷ rest) fits =
+    let behind = joined_behind word rest in
+    either_ranged size (is_word word (codes "text")) (text_line rest) (other_line word rest) (text_ranged law size rest (omega (arith, behind, fits))) (other_ranged size word rest)
+
+line_ranged : ShowsUtf8 → (bytes : List ℕ) → IsRanged (length bytes) (line_of bytes)
+line_ranged law [] = tt
+line_ranged law (b ∷ bytes) =
+    let whole = ap length (join_with_byte-slice_split 32 (b ∷ bytes)) in
+    fields_ranged law (length (b ∷ bytes)) (fields (b ∷ bytes)) (omega (arith, whole))
+
+pub ranges_of_lines : ShowsUtf8 → LinesHaveRanges
+ranges_of_lines law bytes line e = subst (IsRanged (length bytes)) e (line_ranged law bytes)

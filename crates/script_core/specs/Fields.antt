@@ -1,0 +1,207 @@
+-- The forms of the lines of a script: a word, and fields with exactly one space between them.
+use Rattle.std.specs.Prelude.{ℕ, ◌+◌, ◌-◌, ◌*◌, Bool, true, false, not, ◌&&◌, ◌||◌, ◌==◌, nat_lt, nat_le, if◌then◌else◌, List, [], ◌∷◌, length, fold, Option, Some, None, option_and_then, is_some, codes}
+use Rattle.std.specs.Char.{is_ascii_digit, is_ascii_hexdigit}
+use Rattle.std.specs.Int.{is_in_range}
+use Rattle.std.specs.List.{slice_split, join_with_byte, list_all, before_first, after_first}
+use Rattle.std.specs.Option.{option_map_or}
+use Rattle.std.specs.Str.{bytes_eq, is_utf8}
+use Rattle.fisb_time.specs.Moment.{first_moment, last_moment}
+use Rattle.dlac_text.specs.Plain.{unplained}
+use Rattle.script_core.specs.Script.{Line, empty, station, text, turn, hear, show, unbuilt}
+
+infixl 10 ◌>>=◌
+abbrev pub ◌>>=◌ : {A B : Type 0} → Option A → (A → Option B) → Option B
+o >>= f = option_and_then f o
+
+-- the fields of a line
+abbrev pub fields : List ℕ → List (List ℕ)
+fields line = slice_split (λ b. b == 32) line
+
+abbrev pub is_word : List ℕ → List ℕ → Bool
+is_word field word = bytes_eq field word
+
+-- a number is decimal digits without a leading zero, except 0 itself
+abbrev pub has_leading_zero : List ℕ → Bool
+has_leading_zero [] = false
+has_leading_zero (b ∷ []) = false
+has_leading_zero (b ∷ c ∷ more) = b == 48
+
+abbrev pub is_number : List ℕ → Bool
+is_number field = nat_lt 0 (length field) && list_all is_ascii_digit field && not (has_leading_zero field)
+
+abbrev pub digits_value : List ℕ → ℕ
+digits_value field = fold (λ value digit. 10 * value + (digit - 48)) 0 field
+
+-- the number that a field spells, where it spells one from low to high
+abbrev pub number_within : ℕ → ℕ → List ℕ → Option ℕ
+number_within low high field = if is_number field && nat_le low (digits_value field) && nat_le (digits_value field) high then Some (digits_value field) else None
+
+-- MOMENT and VERSION
+abbrev pub moment_in : List ℕ → Option ℕ
+moment_in field = number_within first_moment last_moment field
+
+abbrev pub is_moment : List ℕ → Bool
+is_moment field = is_some (moment_in field)
+
+-- a field that spells a number from 0 to the greatest one
+abbrev pub is_up_to : ℕ → List ℕ → Bool
+is_up_to greatest field = is_some (number_within 0 greatest field)
+
+-- HEMI: north or south
+abbrev pub is_hemisphere : List ℕ → Bool
+is_hemisphere field = is_word field (codes "n") || is_word field (codes "s")
+
+-- CELLS: the 128 intensities of a block, from 0 to 7
+abbrev pub is_cells : List ℕ → Bool
+is_cells field = (length field == 128) && list_all (is_in_range 48 55) field
+
+-- the number of a block
+abbrev pub is_block_number : List ℕ → Bool
+is_block_number field = is_up_to 1048575 field
+
+-- NUMBERS: one number of a block or more, joined by commas
+abbrev pub is_numbers : List ℕ → Bool
+is_numbers field = list_all is_block_number (slice_split (λ b. b == 44) field)
+
+-- so many hexadecimal digits, of either case
+abbrev pub is_hex : ℕ → List ℕ → Bool
+is_hex digits field = (length field == digits) && list_all is_ascii_hexdigit field
+
+-- PLACE=XX: the place of a frame, where one stands before the first equals sign and a byte behind it
+abbrev pub place_in : List ℕ → Option ℕ
+place_in field = if is_hex 2 (after_first (λ b. b == 61) field) then number_within 0 551 (before_first (λ b. b == 61) field) else None
+
+-- the places of fields that are all of that form
+abbrev pub places_in : List (List ℕ) → Option (List ℕ)
+places_in [] = Some []
+places_in (field ∷ others) = do
+  place ← place_in field
+  places ← places_in others
+  Some (place ∷ places)
+
+-- each number is below the next one
+abbrev pub rises : List ℕ → Bool
+rises [] = true
+rises (number ∷ []) = true
+rises (number ∷ next ∷ more) = nat_lt number next && rises (next ∷ more)
+
+-- any number of PLACE=XX, whose places rise
+abbrev pub are_places : List (List ℕ) → Bool
+are_places others = option_map_or rises (places_in others) false
+
+-- as many fields as forms, and each of its form
+abbrev pub have_forms : List (List ℕ → Bool) → List (List ℕ) → Bool
+have_forms [] [] = true
+have_forms [] (field ∷ others) = false
+have_forms (is_form ∷ forms) [] = false
+have_forms (is_form ∷ forms) (field ∷ others) = is_form field && have_forms forms others
+
+-- `station LAT LON SITE`
+abbrev pub station_line : List (List ℕ) → Option Line
+station_line [] = None
+station_line (latitude ∷ []) = None
+station_line (latitude ∷ longitude ∷ []) = None
+station_line (latitude ∷ longitude ∷ site ∷ []) = do
+  a ← number_within 0 8388607 latitude
+  o ← number_within 0 16777215 longitude
+  s ← number_within 0 15 site
+  Some (station a o s)
+station_line (latitude ∷ longitude ∷ site ∷ more ∷ others) = None
+
+-- `text MOMENT VERSION REPORT`, where REPORT is all of the line behind the third space, UTF-8, and shows a text
+abbrev pub report_in : List ℕ → Option (List ℕ)
+report_in bytes = if is_utf8 bytes then unplained bytes else None
+
+abbrev pub text_line : List (List ℕ) → Option Line
+text_line [] = None
+text_line (moment ∷ []) = None
+text_line (moment ∷ version ∷ []) = None
+text_line (moment ∷ version ∷ word ∷ rest) = do
+  m ← moment_in moment
+  v ← moment_in version
+  report ← report_in (join_with_byte 32 (word ∷ rest))
+  Some (text m v report)
+
+-- a line that is of its form, and no more
+abbrev pub unbuilt_where : Bool → Option Line
+unbuilt_where is_form = if is_form then Some unbuilt else None
+
+-- `radar MOMENT VERSION PRODUCT SCALE HEMI NUMBER CELLS`
+abbrev pub is_radar : List (List ℕ) → Bool
+is_radar rest = have_forms (is_moment ∷ is_moment ∷ is_up_to 2047 ∷ is_up_to 3 ∷ is_hemisphere ∷ is_block_number ∷ is_cells ∷ []) rest
+
+-- `blank MOMENT VERSION PRODUCT SCALE HEMI NUMBERS`
+abbrev pub is_blank : List (List ℕ) → Bool
+is_blank rest = have_forms (is_moment ∷ is_moment ∷ is_up_to 2047 ∷ is_up_to 3 ∷ is_hemisphere ∷ is_numbers ∷ []) rest
+
+-- `turn MOMENT SLOT`
+abbrev pub turn_line : List (List ℕ) → Option Line
+turn_line [] = None
+turn_line (moment ∷ []) = None
+turn_line (moment ∷ slot ∷ []) = do
+  m ← moment_in moment
+  s ← number_within 0 31 slot
+  Some (turn m s)
+turn_line (moment ∷ slot ∷ more ∷ others) = None
+
+-- `hear MOMENT FRAME`, and any number of ` PLACE=XX` with rising places
+abbrev pub heard_line : ℕ → ℕ → List (List ℕ) → Option Line
+heard_line moment frame [] = Some (hear moment frame)
+heard_line moment frame (place ∷ others) = unbuilt_where (are_places (place ∷ others))
+
+abbrev pub hear_line : List (List ℕ) → Option Line
+hear_line [] = None
+hear_line (moment ∷ []) = None
+hear_line (moment ∷ frame ∷ places) = do
+  m ← moment_in moment
+  f ← number_within 0 4294967295 frame
+  heard_line m f places
+
+-- `rx MOMENT HEX`, with the 552 bytes of a frame
+abbrev pub is_rx : List (List ℕ) → Bool
+is_rx rest = have_forms (is_moment ∷ is_hex 1104 ∷ []) rest
+
+-- `show MOMENT`
+abbrev pub show_line : List (List ℕ) → Option Line
+show_line [] = None
+show_line (moment ∷ []) = do
+  m ← moment_in moment
+  Some (show m)
+show_line (moment ∷ more ∷ others) = None
+
+-- the line of a word other than `text`
+abbrev pub other_line : List ℕ → List (List ℕ) → Option Line
+other_line word rest = if is_word word (codes "station") then station_line rest
+    else (if is_word word (codes "radar") then unbuilt_where (is_radar rest)
+    else (if is_word word (codes "blank") then unbuilt_where (is_blank rest)
+    else (if is_word word (codes "turn") then turn_line rest
+    else (if is_word word (codes "hear") then hear_line rest
+    else (if is_word word (codes "rx") then unbuilt_where (is_rx rest)
+    else (if is_word word (codes "show") then show_line rest else None))))))
+
+-- the line that its fields spell
+abbrev pub line_of_fields : List (List ℕ) → Option Line
+line_of_fields [] = None
+line_of_fields (word ∷ rest) = if is_word word (codes "text") then text_line rest else other_line word rest
+
+-- the line that some bytes without a newline are; None where they are of no line's form
+abbrev pub line_of : List ℕ → Option Line
+line_of [] = Some empty
+line_of (b ∷ bytes) = line_of_fields (fields (b ∷ bytes))
+
+-- whether the first field is `text`: the only word whose line takes memory
+abbrev pub begins_with_text : List (List ℕ) → Bool
+begins_with_text [] = false
+begins_with_text (word ∷ rest) = is_word word (codes "text")
+
+-- the parts between a separator's places in what is left of some bytes, and how many bytes are left; None where none is
+abbrev pub parts_left : ℕ → Option (List ℕ) → List (List ℕ)
+parts_left separator None = []
+parts_left separator (Some bytes) = slice_split (λ b. b == separator) bytes
+
+abbrev pub fields_left : Option (List ℕ) → List (List ℕ)
+fields_left rest = parts_left 32 rest
+
+abbrev pub bytes_left : Option (List ℕ) → ℕ
+bytes_left None = 0
+bytes_left (Some bytes) = length bytes

@@ -1,0 +1,5 @@
+pub mod Script
+pub mod Fields
+pub mod LineView
+pub mod FieldForm
+pub mod Laws

@@ -1,0 +1,18 @@
+//! The lines of a script: what one line says, or that it is of no line's form.
+#![tactic(auto)]
+
+mod field_form;
+mod fields;
+mod forms;
+mod kinds;
+mod laws;
+mod places;
+mod reading;
+mod script_line;
+
+pub use laws::ranges_of_lines;
+pub use reading::read_line;
+pub use script_line::{Line, LineFault};
+
+#[cfg(test)]
+mod tests;

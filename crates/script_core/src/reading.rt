@@ -1,0 +1,118 @@
+//! Reads one line of a script.
+ghost use Rattle.std.specs.Prelude.{◌≡◌, ℕ, ◌≤◌, IfOk, IfSome, IsTrue, None, Some, length, option_copied, option_map};
+ghost use Rattle.std.specs.String.{string_bytes};
+ghost use Rattle.script_core.specs.Fields.{fields, fields_left, bytes_left, line_of, text_line, report_in, other_line, unbuilt_where, begins_with_text};
+ghost use Rattle.script_core.specs.LineView.{line_view, HasRanges};
+
+use crate::fields::{is_word, next_field, read_moment};
+use crate::forms::{is_blank, is_radar, is_rx};
+use crate::kinds::{read_hear, read_show, read_station, read_turn};
+use crate::script_line::{Line, LineFault};
+use dlac_text::unplain;
+use std::alloc::Global;
+
+/// The line that some bytes without a newline are.
+///
+/// # Errors
+///
+/// `Syntax` where the bytes are of no line's form; `NoMemory` where memory runs out, which only the report of a
+/// `text` line takes.
+pub fn read_line(alloc: Global, line: &[u8]) -> Result<Line, LineFault>
+    ensures line { IfOk result (λ read. line_of line.now ≡ Some (line_view read)) }
+    ensures syntax { result ≡ Err LineFault.Syntax → line_of line.now ≡ None }
+    ensures no_memory { result ≡ Err LineFault.NoMemory → IsTrue (begins_with_text (fields line.now)) }
+    ensures ranges { IfOk result (λ read. HasRanges (length line.now) (line_view read)) }
+{
+    if line.is_empty() {
+        return Ok(Line::Nothing);
+    }
+    let Some((word, rest)) = next_field(Some(line)) else {
+        return Err(LineFault::Syntax);
+    };
+    if is_word(word, "text") {
+        return read_text(alloc, rest);
+    }
+    match read_other(word, rest) {
+        Some(read) => Ok(read),
+        None => Err(LineFault::Syntax),
+    }
+}
+
+/// `text MOMENT VERSION REPORT`
+fn read_text(alloc: Global, rest: Option<&[u8]>) -> Result<Line, LineFault>
+    ensures line { IfOk result (λ read. text_line (fields_left (option_copied rest.entry)) ≡ Some (line_view read)) }
+    ensures syntax { result ≡ Err LineFault.Syntax → text_line (fields_left (option_copied rest.entry)) ≡ None }
+    ensures ranges { (size : ℕ) → bytes_left (option_copied rest.entry) ≤ size
+        → IfOk result (λ read. HasRanges size (line_view read)) }
+{
+    let Some((moment, rest)) = next_field(rest) else {
+        return Err(LineFault::Syntax);
+    };
+    let Some((version, rest)) = next_field(rest) else {
+        return Err(LineFault::Syntax);
+    };
+    let Some(report) = rest else {
+        return Err(LineFault::Syntax);
+    };
+    let Some(moment) = read_moment(moment) else {
+        return Err(LineFault::Syntax);
+    };
+    let Some(version) = read_moment(version) else {
+        return Err(LineFault::Syntax);
+    };
+    match read_report(alloc, report) {
+        Ok(report) => Ok(Line::Text {
+            moment,
+            version,
+            report,
+        }),
+        Err(fault) => Err(fault),
+    }
+}
+
+/// The text that a REPORT shows.
+fn read_report(alloc: Global, bytes: &[u8]) -> Result<String, LineFault>
+    ensures report { IfOk result (λ report. report_in bytes.now ≡ Some (string_bytes report)) }
+    ensures syntax { result ≡ Err LineFault.Syntax → report_in bytes.now ≡ None }
+{
+    let Ok(shown) = str::from_utf8(bytes) else {
+        return Err(LineFault::Syntax);
+    };
+    match unplain(alloc, shown) {
+        Ok(Some(report)) => Ok(report),
+        Ok(None) => Err(LineFault::Syntax),
+        Err(_) => Err(LineFault::NoMemory),
+    }
+}
+
+/// A line of another word than `text`.
+fn read_other(word: &[u8], rest: Option<&[u8]>) -> Option<Line>
+    ensures line { option_map line_view result ≡ other_line word.now (fields_left (option_copied rest.entry)) }
+    ensures ranges { (size : ℕ) → IfSome result (λ read. HasRanges size (line_view read)) }
+{
+    if is_word(word, "station") {
+        read_station(rest)
+    } else if is_word(word, "radar") {
+        unbuilt_where(is_radar(rest))
+    } else if is_word(word, "blank") {
+        unbuilt_where(is_blank(rest))
+    } else if is_word(word, "turn") {
+        read_turn(rest)
+    } else if is_word(word, "hear") {
+        read_hear(rest)
+    } else if is_word(word, "rx") {
+        unbuilt_where(is_rx(rest))
+    } else if is_word(word, "show") {
+        read_show(rest)
+    } else {
+        None
+    }
+}
+
+/// A line that is of its form, and no more.
+fn unbuilt_where(is_form: bool) -> Option<Line>
+    ensures line { option_map line_view result ≡ unbuilt_where is_form }
+    ensures ranges { (size : ℕ) → IfSome result (λ read. HasRanges size (line_view read)) }
+{
+    if is_form { Some(Line::Unbuilt) } else { None }
+}

@@ -1,0 +1,309 @@
+use crate::{Line, LineFault, ranges_of_lines, read_line};
+use std::alloc::{AllocError, Global};
+use std::process::Abort;
+use std::test::Fail;
+
+const HEAD: &str = "1700000000 1699999980 64 0 n";
+
+#[test]
+fn nothing_and_stations_are_read(rt: HostRuntime) -> Result<(), Fail> {
+    ranges_of_lines();
+    assert!(rt; matches!(read_line(rt.alloc(), b"")?, Line::Nothing));
+    let station = read_line(rt.alloc(), b"station 8388607 16777215 15")?;
+    assert!(rt;
+        matches!(
+            station,
+            Line::Station {
+                lat: 8_388_607,
+                lon: 16_777_215,
+                site: 15
+            }
+        )
+    );
+    let first = read_line(rt.alloc(), b"station 0 0 0")?;
+    assert!(rt;
+        matches!(
+            first,
+            Line::Station {
+                lat: 0,
+                lon: 0,
+                site: 0
+            }
+        )
+    );
+    Ok(())
+}
+
+#[test]
+fn moments_and_numbers_are_read(rt: HostRuntime) -> Result<(), Fail> {
+    match read_line(rt.alloc(), b"turn 1700000001 31")? {
+        Line::Turn { moment, slot } => {
+            assert_eq!(rt; moment.seconds(), 1_700_000_001);
+            assert_eq!(rt; slot, 31);
+        }
+        _ => assert!(rt; false, "turn"),
+    }
+    match read_line(rt.alloc(), b"hear 1700000002 4294967295")? {
+        Line::Hear { moment, frame } => {
+            assert_eq!(rt; moment.seconds(), 1_700_000_002);
+            assert_eq!(rt; frame, 4_294_967_295);
+        }
+        _ => assert!(rt; false, "hear"),
+    }
+    for (line, seconds) in [
+        ("show 946684800", 946_684_800),
+        ("show 4102444799", 4_102_444_799),
+    ] {
+        match read_line(rt.alloc(), line.as_bytes())? {
+            Line::Show { moment } => assert_eq!(rt; moment.seconds(), seconds),
+            _ => assert!(rt; false, "{line}"),
+        }
+    }
+    Ok(())
+}
+
+#[test]
+fn report_is_the_text_that_is_shown(rt: HostRuntime) -> Result<(), Fail> {
+    for (line, shown) in [
+        (
+            "text 1700000000 1699999980 METAR KSEA 101853Z",
+            "METAR KSEA 101853Z",
+        ),
+        ("text 1700000000 1699999980 ", ""),
+        ("text 1700000000 1699999980  two  spaces ", " two  spaces "),
+        ("text 1700000000 1699999980 A\\nB\\z", "A\nB\u{1A}"),
+        ("text 1700000000 1699999980 A\u{1A}B|é", "A\u{1A}B|é"),
+    ] {
+        match read_line(rt.alloc(), line.as_bytes())? {
+            Line::Text {
+                moment,
+                version,
+                report,
+            } => {
+                assert_eq!(rt; moment.seconds(), 1_700_000_000);
+                assert_eq!(rt; version.seconds(), 1_699_999_980);
+                assert_eq!(rt; report.as_str(), shown);
+            }
+            _ => assert!(rt; false, "{line}"),
+        }
+    }
+    Ok(())
+}
+
+#[test]
+fn wrong_reports_are_refused(rt: HostRuntime) {
+    for line in [
+        "text",
+        "text 1700000000",
+        "text 1700000000 1699999980",
+        "text 1700000000 946684799 A",
+        "text 1700000000 01699999980 A",
+        "text 1700000000  1699999980 A",
+        "text 1700000000 1699999980 A\\q",
+        "text 1700000000 1699999980 A\\",
+        "text 1700000000 1699999980 \\\\n",
+    ] {
+        check_refused(&rt, rt.alloc(), line);
+    }
+    let not_utf8 = read_line(rt.alloc(), b"text 1700000000 1699999980 A\xFFB");
+    assert!(rt; matches!(not_utf8, Err(LineFault::Syntax)));
+}
+
+#[test]
+fn wrong_forms_are_refused(rt: HostRuntime) {
+    for line in [
+        // words
+        "---",
+        "wind 1700000000",
+        "SHOW 1700000000",
+        "shows 1700000000",
+        " show 1700000000",
+        " ",
+        "show",
+        "station",
+        // ranges
+        "show 946684799",
+        "show 4102444800",
+        "turn 1700000001 32",
+        "hear 1700000001 4294967296",
+        "hear 1700000001 99999999999999999999999",
+        "station 8388608 0 0",
+        "station 0 16777216 0",
+        "station 0 0 16",
+        // numbers
+        "turn 01700000001 0",
+        "turn 1700000001 00",
+        "turn +1700000001 0",
+        "turn 1700000001 +1",
+        "turn 1700000001 -0",
+        "turn 1700000001 a",
+        "turn 1700000001 0x1",
+        // spaces and numbers of fields
+        "turn 1700000001 ",
+        "turn 1700000001",
+        "turn  1700000001 0",
+        "turn 1700000001  0",
+        "turn 1700000001 0 ",
+        "turn 1700000001 0 0",
+        "show 1700000001 ",
+        "hear 1700000001",
+        "hear 1700000001 0 ",
+        "station 0 0",
+        "station 0 0 0 0",
+        // places
+        "hear 1700000002 0 5=00 5=01",
+        "hear 1700000002 0 6=00 5=01",
+        "hear 1700000002 0 552=00",
+        "hear 1700000002 0 05=00",
+        "hear 1700000002 0 5=0",
+        "hear 1700000002 0 5=000",
+        "hear 1700000002 0 5=0g",
+        "hear 1700000002 0 5=00=",
+        "hear 1700000002 0 =00",
+        "hear 1700000002 0 5",
+        "hear 1700000002 0 5=00 ",
+        "hear 1700000002 0  5=00",
+    ] {
+        check_refused(&rt, rt.alloc(), line);
+    }
+}
+
+#[test]
+fn bytes_that_are_changed_are_places_that_rise(rt: HostRuntime) {
+    for line in [
+        "hear 1700000002 0 0=5A 48=ff",
+        "hear 1700000002 0 551=Ff",
+        "hear 1700000002 0 0=00 1=11 2=22 551=99",
+    ] {
+        check_unbuilt(&rt, rt.alloc(), line);
+    }
+}
+
+#[test]
+fn radar_and_blank_lines_are_of_their_form(rt: HostRuntime) -> Result<(), Fail> {
+    let cells = repeated(rt.alloc(), "07", 64)?;
+    let cells = cells.as_str();
+    for head in [
+        "1700000000 1699999980 0 0 s",
+        "1700000000 1699999980 2047 3 n",
+    ] {
+        let radar = format!(in rt.alloc(); "radar {head} 1048575 {cells}")?;
+        check_unbuilt(&rt, rt.alloc(), radar.as_str());
+        let blank = format!(in rt.alloc(); "blank {head} 1048575,0,7")?;
+        check_unbuilt(&rt, rt.alloc(), blank.as_str());
+    }
+    for head in [
+        "1700000000 1699999980 2048 0 n",
+        "1700000000 1699999980 64 4 n",
+        "1700000000 1699999980 64 0 N",
+        "1700000000 1699999980 64 0 ns",
+        "1700000000 1699999980 64 0",
+        "946684799 1699999980 64 0 n",
+        "1700000000 4102444800 64 0 n",
+    ] {
+        let radar = format!(in rt.alloc(); "radar {head} 0 {cells}")?;
+        check_refused(&rt, rt.alloc(), radar.as_str());
+        let blank = format!(in rt.alloc(); "blank {head} 0")?;
+        check_refused(&rt, rt.alloc(), blank.as_str());
+    }
+    for numbers in [
+        "", ",", "0,", ",0", "0,,1", "1048576", "0,01", "0 1", "0, 1", "0;1",
+    ] {
+        let blank = format!(in rt.alloc(); "blank {HEAD} {numbers}")?;
+        check_refused(&rt, rt.alloc(), blank.as_str());
+    }
+    for number in ["1048576", "0,1", ""] {
+        let radar = format!(in rt.alloc(); "radar {HEAD} {number} {cells}")?;
+        check_refused(&rt, rt.alloc(), radar.as_str());
+    }
+    Ok(())
+}
+
+#[test]
+fn cells_are_128_digits(rt: HostRuntime) -> Result<(), Fail> {
+    for (count, is_form) in [(127, false), (128, true), (129, false)] {
+        let cells = repeated(rt.alloc(), "7", count)?;
+        let cells = cells.as_str();
+        let radar = format!(in rt.alloc(); "radar {HEAD} 0 {cells}")?;
+        check_form(&rt, rt.alloc(), radar.as_str(), is_form);
+    }
+    let cells = repeated(rt.alloc(), "0", 127)?;
+    let cells = cells.as_str();
+    for (last, is_form) in [
+        ("0", true),
+        ("7", true),
+        ("8", false),
+        ("/", false),
+        ("a", false),
+    ] {
+        let radar = format!(in rt.alloc(); "radar {HEAD} 0 {cells}{last}")?;
+        check_form(&rt, rt.alloc(), radar.as_str(), is_form);
+    }
+    Ok(())
+}
+
+#[test]
+fn frame_is_1104_hexadecimal_digits(rt: HostRuntime) -> Result<(), Fail> {
+    for (count, is_form) in [
+        (1_102, false),
+        (1_103, false),
+        (1_104, true),
+        (1_105, false),
+    ] {
+        let digits = repeated(rt.alloc(), "b", count)?;
+        let digits = digits.as_str();
+        let rx = format!(in rt.alloc(); "rx 1700000003 {digits}")?;
+        check_form(&rt, rt.alloc(), rx.as_str(), is_form);
+    }
+    let digits = repeated(rt.alloc(), "0", 1_103)?;
+    let digits = digits.as_str();
+    for (last, is_form) in [
+        ("9", true),
+        ("F", true),
+        ("f", true),
+        ("g", false),
+        ("G", false),
+    ] {
+        let rx = format!(in rt.alloc(); "rx 1700000003 {digits}{last}")?;
+        check_form(&rt, rt.alloc(), rx.as_str(), is_form);
+        let early = format!(in rt.alloc(); "rx 946684799 {digits}{last}")?;
+        check_refused(&rt, rt.alloc(), early.as_str());
+    }
+    Ok(())
+}
+
+#[test]
+fn fault_says_its_cause(rt: HostRuntime) -> Result<(), Fail> {
+    let syntax = format!(in rt.alloc(); "{}", LineFault::Syntax)?;
+    assert_eq!(rt; syntax.as_str(), "the line is of no form");
+    let memory = format!(in rt.alloc(); "{}", LineFault::NoMemory)?;
+    assert_eq!(rt; memory.as_str(), "no memory is left");
+    Ok(())
+}
+
+fn check_form(rt: &impl Abort, alloc: Global, line: &str, is_form: bool) {
+    if is_form {
+        check_unbuilt(rt, alloc, line);
+    } else {
+        check_refused(rt, alloc, line);
+    }
+}
+
+fn check_unbuilt(rt: &impl Abort, alloc: Global, line: &str) {
+    let read = read_line(alloc, line.as_bytes());
+    assert!(rt; matches!(read, Ok(Line::Unbuilt)), "{line}");
+}
+
+fn check_refused(rt: &impl Abort, alloc: Global, line: &str) {
+    let read = read_line(alloc, line.as_bytes());
+    assert!(rt; matches!(read, Err(LineFault::Syntax)), "{line}");
+}
+
+/// A text so many times.
+fn repeated(alloc: Global, text: &str, count: usize) -> Result<String, AllocError> {
+    let mut all = String::new(alloc);
+    for _ in 0..count {
+        all.push_str(text)?;
+    }
+    Ok(all)
+}
