@@ -4,9 +4,9 @@ use Rattle.std.proofs.lemmas.List.{take-append-le}
 use Rattle.std.proofs.Math.Seq.{take-append-add}
 use Rattle.std.proofs.KnownBytes.{Appends-trans}
 use Rattle.std.specs.Io.KnownBytes.{Appends}
-use Rattle.fisb_app.specs.Script.{Line, Reason}
+use Rattle.script_core.specs.Script.{Line}
+use Rattle.fisb_app.specs.Script.{Reason, Setting}
 use Rattle.fisb_app.specs.Reading.{reading}
-use Rattle.fisb_app.specs.LifeTable.{default_table}
 use Rattle.fisb_app.specs.Acted.{acted_of, acted_with, fault_of, fault_with}
 use Rattle.fisb_app.specs.Output.{told, heard_picture, refused_text}
 use Rattle.fisb_app.specs.Wire.{AppendsFront}
@@ -29,37 +29,37 @@ front-behind before mid after given piece whole first front begins =
     (length given + size, omega (arith, within, long), subst (Appends before after) (sym cut) (Appends-trans _ _ _ _ _ first front.2))
 
 -- what lines give begins with what was given before them
-abbrev GivesMore : List Line → List Line → Type 0
-GivesMore acted all = Begins (given_by acted) (given_by all)
+abbrev GivesMore : Setting → List Line → List Line → Type 0
+GivesMore setting acted all = Begins (given_by setting acted) (given_by setting all)
 
-gives-line : (acted all : List Line) (line : Line) → GivesMore (line ∷ acted) all → GivesMore acted all
-gives-line acted all line more = (
-  told default_table (heard_picture default_table) acted line ++ more.0,
-  more.1 ∙ append_assoc (given_by acted) (told default_table (heard_picture default_table) acted line) more.0,
+gives-line : (setting : Setting) (acted all : List Line) (line : Line) → GivesMore setting (line ∷ acted) all → GivesMore setting acted all
+gives-line setting acted all line more = (
+  told setting (heard_picture setting.table) acted line ++ more.0,
+  more.1 ∙ append_assoc (given_by setting acted) (told setting (heard_picture setting.table) acted line) more.0,
 )
 
-gives-with : (acted : List Line) (later : List (List ℕ)) (read : Result Line Reason) → ((line : Line) → GivesMore (line ∷ acted) (acted_of (line ∷ acted) later))
-    → GivesMore acted (acted_with acted read (λ now. acted_of now later))
-gives-with acted later (Ok line) more = gives-line acted (acted_of (line ∷ acted) later) line (more line)
-gives-with acted later (Err reason) more = ([], sym (append-nil (given_by acted)))
+gives-with : (setting : Setting) (acted : List Line) (later : List (List ℕ)) (read : Result Line Reason) → ((line : Line) → GivesMore setting (line ∷ acted) (acted_of setting (line ∷ acted) later))
+    → GivesMore setting acted (acted_with acted read (λ now. acted_of setting now later))
+gives-with setting acted later (Ok line) more = gives-line setting acted (acted_of setting (line ∷ acted) later) line (more line)
+gives-with setting acted later (Err reason) more = ([], sym (append-nil (given_by setting acted)))
 
-gives-more : (acted : List Line) (lines : List (List ℕ)) → GivesMore acted (acted_of acted lines)
-gives-more acted [] = ([], sym (append-nil (given_by acted)))
-gives-more acted (bytes ∷ later) = gives-with acted later (reading acted bytes) (λ line. gives-more (line ∷ acted) later)
+gives-more : (setting : Setting) (acted : List Line) (lines : List (List ℕ)) → GivesMore setting acted (acted_of setting acted lines)
+gives-more setting acted [] = ([], sym (append-nil (given_by setting acted)))
+gives-more setting acted (bytes ∷ later) = gives-with setting acted later (reading setting acted bytes) (λ line. gives-more setting (line ∷ acted) later)
 
 -- the text of a line stands in the output behind what the lines before it gave
-text-with : (number : ℕ) (acted : List Line) (later : List (List ℕ)) (part : List ℕ) (read : Result Line Reason)
-    → Begins (given_by acted ++ text_by number acted read)
-    (given_by (acted_with acted read (λ now. acted_of now later)) ++ refused_text (fault_with acted number read (λ now. fault_of now (number + 1) later part)))
-text-with number acted later part (Ok line) =
-    let more = gives-more (line ∷ acted) later in
-    let refused = refused_text (fault_of (line ∷ acted) (number + 1) later part) in
-    (more.0 ++ refused, ap (λ given. given ++ refused) more.1 ∙ append_assoc (given_by (line ∷ acted)) more.0 refused)
-text-with number acted later part (Err reason) = ([], sym (append-nil _))
+text-with : (setting : Setting) (number : ℕ) (acted : List Line) (later : List (List ℕ)) (part : List ℕ) (read : Result Line Reason)
+    → Begins (given_by setting acted ++ text_by setting number acted read)
+    (given_by setting (acted_with acted read (λ now. acted_of setting now later)) ++ refused_text (fault_with acted number read (λ now. fault_of setting now (number + 1) later part)))
+text-with setting number acted later part (Ok line) =
+    let more = gives-more setting (line ∷ acted) later in
+    let refused = refused_text (fault_of setting (line ∷ acted) (number + 1) later part) in
+    (more.0 ++ refused, ap (λ given. given ++ refused) more.1 ∙ append_assoc (given_by setting (line ∷ acted)) more.0 refused)
+text-with setting number acted later part (Err reason) = ([], sym (append-nil _))
 
-pub text-stands : (number : ℕ) (acted : List Line) (bytes : List ℕ) (later : List (List ℕ)) (part : List ℕ)
-    → Begins (given_by acted ++ text_by number acted (reading acted bytes)) (given_by (acted_of acted (bytes ∷ later)) ++ refused_text (fault_of acted number (bytes ∷ later) part))
-text-stands number acted bytes later part = text-with number acted later part (reading acted bytes)
+pub text-stands : (setting : Setting) (number : ℕ) (acted : List Line) (bytes : List ℕ) (later : List (List ℕ)) (part : List ℕ)
+    → Begins (given_by setting acted ++ text_by setting number acted (reading setting acted bytes)) (given_by setting (acted_of setting acted (bytes ∷ later)) ++ refused_text (fault_of setting acted number (bytes ∷ later) part))
+text-stands setting number acted bytes later part = text-with setting number acted later part (reading setting acted bytes)
 
 pub begins-itself : (whole : List ℕ) → Begins whole whole
 begins-itself whole = ([], sym (append-nil whole))

@@ -2,7 +2,7 @@
 use Rattle.std.proofs.Common.{◌≡◌, ◌==◌, ◌&&◌, ℕ, ◌<◌, Bool, true, false, nat_lt, if◌then◌else◌, List, [], ◌∷◌, length, ap, ◌∙◌, arith, refl}
 use Rattle.std.proofs.lemmas.Bool.Decides.{nat_tests}
 use Rattle.std.proofs.lemmas.List.Splits.{length-slice_split}
-use Rattle.fisb_app.specs.Acted.{lines_in, part_line, parts_of, lines_of_parts, last_part}
+use Rattle.fisb_app.specs.Opening.{lines_in, part_line, parts_of, lines_of_parts, last_part}
 
 lines_more : (ended : Bool) (line : List ℕ) (parts : List (List ℕ)) → 0 < length parts
     → lines_of_parts ended (line ∷ parts) ≡ line ∷ lines_of_parts ended parts

@@ -1,75 +1,83 @@
--- The first line of a script.
-use Rattle.std.proofs.Common.{◌≡◌, ℕ, Bool, true, false, if◌then◌else◌, List, [], ◌∷◌, Option, Some, None, Result, ap, subst, ◌∙◌}
+-- From how an input starts to the first fault and to what its lines give.
+use Rattle.std.proofs.Common.{◌≡◌, ◌≢◌, ℕ, Bool, List, [], length, take, Option, Some, None, Result, Err, refl, sym, ap, subst, ◌∙◌}
 use Rattle.std.specs.Io.KnownBytes.{Appends}
+use Rattle.std.proofs.KnownBytes.{Appends-nil}
+use Rattle.life_table.specs.LifeTable.{LifeTable}
+use Rattle.life_table.specs.declared.fault.RowFault.{RowFault}
+use Rattle.life_table.specs.declared.fault.TableFault.{TableFault}
+use Rattle.life_table.specs.declared.fault.TableFault.TheVariants.{NotToml, BadRow}
+use Rattle.life_table.specs.declared.fault.TableFault.TheVariants as faults
+use Rattle.fisb_app.specs.declared.party.Party.{Party}
+use Rattle.fisb_app.specs.declared.started.Started.{Started}
 use Rattle.fisb_app.specs.declared.status.Status.{Status}
 use Rattle.fisb_app.specs.declared.status.Status.TheVariants.{Done, Usage, Refused, ReadFault, WriteFault, TooLong, NoMemory}
-use Rattle.fisb_app.specs.Script.{unbuilt}
-use Rattle.fisb_app.specs.Acted.{lines_in, part_line, acted_of, fault_of, is_table_end, script_fault, script_acted, first_fault, acted_lines}
+use Rattle.fisb_app.specs.Script.{Fault, Setting}
+use Rattle.fisb_app.specs.Opening.{Opening, Start, start, start_at, start_with, opening_at, opening_table, unopened, lines_in, part_line}
+use Rattle.fisb_app.specs.declared.started.Unstarted.{Unstarted}
+use Rattle.fisb_app.specs.declared.started.Unstarted.TheVariants as causes
+use Rattle.fisb_app.specs.Started.{IsStarted, IsUnstarted, TellsUnopened}
+use Rattle.fisb_app.specs.Acted.{first_fault, script_fault, script_given, fault_of, acted_of}
 use Rattle.fisb_app.specs.Output.{fault_text}
-use Rattle.fisb_app.specs.Run.{HasRefused, HasStoppedAt, HasActedOn, given_by}
+use Rattle.fisb_app.specs.Run.{HasActedOn, HasStoppedAt, HasRefused, given_by}
 
-table-fault : (ended : Bool) (text line rest : List ℕ) → lines_in ended text ≡ line ∷ lines_in ended rest → part_line ended text ≡ part_line ended rest → is_table_end line ≡ true
-    → first_fault ended text ≡ fault_of [] 2 (lines_in ended rest) (part_line ended rest)
+-- the start of an input whose table ends so, by what its table is
+pub start-opened : (party : Party) (ended : Bool) (text : List ℕ) (o : Opening) (read : Result LifeTable TableFault) → opening_at 0 1 (lines_in ended text) ≡ Some o
+    → opening_table (take o.size text) ≡ read → start party ended text ≡ start_with party o read
+unfolding start
+start-opened party ended text o read is table = ap (start_at party ended text) is ∙ ap (start_with party o) table
+
+pub start-unopened : (party : Party) (ended : Bool) (text : List ℕ) → opening_at 0 1 (lines_in ended text) ≡ None → start party ended text ≡ Err (unopened ended (length text))
+unfolding start
+start-unopened party ended text is = ap (start_at party ended text) is
+
+-- no fault of a document is want of memory
+pub not_toml-memory : NotToml ≢ faults.NoMemory
+not_toml-memory e = cc
+
+pub bad_row-memory : (row : ℕ) (why : RowFault) → BadRow row why ≢ faults.NoMemory
+bad_row-memory row why e = cc
+
+-- the table of the bytes before the end of a table
+pub opened-table : (text : List ℕ) (size : ℕ) (found : List ℕ) (read : Result LifeTable TableFault) → found ≡ take size text → opening_table found ≡ read → opening_table (take size text) ≡ read
+opened-table text size found read is table = sym (ap opening_table is) ∙ table
+
+-- why an input does not open is why it does not start
+pub tells-unstarted : (party : Party) (ended : Bool) (text : List ℕ) (unstarted : Unstarted) (fault : Option Fault) → start party ended text ≡ Err fault → TellsUnopened fault unstarted
+    → IsUnstarted party ended text unstarted
+tells-unstarted party ended text (causes.Refused line why) fault is tells = is ∙ ap Err tells
+tells-unstarted party ended text causes.Unfinished fault is tells = is ∙ ap Err tells
+tells-unstarted party ended text causes.NoMemory fault is tells = absurd tells
+
+fault-started : (party : Party) (ended : Bool) (text part : List ℕ) (s : Result Start (Option Fault)) → part_line ended text ≡ part → start party ended text ≡ s
+    → first_fault party ended text ≡ script_fault part s
 unfolding first_fault
-table-fault ended text line rest cut part is =
-    ap (λ ls. script_fault ended ls (part_line ended text)) cut ∙ ap (script_fault ended (line ∷ lines_in ended rest)) part
-    ∙ ap (λ b. if b then fault_of [] 2 (lines_in ended rest) (part_line ended rest) else Some unbuilt) is
+fault-started party ended text part s is starts = ap (λ p. script_fault p (start party ended text)) is ∙ ap (script_fault part) starts
 
-table-acted : (ended : Bool) (text line rest : List ℕ) → lines_in ended text ≡ line ∷ lines_in ended rest → is_table_end line ≡ true
-    → acted_lines ended text ≡ acted_of [] (lines_in ended rest)
-unfolding acted_lines
-table-acted ended text line rest cut is = ap script_acted cut ∙ ap (λ b. if b then acted_of [] (lines_in ended rest) else []) is
+pub acted-started : (party : Party) (ended : Bool) (text : List ℕ) (started : Started) (before after : Option (List ℕ)) (faults_before faults_after : ℕ) (result : Result (Unit {0}) Status)
+    → IsStarted party ended text started
+    → (let setting : Setting = record { party = party; table = started.table } in let lines = lines_in ended started.rest.now in
+    HasActedOn (fault_of setting [] started.number lines (part_line ended started.rest.now)) (given_by setting (acted_of setting [] lines)) before after faults_before faults_after result)
+    → HasActedOn (first_fault party ended text) (script_given given_by (start party ended text)) before after faults_before faults_after result
+acted-started party ended text started before after fb fa result is h =
+    rw (fault-started party ended text _ _ is.part is.start_is, ap (script_given given_by) is.start_is) h
 
-other-fault : (ended : Bool) (text line rest : List ℕ) → lines_in ended text ≡ line ∷ lines_in ended rest → is_table_end line ≡ false → first_fault ended text ≡ Some unbuilt
-unfolding first_fault
-other-fault ended text line rest cut is =
-    ap (λ ls. script_fault ended ls (part_line ended text)) cut
-    ∙ ap (λ b. if b then fault_of [] 2 (lines_in ended rest) (part_line ended text) else Some unbuilt) is
+-- the refusal of an input that does not start is all that was written
+refused-all : (fault : Fault) (before after : Option (List ℕ)) (faults_before faults_after : ℕ) (status : Status)
+    → HasRefused fault before after faults_before faults_after status → HasStoppedAt (Some fault) [] before after faults_before faults_after status
+refused-all fault before after fb fa Done h = h
+refused-all fault before after fb fa Usage h = h
+refused-all fault before after fb fa (Refused line why) h = (ap Some h.0, subst (λ f. Appends before after (fault_text f)) h.0 h.1)
+refused-all fault before after fb fa ReadFault h = h
+refused-all fault before after fb fa WriteFault h = h
+refused-all fault before after fb fa TooLong h = h
+refused-all fault before after fb fa NoMemory h = h
 
-other-acted : (ended : Bool) (text line rest : List ℕ) → lines_in ended text ≡ line ∷ lines_in ended rest → is_table_end line ≡ false → acted_lines ended text ≡ []
-unfolding acted_lines
-other-acted ended text line rest cut is = ap script_acted cut ∙ ap (λ b. if b then acted_of [] (lines_in ended rest) else []) is
+pub refused-unstarted : (party : Party) (ended : Bool) (text : List ℕ) (fault : Fault) (before after : Option (List ℕ)) (faults_before faults_after : ℕ) (status : Status)
+    → start party ended text ≡ Err (Some fault) → HasRefused fault before after faults_before faults_after status
+    → HasStoppedAt (first_fault party ended text) (script_given given_by (start party ended text)) before after faults_before faults_after status
+refused-unstarted party ended text fault before after fb fa status is h =
+    rw (fault-started party ended text _ _ refl is, ap (script_given given_by) is) (refused-all fault before after fb fa status h)
 
-no-line-fault : (ended : Bool) (text : List ℕ) → lines_in ended text ≡ [] → first_fault ended text ≡ (if ended then Some unbuilt else None)
-unfolding first_fault
-no-line-fault ended text none = ap (λ ls. script_fault ended ls (part_line ended text)) none
-
-no-line-acted : (ended : Bool) (text : List ℕ) → lines_in ended text ≡ [] → acted_lines ended text ≡ []
-unfolding acted_lines
-no-line-acted ended text none = ap script_acted none
-
--- the refusal of line 1 is all that was written
-refused-first : (before after : Option (List ℕ)) (faults_before faults_after : ℕ) (status : Status)
-    → HasRefused unbuilt before after faults_before faults_after status → HasStoppedAt (Some unbuilt) (given_by []) before after faults_before faults_after status
-refused-first before after fb fa Done h = h
-refused-first before after fb fa Usage h = h
-refused-first before after fb fa (Refused line why) h = (ap Some h.0, subst (λ f. Appends before after (fault_text f)) h.0 h.1)
-refused-first before after fb fa ReadFault h = h
-refused-first before after fb fa WriteFault h = h
-refused-first before after fb fa TooLong h = h
-refused-first before after fb fa NoMemory h = h
-
-pub acted-on-rest : (ended : Bool) (text line rest : List ℕ) (before after : Option (List ℕ)) (faults_before faults_after : ℕ) (result : Result (Unit {0}) Status)
-    → lines_in ended text ≡ line ∷ lines_in ended rest → part_line ended text ≡ part_line ended rest → is_table_end line ≡ true
-    → HasActedOn (fault_of [] 2 (lines_in ended rest) (part_line ended rest)) (given_by (acted_of [] (lines_in ended rest))) before after faults_before faults_after result
-    → HasActedOn (first_fault ended text) (given_by (acted_lines ended text)) before after faults_before faults_after result
-acted-on-rest ended text line rest before after fb fa result cut part is h =
-    rw (table-fault ended text line rest cut part is, table-acted ended text line rest cut is) h
-
-pub refused-other : (ended : Bool) (text line rest : List ℕ) (before after : Option (List ℕ)) (faults_before faults_after : ℕ) (status : Status)
-    → lines_in ended text ≡ line ∷ lines_in ended rest → is_table_end line ≡ false → HasRefused unbuilt before after faults_before faults_after status
-    → HasStoppedAt (first_fault ended text) (given_by (acted_lines ended text)) before after faults_before faults_after status
-refused-other ended text line rest before after fb fa status cut is h =
-    rw (other-fault ended text line rest cut is, other-acted ended text line rest cut is) (refused-first before after fb fa status h)
-
-pub refused-empty : (ended : Bool) (text : List ℕ) (before after : Option (List ℕ)) (faults_before faults_after : ℕ) (status : Status)
-    → lines_in ended text ≡ [] → ended ≡ true → HasRefused unbuilt before after faults_before faults_after status
-    → HasStoppedAt (first_fault ended text) (given_by (acted_lines ended text)) before after faults_before faults_after status
-refused-empty ended text before after fb fa status none is h =
-    rw (no-line-fault ended text none ∙ ap (λ b. if b then Some unbuilt else None) is, no-line-acted ended text none) (refused-first before after fb fa status h)
-
-pub nothing-yet : (ended : Bool) (text : List ℕ) → lines_in ended text ≡ [] → ended ≡ false → first_fault ended text ≡ None
-nothing-yet ended text none is = no-line-fault ended text none ∙ ap (λ b. if b then Some unbuilt else None) is
-
-pub nothing-acted : (ended : Bool) (text : List ℕ) → lines_in ended text ≡ [] → given_by (acted_lines ended text) ≡ []
-nothing-acted ended text none = ap given_by (no-line-acted ended text none)
+pub unfinished : (party : Party) (ended : Bool) (text : List ℕ) (now : Option (List ℕ)) → start party ended text ≡ Err None
+    → (first_fault party ended text ≡ None) × Appends now now (script_given given_by (start party ended text))
+unfinished party ended text now is = (fault-started party ended text _ _ refl is, rw (ap (script_given given_by) is) (Appends-nil now))

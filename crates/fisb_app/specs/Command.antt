@@ -19,7 +19,7 @@ command_named (word ∷ rest) = if bytes_eq word (codes "make") then Some Make
 -- the commands that are not built yet and refuse line 1 in writing
 abbrev pub IsUnbuilt : Command → Type 0
 IsUnbuilt Link = ⊥
-IsUnbuilt Ground = Unit {0}
+IsUnbuilt Ground = ⊥
 IsUnbuilt Receive = Unit {0}
 IsUnbuilt Gdl = ⊥
 IsUnbuilt Make = Unit {0}

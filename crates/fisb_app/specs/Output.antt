@@ -1,72 +1,27 @@
 -- The text that a script gives.
-use Rattle.std.specs.Prelude.{ℕ, true, false, ◌==◌, if◌then◌else◌, List, [], ◌∷◌, ◌++◌, length, flat_map, Option, Some, None, Result, Ok, Err, slice_get, codes, decimal}
-use Rattle.std.specs.Result.{result_err}
-use Rattle.dlac_text.specs.Payload.{text_payload}
+use Rattle.std.specs.Prelude.{ℕ, List, [], ◌∷◌, ◌++◌, length, map, flat_map, Option, Some, None, slice_get, codes, decimal}
+use Rattle.hex.specs.Hex.{encode_lower}
 use Rattle.dlac_text.specs.Plain.{plain_text}
-use Rattle.fisb_app.specs.UplinkFrame.{Header, InformationFrame, slot_of, site_of}
-use Rattle.fisb_app.specs.Apdu.{product_of}
-use Rattle.fisb_app.specs.LifeTable.{LifeTable, TextRow, text_row}
-use Rattle.fisb_app.specs.TextKey.{TextKey, KeyFault, text_key}
-use Rattle.fisb_app.specs.Entry.{Entry, Key, Value, text_report, report}
-use Rattle.fisb_app.specs.Item.{Gift}
-use Rattle.fisb_app.specs.Ground.{Event, update, fill, Frame, frames, used, frame_payload}
-use Rattle.fisb_app.specs.Receiver.{Reception, Unread, another_kind, no_header, flags_set, wrong_segment, another_product, no_row, large_file, no_time, stale, arrival_of, frames_of, report_entries}
-use Rattle.fisb_app.specs.Picture.{received_picture}
-use Rattle.fisb_app.specs.LinkPicture.{Hearing, link_picture}
-use Rattle.fisb_app.specs.Script.{Line, empty, text, turn, hear, show, Reason, line_long, syntax, clock, not_built, Fault}
-
--- what a text gives under its type's row: one item, whose one key is that of the report
-abbrev pub gift_by_row : ℕ → List ℕ → List Entry → Option TextRow → List Gift
-gift_by_row version chars entries None = []
-gift_by_row version chars entries (Some row) = record { product = 413; form = row.form; version = version; life = row.life; entries = entries; payload = text_payload chars } ∷ []
-
-abbrev pub gift_by_key : LifeTable → ℕ → List ℕ → Result TextKey KeyFault → List Gift
-gift_by_key table version chars (Err fault) = []
-gift_by_key table version chars (Ok key) = gift_by_row version chars (report_entries table version chars) (text_row table key.kind)
-
-abbrev pub gifts_of : LifeTable → ℕ → List ℕ → List Gift
-gifts_of table version chars = gift_by_key table version chars (text_key table chars)
-
--- the ground's history that the lines acted on make, and what was heard of it
-abbrev pub history : LifeTable → List Line → List Event
-history table [] = []
-history table (empty ∷ past) = history table past
-history table (text moment version chars ∷ past) = update moment (gifts_of table version chars) ∷ history table past
-history table (turn moment slot ∷ past) = fill moment slot ∷ history table past
-history table (hear moment frame ∷ past) = history table past
-history table (show moment ∷ past) = history table past
-
-abbrev pub hearings : List Line → List Hearing
-hearings [] = []
-hearings (empty ∷ past) = hearings past
-hearings (text moment version chars ∷ past) = hearings past
-hearings (turn moment slot ∷ past) = hearings past
-hearings (hear moment frame ∷ past) = record { frame = frame; moment = moment } ∷ hearings past
-hearings (show moment ∷ past) = hearings past
-
--- a ground without a station has no position, and its site is 0
-abbrev pub header : ℕ → Header
-header slot = record { latitude = 0; longitude = 0; is_position_valid = false; is_utc_coupled = true; is_application_valid = true; slot = slot; site = 0 }
-
--- the room of a frame
-abbrev pub frame_room : ℕ
-frame_room = 424
-
-abbrev pub sent_frames : LifeTable → List Line → List Frame
-sent_frames table acted = frames table frame_room (history table acted)
-
-abbrev pub payload_in : Option Frame → List ℕ
-payload_in None = []
-payload_in (Some frame) = frame_payload header frame
-
--- the receptions that the lines acted on make
-abbrev pub receptions : LifeTable → List Line → List Reception
-receptions table [] = []
-receptions table (empty ∷ past) = receptions table past
-receptions table (text moment version chars ∷ past) = receptions table past
-receptions table (turn moment slot ∷ past) = receptions table past
-receptions table (hear moment frame ∷ past) = record { moment = moment; payload = payload_in (slice_get (sent_frames table past) frame) } ∷ receptions table past
-receptions table (show moment ∷ past) = receptions table past
+use Rattle.uplink_frame.specs.UplinkFrame.{Header, header_in}
+use Rattle.uplink_weave.specs.Functions.{counts_in}
+use Rattle.life_table.specs.LifeTable.{LifeTable}
+use Rattle.life_table.specs.declared.fault.RowFault.{RowFault}
+use Rattle.life_table.specs.declared.fault.RowFault.TheVariants as rows
+use Rattle.fisb_broadcast.specs.Entry.{Entry, Key, Value, text_report, report}
+use Rattle.fisb_broadcast.specs.Ground.{Frame, used}
+use Rattle.fisb_broadcast.specs.Receiver.{Reception, Unread, another_kind, no_header, flags_set, wrong_segment, another_product, no_row, large_file, no_time, stale}
+use Rattle.fisb_broadcast.specs.Receiver as receiver
+use Rattle.fisb_broadcast.specs.Unread.{unread_parts}
+use Rattle.receiver_core.specs.Told.{Told, told_part}
+use Rattle.fisb_broadcast.specs.Picture.{received_picture}
+use Rattle.fisb_broadcast.specs.LinkPicture.{link_picture}
+use Rattle.fisb_broadcast.specs.Station.{Station}
+use Rattle.fisb_broadcast.specs.History.{frame_room}
+use Rattle.script_core.specs.Script.{Line, empty, station, text, turn, hear, show, unbuilt}
+use Rattle.fisb_app.specs.declared.party.Party.{Party}
+use Rattle.fisb_app.specs.declared.party.Party.TheVariants.{Link, Ground}
+use Rattle.fisb_app.specs.Script.{Setting, Reason, table_long, no_table, not_toml, bad_row, line_long, syntax, not_here, station_late, clock, no_frame, late, frames_full, bad_character, text_long, words_wanting, type_unlisted, coarse, ahead, expired, not_newer, not_built, Fault}
+use Rattle.fisb_app.specs.Past.{history, hearings, station_of, sent_frames, air_of, received, receptions}
 
 -- words and numbers with a space between them, on a line
 abbrev pub spaced : List (List ℕ) → List ℕ
@@ -74,8 +29,17 @@ spaced [] = codes "\n"
 spaced (word ∷ []) = word ++ codes "\n"
 spaced (word ∷ next ∷ more) = word ++ (codes " " ++ spaced (next ∷ more))
 
-abbrev pub sent_text : ℕ → Frame → List ℕ
-sent_text index frame = spaced (codes "sent" ∷ decimal index ∷ decimal frame.moment ∷ decimal frame.slot ∷ decimal (length frame.segments) ∷ decimal (used frame) ∷ [])
+-- a frame that was sent; a ground alone writes what stands on the air too
+abbrev pub sent_words : ℕ → Frame → List (List ℕ)
+sent_words index frame = codes "sent" ∷ decimal index ∷ decimal frame.moment ∷ decimal frame.slot ∷ decimal (length frame.segments) ∷ decimal (used frame) ∷ []
+
+abbrev pub sent_text : Party → Station → ℕ → Frame → List ℕ
+sent_text Link place index frame = spaced (sent_words index frame)
+sent_text Ground place index frame = spaced (sent_words index frame ++ encode_lower (air_of place frame) ∷ [])
+
+abbrev pub sent_frame_text : Party → Station → ℕ → Option Frame → List ℕ
+sent_frame_text party place index None = []
+sent_frame_text party place index (Some frame) = sent_text party place index frame
 
 -- a text by its key, its version and its report, as it is written plain
 abbrev pub third_words : Option (List ℕ) → List (List ℕ)
@@ -88,8 +52,11 @@ entry_text (text_report key) version (report chars) = spaced (codes "text" ∷ k
 abbrev pub shown_entry : Entry → List ℕ
 shown_entry entry = entry_text entry.key entry.version entry.value
 
+abbrev pub picture_head : ℕ → ℕ → List ℕ
+picture_head moment count = spaced (codes "picture" ∷ decimal moment ∷ decimal count ∷ [])
+
 abbrev pub picture_text : ℕ → List Entry → List ℕ
-picture_text moment entries = spaced (codes "picture" ∷ decimal moment ∷ decimal (length entries) ∷ []) ++ flat_map shown_entry entries
+picture_text moment entries = picture_head moment (length entries) ++ flat_map shown_entry entries
 
 -- the word of a part that is passed on unread
 abbrev pub unread_word : Unread → List ℕ
@@ -102,36 +69,40 @@ unread_word no_row = codes "norow"
 unread_word large_file = codes "files"
 unread_word no_time = codes "time"
 unread_word stale = codes "stale"
+unread_word receiver.words_wanting = codes "words"
+unread_word receiver.type_unlisted = codes "unlisted"
 
-abbrev pub unread_product : InformationFrame → ℕ
-unread_product frame = if frame.kind == 0 then product_of frame.body else 0
+abbrev pub told_text : Told → List ℕ
+told_text part = spaced (codes "unread" ∷ unread_word part.why ∷ decimal part.kind ∷ decimal part.product ∷ decimal part.size ∷ [])
 
-abbrev pub unread_text : InformationFrame → Option Unread → List ℕ
-unread_text frame None = []
-unread_text frame (Some why) = spaced (codes "unread" ∷ unread_word why ∷ decimal frame.kind ∷ decimal (unread_product frame) ∷ decimal (length frame.body) ∷ [])
+-- what a reception says: the slot, the site, how many bytes of each of its six blocks were corrected, and the unread parts.
+-- A lost frame has no text yet
+abbrev pub heard_words : ℕ → Header → List ℕ → List (List ℕ)
+heard_words moment header counts = codes "heard" ∷ decimal moment ∷ decimal header.slot ∷ decimal header.site ∷ map decimal counts
 
--- what a reception says: the slot, the site, how many bytes of each of its six blocks were corrected, and the unread parts
-abbrev pub heard_text : LifeTable → Reception → List ℕ
-heard_text table heard = let zero = codes "0" in
-    spaced (codes "heard" ∷ decimal heard.moment ∷ decimal (slot_of heard.payload) ∷ decimal (site_of heard.payload) ∷ zero ∷ zero ∷ zero ∷ zero ∷ zero ∷ zero ∷ [])
-    ++ flat_map (λ frame. unread_text frame (result_err (arrival_of table heard.moment frame))) (frames_of heard)
+abbrev pub heard_text : LifeTable → List Reception → List ℕ → Option Reception → List ℕ
+heard_text table past counts None = []
+heard_text table past counts (Some heard) = spaced (heard_words heard.moment (header_in heard.payload) counts) ++ flat_map told_text (map told_part (unread_parts table past heard))
 
-abbrev pub sent_frame_text : ℕ → Option Frame → List ℕ
-sent_frame_text index None = []
-sent_frame_text index (Some frame) = sent_text index frame
+abbrev pub heard_frame_text : LifeTable → List Line → ℕ → Option Frame → List ℕ
+heard_frame_text table past moment None = []
+heard_frame_text table past moment (Some frame) = let air = air_of (station_of past) frame in
+    heard_text table (receptions table past) (counts_in air) (received moment air)
 
 -- what a line writes behind the lines before it, where `shown` gives the pictures
-abbrev pub told : LifeTable → (List Line → ℕ → List Entry) → List Line → Line → List ℕ
-told table shown past empty = []
-told table shown past (text moment version chars) = []
-told table shown past (turn moment slot) = let index = length (sent_frames table past) in
-    sent_frame_text index (slice_get (sent_frames table (turn moment slot ∷ past)) index)
-told table shown past (hear moment frame) = heard_text table (record { moment = moment; payload = payload_in (slice_get (sent_frames table past) frame) })
-told table shown past (show moment) = picture_text moment (shown past moment)
+abbrev pub told : Setting → (List Line → ℕ → List Entry) → List Line → Line → List ℕ
+told setting shown past empty = []
+told setting shown past (station latitude longitude site) = []
+told setting shown past (text moment version chars) = []
+told setting shown past (turn moment slot) = let index = length (sent_frames setting.table past) in
+    sent_frame_text setting.party (station_of past) index (slice_get (sent_frames setting.table (turn moment slot ∷ past)) index)
+told setting shown past (hear moment frame) = heard_frame_text setting.table past moment (slice_get (sent_frames setting.table past) frame)
+told setting shown past (show moment) = picture_text moment (shown past moment)
+told setting shown past unbuilt = []
 
-abbrev pub told_by : LifeTable → (List Line → ℕ → List Entry) → List Line → List ℕ
-told_by table shown [] = []
-told_by table shown (line ∷ past) = told_by table shown past ++ told table shown past line
+abbrev pub told_by : Setting → (List Line → ℕ → List Entry) → List Line → List ℕ
+told_by setting shown [] = []
+told_by setting shown (line ∷ past) = told_by setting shown past ++ told setting shown past line
 
 -- the picture by the bytes that were heard, and the picture that the link promises
 abbrev pub heard_picture : LifeTable → List Line → ℕ → List Entry
@@ -141,10 +112,40 @@ abbrev pub promised_picture : LifeTable → List Line → ℕ → List Entry
 promised_picture table acted moment = link_picture table frame_room (history table acted) (hearings acted) moment
 
 -- the text of a refused line
+abbrev pub row_word : RowFault → List ℕ
+row_word rows.Shape = codes "shape"
+row_word rows.Version = codes "version"
+row_word rows.Late = codes "late"
+row_word rows.Rows = codes "rows"
+row_word rows.Word = codes "word"
+row_word rows.Twice = codes "twice"
+row_word rows.As = codes "as"
+row_word rows.Words = codes "words"
+row_word rows.Form = codes "form"
+row_word rows.Life = codes "life"
+row_word rows.Product = codes "product"
+
 abbrev pub reason_text : Reason → List (List ℕ)
+reason_text table_long = codes "tablelong" ∷ []
+reason_text no_table = codes "notable" ∷ []
+reason_text not_toml = codes "toml" ∷ []
+reason_text (bad_row row why) = codes "row" ∷ decimal row ∷ row_word why ∷ []
 reason_text line_long = codes "linelong" ∷ []
 reason_text syntax = codes "syntax" ∷ []
+reason_text not_here = codes "nothere" ∷ []
+reason_text station_late = codes "station" ∷ []
 reason_text (clock kept) = codes "clock" ∷ decimal kept ∷ []
+reason_text no_frame = codes "noframe" ∷ []
+reason_text late = codes "late" ∷ []
+reason_text frames_full = codes "frames" ∷ []
+reason_text (bad_character place) = codes "character" ∷ decimal place ∷ []
+reason_text text_long = codes "textlong" ∷ []
+reason_text words_wanting = codes "words" ∷ []
+reason_text type_unlisted = codes "unlisted" ∷ []
+reason_text coarse = codes "coarse" ∷ []
+reason_text ahead = codes "ahead" ∷ []
+reason_text expired = codes "expired" ∷ []
+reason_text (not_newer kept) = codes "notnewer" ∷ decimal kept ∷ []
 reason_text not_built = codes "notbuilt" ∷ []
 
 abbrev pub fault_text : Fault → List ℕ

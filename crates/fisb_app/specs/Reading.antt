@@ -1,107 +1,134 @@
 -- What a line is behind the lines acted on before it, or its first reason. The newest line stands first in `acted`.
-use Rattle.std.specs.Prelude.{ℕ, ◌+◌, ◌%◌, Bool, true, false, not, ◌&&◌, ◌||◌, ◌==◌, nat_lt, nat_le, max, if◌then◌else◌, List, [], ◌∷◌, ◌++◌, length, Option, Some, None, Result, Ok, Err, slice_index, slice_get, codes}
-use Rattle.std.specs.List.{starts_with, list_all}
-use Rattle.std.specs.Prelude.{nat_eq}
-use Rattle.fisb_app.specs.Script.{Line, empty, text, turn, hear, show, Reason, line_long, syntax, clock, not_built}
-use Rattle.fisb_app.specs.Fields.{fields, is_word, line_of}
+use Rattle.std.specs.Prelude.{ℕ, ◌+◌, Bool, true, false, ◌&&◌, not, nat_lt, if◌then◌else◌, List, length, Option, Some, None, option_map, Result, Ok, Err, slice_get}
+use Rattle.std.specs.Option.{option_or}
+use Rattle.std.specs.List.{list_all}
+use Rattle.dlac_text.specs.declared.text_fault.TextFault.{TextFault}
+use Rattle.dlac_text.specs.declared.text_fault.TextFault.TheVariants.{BadCharacter, TooLong, NoMemory}
+use Rattle.life_table.specs.LifeTable.{LifeTable}
+use Rattle.text_reports.specs.TextKey.{KeyFault, few_words, unlisted}
+use Rattle.fisb_broadcast.specs.Ground.{Frame, items}
+use Rattle.fisb_broadcast.specs.Update.{GiveFault, bad_text, no_key, give_refusal}
+use Rattle.fisb_broadcast.specs.Update as given
+use Rattle.script_core.specs.Script.{Line, empty, station, text, turn, hear, show, unbuilt}
+use Rattle.script_core.specs.Fields.{line_of}
+use Rattle.fisb_app.specs.declared.party.Party.{Party}
+use Rattle.fisb_app.specs.declared.party.Party.TheVariants.{Link, Ground}
+use Rattle.fisb_app.specs.Script.{Setting, Reason, line_long, syntax, not_here, station_late, clock, no_frame, late, frames_full, bad_character, text_long, words_wanting, type_unlisted, coarse, ahead, expired, not_newer, not_built}
+use Rattle.fisb_app.specs.Past.{history, sent_frames, moment_of, latest}
 
 -- the longest line
 abbrev pub line_limit : ℕ
 line_limit = 32768
 
--- the lines that are built: an empty one, and those that begin with one of four words
-abbrev pub is_built_word : List ℕ → Bool
-is_built_word word = is_word word (codes "text") || is_word word (codes "turn") || is_word word (codes "hear") || is_word word (codes "show")
+-- the most frames of a run
+abbrev pub frame_limit : ℕ
+frame_limit = 65536
 
-abbrev pub begins_built : List (List ℕ) → Bool
-begins_built [] = false
-begins_built (word ∷ rest) = is_built_word word
+-- a ground alone has no receiver
+abbrev pub is_heard_or_shown : Line → Bool
+is_heard_or_shown empty = false
+is_heard_or_shown (station latitude longitude site) = false
+is_heard_or_shown (text moment version chars) = false
+is_heard_or_shown (turn moment slot) = false
+is_heard_or_shown (hear moment frame) = true
+is_heard_or_shown (show moment) = true
+is_heard_or_shown unbuilt = false
 
-abbrev pub has_built_word : List ℕ → Bool
-has_built_word [] = true
-has_built_word (b ∷ bytes) = begins_built (fields (b ∷ bytes))
+abbrev pub party_refusal : Party → Line → Option Reason
+party_refusal Link line = None
+party_refusal Ground line = if is_heard_or_shown line then Some not_here else None
 
--- the reports that are built: METAR, one space, a character other than a space, and any more, of at most 556 characters in all
-abbrev pub is_built_character : ℕ → Bool
-is_built_character c = (nat_le 65 c && nat_le c 90) || (nat_le 32 c && nat_le c 63)
+-- a station is named before any other line is acted on, the empty ones left out
+abbrev pub is_empty : Line → Bool
+is_empty empty = true
+is_empty (station latitude longitude site) = false
+is_empty (text moment version chars) = false
+is_empty (turn moment slot) = false
+is_empty (hear moment frame) = false
+is_empty (show moment) = false
+is_empty unbuilt = false
 
-abbrev pub is_built_report : List ℕ → Bool
-is_built_report report = starts_with nat_eq report (codes "METAR ") && nat_lt 6 (length report) && not (slice_index report 6 == 32)
-    && list_all is_built_character report && nat_le (length report) 556
+abbrev pub has_begun : List Line → Bool
+has_begun acted = not (list_all is_empty acted)
 
--- the versions that are built: whole minutes, at most a minute ahead, and not past the life of a METAR
-abbrev pub is_built_version : ℕ → ℕ → Bool
-is_built_version moment version = (version % 60 == 0) && nat_le version (moment + 60) && nat_lt moment (version + 7200)
+-- moments never fall
+abbrev pub clock_refusal : Option ℕ → Option ℕ → Option Reason
+clock_refusal None kept = None
+clock_refusal (Some moment) None = None
+clock_refusal (Some moment) (Some kept) = if nat_lt moment kept then Some (clock kept) else None
 
-abbrev pub is_text : Line → Bool
-is_text empty = false
-is_text (text moment version report) = true
-is_text (turn moment slot) = false
-is_text (hear moment frame) = false
-is_text (show moment) = false
+-- a frame is heard once it was sent, and not too late
+abbrev pub hear_refusal : ℕ → ℕ → Option Frame → Option Reason
+hear_refusal allowed moment None = Some no_frame
+hear_refusal allowed moment (Some frame) = if nat_lt (frame.moment + allowed) moment then Some late else None
 
--- the moments of the frames sent, numbered from 0
-abbrev pub frame_moments : List Line → List ℕ
-frame_moments [] = []
-frame_moments (empty ∷ past) = frame_moments past
-frame_moments (text moment version report ∷ past) = frame_moments past
-frame_moments (turn moment slot ∷ past) = frame_moments past ++ moment ∷ []
-frame_moments (hear moment frame ∷ past) = frame_moments past
-frame_moments (show moment ∷ past) = frame_moments past
+-- the reason of a refused update. Want of memory is no property of a text, and `text_refusal` never names it
+abbrev pub reason_of_text : TextFault → Reason
+reason_of_text (BadCharacter place) = bad_character place
+reason_of_text TooLong = text_long
+reason_of_text NoMemory = text_long
 
-abbrev pub has_text : List Line → Bool
-has_text [] = false
-has_text (line ∷ past) = is_text line || has_text past
+abbrev pub reason_of_key : KeyFault → Reason
+reason_of_key few_words = words_wanting
+reason_of_key unlisted = type_unlisted
 
--- the frame was sent, at most ten minutes before
-abbrev pub is_heard_in_time : ℕ → Option ℕ → Bool
-is_heard_in_time moment None = false
-is_heard_in_time moment (Some sent) = nat_le moment (sent + 600)
+abbrev pub reason_of_gift : GiveFault → Reason
+reason_of_gift (bad_text fault) = reason_of_text fault
+reason_of_gift (no_key fault) = reason_of_key fault
+reason_of_gift given.coarse = coarse
+reason_of_gift given.ahead = ahead
+reason_of_gift given.expired = expired
+reason_of_gift (given.not_newer kept) = not_newer kept
+reason_of_gift given.not_whole = not_built
 
--- of a hear line: it has more than three fields
-abbrev pub has_more_fields : List ℕ → Bool
-has_more_fields bytes = nat_lt 3 (length (fields bytes))
+-- what stands against the content of a line
+abbrev pub own_refusal : LifeTable → List Line → Line → Option Reason
+own_refusal table acted empty = None
+own_refusal table acted (station latitude longitude site) = None
+own_refusal table acted (text moment version chars) = option_map reason_of_gift (give_refusal table (items table (history table acted)) moment version chars)
+own_refusal table acted (turn moment slot) = if nat_lt (length (sent_frames table acted)) frame_limit then None else Some frames_full
+own_refusal table acted (hear moment frame) = hear_refusal table.late moment (slice_get (sent_frames table acted) frame)
+own_refusal table acted (show moment) = None
+own_refusal table acted unbuilt = None
 
--- what of a line is built, behind the lines before it
-abbrev pub is_built : List Line → List ℕ → Line → Bool
-is_built acted bytes empty = true
-is_built acted bytes (text moment version report) = is_built_report report && is_built_version moment version && not (has_text acted)
-is_built acted bytes (turn moment slot) = nat_lt (length (frame_moments acted)) 1
-is_built acted bytes (hear moment frame) = not (has_more_fields bytes) && is_heard_in_time moment (slice_get (frame_moments acted) frame)
-is_built acted bytes (show moment) = true
+-- a line that is not built comes first
+abbrev pub is_unbuilt : Line → Bool
+is_unbuilt empty = false
+is_unbuilt (station latitude longitude site) = false
+is_unbuilt (text moment version chars) = false
+is_unbuilt (turn moment slot) = false
+is_unbuilt (hear moment frame) = false
+is_unbuilt (show moment) = false
+is_unbuilt unbuilt = true
 
--- the moment of a line, and the greatest of the lines acted on
-abbrev pub moment_of : Line → Option ℕ
-moment_of empty = None
-moment_of (text moment version report) = Some moment
-moment_of (turn moment slot) = Some moment
-moment_of (hear moment frame) = Some moment
-moment_of (show moment) = Some moment
+abbrev pub built_refusal : Line → Option Reason
+built_refusal line = if is_unbuilt line then Some not_built else None
 
-abbrev pub later_of : Option ℕ → Option ℕ → Option ℕ
-later_of None kept = kept
-later_of (Some moment) None = Some moment
-later_of (Some moment) (Some kept) = Some (max moment kept)
+abbrev pub is_station : Line → Bool
+is_station empty = false
+is_station (station latitude longitude site) = true
+is_station (text moment version chars) = false
+is_station (turn moment slot) = false
+is_station (hear moment frame) = false
+is_station (show moment) = false
+is_station unbuilt = false
 
-abbrev pub latest : List Line → Option ℕ
-latest [] = None
-latest (line ∷ past) = later_of (moment_of line) (latest past)
+abbrev pub station_refusal : List Line → Line → Option Reason
+station_refusal acted line = if is_station line && has_begun acted then Some station_late else None
 
--- a line's moment is not below the greatest one before it
-abbrev pub in_order : Line → Option ℕ → Option ℕ → Result Line Reason
-in_order line None kept = Ok line
-in_order line (Some moment) None = Ok line
-in_order line (Some moment) (Some kept) = if nat_lt moment kept then Err (clock kept) else Ok line
+-- the first reason against a line of its form
+unfoldable pub refusal_of : Setting → List Line → Line → Option Reason
+refusal_of setting acted line = option_or (built_refusal line) (option_or (party_refusal setting.party line)
+    (option_or (station_refusal acted line) (option_or (clock_refusal (moment_of line) (latest acted)) (own_refusal setting.table acted line))))
 
-abbrev pub built_line : List Line → List ℕ → Line → Result Line Reason
-built_line acted bytes line = if is_built acted bytes line then in_order line (moment_of line) (latest acted) else Err not_built
+abbrev pub judged : Line → Option Reason → Result Line Reason
+judged line None = Ok line
+judged line (Some reason) = Err reason
 
-abbrev pub formed_line : List Line → List ℕ → Option Line → Result Line Reason
-formed_line acted bytes None = Err syntax
-formed_line acted bytes (Some line) = built_line acted bytes line
+abbrev pub formed_line : Setting → List Line → Option Line → Result Line Reason
+formed_line setting acted None = Err syntax
+formed_line setting acted (Some line) = judged line (refusal_of setting acted line)
 
 -- the line, or the first reason that stands against it
-unfoldable pub reading : List Line → List ℕ → Result Line Reason
-reading acted bytes = if nat_lt line_limit (length bytes) then Err line_long
-    else (if not (has_built_word bytes) then Err not_built
-    else formed_line acted bytes (line_of bytes))
+unfoldable pub reading : Setting → List Line → List ℕ → Result Line Reason
+reading setting acted bytes = if nat_lt line_limit (length bytes) then Err line_long else formed_line setting acted (line_of bytes)

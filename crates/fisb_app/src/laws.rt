@@ -1,20 +1,20 @@
-//! Laws of the definitions: each is the contract of a function that does nothing.
-ghost use Rattle.std.specs.Prelude.{◌≡◌, ℕ, List};
-ghost use Rattle.fisb_app.specs.Script.{Line};
-ghost use Rattle.fisb_app.specs.Stands.{AreActed};
-ghost use Rattle.fisb_app.specs.LifeTable.{default_table};
-ghost use Rattle.fisb_app.specs.Output.{heard_picture, promised_picture};
+//! Laws of the definitions: each is the contract of a function that does nothing but call the laws of the crates below.
+ghost use Rattle.fisb_app.specs.Laws.{ActedPicturesAgree};
 
-use dlac_text::{payload_size, reading_undoes_writing};
-use fisb_time::time_round_trip;
+use dlac_text::refused_texts;
+use fisb_broadcast::{frames_are_bodies, hearings_are_whole};
+use script_core::ranges_of_lines;
+use uplink_weave::frame_gives_payload;
 
 /// The two pictures agree: whatever lines were acted on, the picture by the bytes that were heard is the picture that
 /// the link promises, which is told by what was given, sent and heard alone.
 pub fn pictures_agree()
-    ensures { (acted : List Line) (moment : ℕ) → AreActed acted
-        → heard_picture default_table acted moment ≡ promised_picture default_table acted moment }
+    ensures { ActedPicturesAgree }
 {
-    time_round_trip();
-    reading_undoes_writing();
-    payload_size();
+    ranges_of_lines();
+    refused_texts();
+    frame_gives_payload();
+    frames_are_bodies();
+    hearings_are_whole();
+    fisb_broadcast::pictures_agree();
 }

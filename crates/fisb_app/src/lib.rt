@@ -1,23 +1,20 @@
 //! The top call.
 #![tactic(auto)]
 
-mod apdu_core;
-mod built;
 mod command;
-mod ground_core;
 mod input;
 mod laws;
 mod lines;
 mod link;
-mod one_text;
+mod opening;
 mod output;
+mod party;
 mod printing;
-mod receiver_core;
 mod script;
-mod script_core;
+mod sent;
+mod started;
 mod status;
 mod top;
-mod uplink_frame;
 
 pub use laws::pictures_agree;
 pub use status::{Reason, Status};

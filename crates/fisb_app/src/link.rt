@@ -1,124 +1,136 @@
-//! A run of `link`: one ground, one receiver, and the frame between them.
-ghost use Rattle.std.specs.Prelude.{◌≡◌, ◌<◌, [], ◌∷◌, ℕ, List, length, slice_get, option_to_list, Ok, IfOk, string_bytes, true, not, ◌&&◌};
-ghost use Rattle.fisb_app.specs.Script.{Line as ScriptLine, text, turn, hear, show};
-ghost use Rattle.fisb_app.specs.LineView.{line_view};
-ghost use Rattle.fisb_app.specs.Reading.{reading, is_built, is_built_report, is_built_version, has_text, is_heard_in_time, frame_moments, in_order, moment_of, latest};
-ghost use Rattle.fisb_app.specs.Stands.{Stands, HasActed, IsReadAs, IsActable, IsBuiltText, IsPicture, kept_or_line, shown_text};
-ghost use Rattle.fisb_app.specs.LifeTable.{default_table};
-ghost use Rattle.fisb_app.specs.Output.{heard_picture};
+//! A run of `link` or `ground`: a ground, a receiver, and the frames between them.
+ghost use Rattle.std.specs.Prelude.{◌≡◌, ◌<◌, ◌^◌, ◌||◌, [], ◌∷◌, ◌++◌, ℕ, List, Option, Some, None, if◌then◌else◌, length, map, option_map, IfOk, not, string_bytes};
+ghost use Rattle.uplink_weave.specs.Functions.{woven};
+ghost use Rattle.fisb_broadcast.specs.Entry.{Entry};
+ghost use Rattle.receiver_core.specs.Kept.{Keeps};
+ghost use Rattle.receiver_core.specs.Brought.{brought};
+ghost use Rattle.std.specs.Option.{option_or};
+ghost use Rattle.script_core.specs.Script.{Line as ScriptLine, station, text, turn, hear, show};
+ghost use Rattle.script_core.specs.LineView.{line_view, HasRanges};
+ghost use Rattle.fisb_broadcast.specs.Update.{GiveFault as GiftFault, bad_text};
+ghost use Rattle.ground_core.specs.Refusal.{IsTold, kept_told};
+ghost use Rattle.fisb_app.specs.Script.{Setting, not_here};
+ghost use Rattle.fisb_app.specs.Past.{moment_of};
+ghost use Rattle.fisb_app.specs.Reading.{party_refusal, is_heard_or_shown, is_unbuilt, is_station, is_empty};
+ghost use Rattle.fisb_app.specs.Stands.{Stands, HoldsParts, IsNext, HasTried, HasOutcome, KeepsRest, TellsRefusal, answer_bytes, aired_text, early_clock, front_refusal, received_text, sent_view};
+ghost use Rattle.fisb_app.specs.Status.{reason_view};
 
-use crate::built::{LIFE, is_built_report, is_built_version};
-use crate::ground_core::{fill, give_text};
-use crate::one_text::{GivenText, SentFrame};
-use crate::printing::{print_heard, print_picture, print_report, print_sent};
-use crate::receiver_core::{HeardReport, report_in};
-use crate::script_core::{Line, has_built_word, has_more_fields, read_line};
+use crate::party::Party;
+use crate::printing::{print_heard, print_picture, print_sent, print_sent_air, print_unread};
+use crate::sent::SentFrame;
 use crate::status::Reason;
-use crate::uplink_frame::{site_of, slot_of};
-use dlac_text::{payload_size, reading_undoes_writing};
-use fisb_time::{Moment, time_round_trip};
+use dlac_text::{TextFault, refused_texts};
+use fisb_broadcast::{frames_are_bodies, hearings_are_whole, pictures_agree};
+use fisb_time::Moment;
+use ground_core::{AirFrame, FillFault, GiveFault, Ground, Station};
+use life_table::LifeTable;
+use receiver_core::{Receiver, picture_of_kept, whole_receptions};
+use script_core::{Line, LineFault, ranges_of_lines, read_line};
 use std::alloc::{AllocError, Global};
+use uplink_frame::read_header;
+use uplink_weave::{
+    frame_gives_payload, functions_of_a_frame, unweave, weave, woven_gives_payload,
+};
 
 /// The most bytes of a line.
 pub(crate) const LINE_LIMIT: usize = 32_768;
 
-/// How many seconds after it was sent a frame may be heard.
-const LATE: u64 = 600;
+/// The most frames of a run.
+const FRAME_LIMIT: usize = 65_536;
 
-/// What the lines acted on have made: the text that the ground was given, the frame that was sent, the moments at
-/// which it was heard, and the moment of the last line that has one.
+/// Why a line is not acted on.
+#[derive(Clone, Copy, Debug)]
+pub(crate) enum Stop {
+    Refused(Reason),
+    NoMemory,
+}
+
+/// What the lines acted on have made.
 #[derive(Drop)]
 pub(crate) struct Link {
-    pub(crate) given: Option<GivenText>,
-    pub(crate) sent: Option<SentFrame>,
-    pub(crate) heard: Vec<Moment>,
+    pub(crate) party: Party,
+    pub(crate) table: LifeTable,
+    pub(crate) sender: Ground,
+    pub(crate) sent: Vec<SentFrame>,
+    pub(crate) receiver: Receiver,
     pub(crate) clock: Option<Moment>,
+    /// Whether a line other than an empty one was acted on.
+    pub(crate) has_begun: bool,
 }
 
 impl Link {
     /// Before any line.
-    pub(crate) fn new(alloc: Global) -> Link
-        ensures { Stands result [] }
+    pub(crate) fn new(alloc: Global, party: Party, table: LifeTable) -> Result<Link, AllocError>
+        ensures { IfOk result (λ link. Stands (record { party = party; table = table }) link []) }
     {
-        Link {
-            given: None,
-            sent: None,
-            heard: Vec::new(alloc),
+        let station = Station {
+            lat: 0,
+            lon: 0,
+            position_valid: false,
+            site: 0,
+        };
+        let sender = Ground::new(alloc, station, table.copy(alloc)?);
+        let received_by = table.copy(alloc)?;
+        Ok(Link {
+            party,
+            table,
+            sender,
+            sent: Vec::new(alloc),
+            receiver: Receiver::new(alloc, received_by),
             clock: None,
-        }
+            has_begun: false,
+        })
     }
 
-    /// The line that the bytes are behind the lines acted on, or the first reason against it.
-    pub(crate) fn read<'a>(&self, bytes: &'a [u8]) -> Result<Line<'a>, Reason>
-        ensures exact { (acted : List ScriptLine) → Stands self.now acted → IsReadAs result (reading acted bytes.now) }
-        ensures actable { IfOk result (λ line. IsActable (line_view line)) }
+    /// Acts on a line behind the lines acted on, and answers the text that it gives.
+    pub(crate) fn act_on(&mut self, alloc: Global, bytes: &[u8]) -> Result<String, Stop>
+        ensures { (setting : Setting) (acted : List ScriptLine) → Stands setting self.old acted
+            → HasOutcome setting acted bytes.now self.new (answer_bytes result) }
     {
         if bytes.len() > LINE_LIMIT {
-            return Err(Reason::LineLong);
+            return Err(Stop::Refused(Reason::LineLong));
         }
-        if !has_built_word(bytes) {
-            return Err(Reason::NotBuilt);
-        }
-        let Some(line) = read_line(bytes) else {
-            return Err(Reason::Syntax);
+        let line = match read_line(alloc, bytes) {
+            Ok(line) => line,
+            Err(LineFault::Syntax) => return Err(Stop::Refused(Reason::Syntax)),
+            Err(LineFault::NoMemory) => return Err(Stop::NoMemory),
         };
-        if !self.is_built(bytes, &line) {
-            return Err(Reason::NotBuilt);
+        if let Some(reason) = self.refusal(&line) {
+            return Err(Stop::Refused(reason));
         }
-        match self.later_clock(&line) {
-            Some(kept) => Err(Reason::Clock { kept }),
-            None => Ok(line),
-        }
-    }
-
-    /// Whether the line is built, behind the lines acted on.
-    fn is_built(&self, bytes: &[u8], line: &Line<'_>) -> bool
-        ensures text { result ≡ true → IsBuiltText (line_view line.now) }
-        ensures exact { (acted : List ScriptLine) → Stands self.now acted → result ≡ is_built acted bytes.now (line_view line.now) }
-    {
-        match line {
-            Line::Empty | Line::Show { .. } => true,
-            Line::Text {
-                moment,
-                version,
-                report,
-            } => self.is_text_built(*moment, *version, report),
-            Line::Turn { .. } => self.sent.is_none(),
-            Line::Hear { moment, frame } => {
-                !has_more_fields(bytes) && self.is_heard_in_time(*moment, *frame)
+        match self.act(alloc, &line) {
+            Ok(text) => {
+                self.advance(&line);
+                Ok(text)
             }
+            Err(Stop::Refused(reason)) => Err(Stop::Refused(reason)),
+            Err(Stop::NoMemory) => Err(Stop::NoMemory),
         }
     }
 
-    /// Whether a text is built, which is the first one.
-    fn is_text_built(&self, moment: Moment, version: Moment, report: &str) -> bool
-        ensures text { result ≡ true → IsBuiltText (text moment version report.now) }
-        ensures exact { (acted : List ScriptLine) → Stands self.now acted
-            → result ≡ (is_built_report report.now && is_built_version moment version && not (has_text acted)) }
+    /// The first reason against a line, those left out that speak of its content.
+    fn refusal(&self, line: &Line) -> Option<Reason>
+        ensures { (setting : Setting) (acted : List ScriptLine) → Stands setting self.now acted
+            → option_map reason_view result ≡ front_refusal setting acted (line_view line.now) }
     {
-        if !is_built_report(report) {
-            return false;
+        if is_unbuilt(line) {
+            return Some(Reason::NotBuilt);
         }
-        if !is_built_version(moment, version) {
-            return false;
+        if !takes(self.party, line) {
+            return Some(Reason::NotHere);
         }
-        self.given.is_none()
-    }
-
-    /// Whether the frame was sent, and not too long before the moment.
-    fn is_heard_in_time(&self, moment: Moment, frame: u32) -> bool
-        ensures { (acted : List ScriptLine) → Stands self.now acted → result ≡ is_heard_in_time moment (slice_get (frame_moments acted) frame) }
-    {
-        match &self.sent {
-            Some(sent) if frame == 0 => moment.seconds() <= sent.moment.seconds() + LATE,
-            _ => false,
+        if is_station(line) && self.has_begun {
+            return Some(Reason::Station);
+        }
+        match self.later_clock(line) {
+            Some(kept) => Some(Reason::Clock { kept }),
+            None => None,
         }
     }
 
     /// The greatest moment of the lines acted on, where the line's moment is below it.
-    fn later_clock(&self, line: &Line<'_>) -> Option<Moment>
-        ensures { (acted : List ScriptLine) → Stands self.now acted → in_order (line_view line.now) (moment_of (line_view line.now)) (latest acted)
-            ≡ kept_or_line result (line_view line.now) }
+    fn later_clock(&self, line: &Line) -> Option<Moment>
+        ensures { result ≡ early_clock (moment_of (line_view line.now)) self.now.clock }
     {
         let Some(moment) = moment_of(line) else {
             return None;
@@ -129,22 +141,59 @@ impl Link {
         }
     }
 
-    /// Acts on a line that was read, and answers the text that it gives.
-    pub(crate) fn act(&mut self, alloc: Global, line: &Line<'_>) -> Result<String, AllocError>
-        requires { IsActable (line_view line.now) }
-        ensures { (acted : List ScriptLine) (bytes : List ℕ) → Stands self.old acted → reading acted bytes ≡ Ok (line_view line.now)
-            → IfOk result (λ given. HasActed self.new acted (line_view line.now) (string_bytes given)) }
+    /// Acts on a line against which nothing but its content can speak.
+    fn act(&mut self, alloc: Global, line: &Line) -> Result<String, Stop>
+        requires { HasRanges 32768 (line_view line.now) }
+        ensures { (setting : Setting) (acted : List ScriptLine) → Stands setting self.old acted → IsNext setting acted (line_view line.now)
+            → HasTried setting acted (line_view line.now) self.old (answer_bytes result) self.new }
     {
+        picture_of_kept();
         match line {
-            Line::Empty => Ok(String::new(alloc)),
+            Line::Nothing | Line::Unbuilt => Ok(String::new(alloc)),
+            Line::Station { lat, lon, site } => self.name_station(alloc, *lat, *lon, *site),
             Line::Text {
                 moment,
                 version,
                 report,
-            } => self.give(alloc, *moment, *version, report),
+            } => self.give(alloc, *moment, *version, report.as_str()),
             Line::Turn { moment, slot } => self.turn(alloc, *moment, *slot),
             Line::Hear { moment, frame } => self.hear(alloc, *moment, *frame),
-            Line::Show { moment } => self.show(alloc, *moment),
+            Line::Show { moment } => match print_picture(alloc, *moment, self.receiver.shown()) {
+                Ok(text) => Ok(text),
+                Err(AllocError) => Err(Stop::NoMemory),
+            },
+        }
+    }
+
+    /// Sets the clock, and that a line was acted on.
+    fn advance(&mut self, line: &Line)
+        ensures clock { self.new.clock ≡ option_or (moment_of (line_view line.now)) self.old.clock }
+        ensures begun { self.new.has_begun ≡ (self.old.has_begun || not (is_empty (line_view line.now))) }
+        ensures parts { (setting : Setting) (acted : List ScriptLine) → HoldsParts setting self.old acted → HoldsParts setting self.new acted }
+    {
+        if let Some(moment) = moment_of(line) {
+            self.clock = Some(moment);
+        }
+        self.has_begun = self.has_begun || !is_empty(line);
+    }
+
+    fn name_station(&mut self, alloc: Global, lat: u32, lon: u32, site: u8) -> Result<String, Stop>
+        requires { (lat < 2 ^ 23) × (lon < 2 ^ 24) × (site < 16) }
+        ensures { (setting : Setting) (acted : List ScriptLine) → Stands setting self.old acted → IsNext setting acted (station lat lon site)
+            → HasTried setting acted (station lat lon site) self.old (answer_bytes result) self.new }
+    {
+        let station = Station {
+            lat,
+            lon,
+            position_valid: true,
+            site,
+        };
+        match self.table.copy(alloc) {
+            Ok(table) => {
+                self.sender = Ground::new(alloc, station, table);
+                Ok(String::new(alloc))
+            }
+            Err(AllocError) => Err(Stop::NoMemory),
         }
     }
 
@@ -154,109 +203,192 @@ impl Link {
         moment: Moment,
         version: Moment,
         report: &str,
-    ) -> Result<String, AllocError>
-        requires { IsActable (text moment version report.now) }
-        ensures { (acted : List ScriptLine) (bytes : List ℕ) → Stands self.old acted → reading acted bytes ≡ Ok (text moment version report.now)
-            → IfOk result (λ given. HasActed self.new acted (text moment version report.now) (string_bytes given)) }
+    ) -> Result<String, Stop>
+        requires { length report.now < 2 ^ 32 }
+        ensures { (setting : Setting) (acted : List ScriptLine) → Stands setting self.old acted → IsNext setting acted (text moment version report.now)
+            → HasTried setting acted (text moment version report.now) self.old (answer_bytes result) self.new }
     {
-        self.given = Some(give_text(alloc, version, report)?);
-        self.clock = Some(moment);
+        if let Err(fault) = self.sender.give_text(moment, version, report) {
+            return match stop_of(fault) {
+                Stop::Refused(reason) => Err(Stop::Refused(reason)),
+                Stop::NoMemory => Err(Stop::NoMemory),
+            };
+        }
         Ok(String::new(alloc))
     }
 
-    fn turn(&mut self, alloc: Global, moment: Moment, slot: u8) -> Result<String, AllocError>
+    fn turn(&mut self, alloc: Global, moment: Moment, slot: u8) -> Result<String, Stop>
         requires { slot < 32 }
-        ensures { (acted : List ScriptLine) (bytes : List ℕ) → Stands self.old acted → reading acted bytes ≡ Ok (turn moment slot)
-            → IfOk result (λ given. HasActed self.new acted (turn moment slot) (string_bytes given)) }
+        ensures { (setting : Setting) (acted : List ScriptLine) → Stands setting self.old acted → IsNext setting acted (turn moment slot)
+            → HasTried setting acted (turn moment slot) self.old (answer_bytes result) self.new }
     {
-        payload_size();
-        let frame = fill(alloc, &self.given, moment, slot)?;
-        let index = self.frames_sent();
-        let text = print_sent(alloc, index, moment, slot, frame.bodies, frame.used)?;
-        self.sent = Some(frame);
-        self.clock = Some(moment);
-        Ok(text)
-    }
-
-    fn frames_sent(&self) -> usize
-        ensures { result ≡ length (option_to_list self.now.sent) }
-    {
-        if self.sent.is_some() { 1 } else { 0 }
-    }
-
-    fn hear(&mut self, alloc: Global, moment: Moment, frame: u32) -> Result<String, AllocError>
-        ensures { (acted : List ScriptLine) (bytes : List ℕ) → Stands self.old acted → reading acted bytes ≡ Ok (hear moment frame)
-            → IfOk result (λ given. HasActed self.new acted (hear moment frame) (string_bytes given)) }
-    {
-        time_round_trip();
-        reading_undoes_writing();
-        payload_size();
-        let Some(sent) = &self.sent else {
-            return Ok(String::new(alloc));
-        };
-        let payload = sent.payload.as_slice();
-        let text = print_heard(alloc, moment, slot_of(payload), site_of(payload))?;
-        self.heard.push(moment)?;
-        self.clock = Some(moment);
-        Ok(text)
-    }
-
-    fn show(&mut self, alloc: Global, moment: Moment) -> Result<String, AllocError>
-        ensures { (acted : List ScriptLine) (bytes : List ℕ) → Stands self.old acted → reading acted bytes ≡ Ok (show moment)
-            → IfOk result (λ given. HasActed self.new acted (show moment) (string_bytes given)) }
-    {
-        let heard = self.shown(alloc, moment)?;
-        let text = print_shown(alloc, moment, &heard)?;
-        self.clock = Some(moment);
-        Ok(text)
-    }
-
-    /// The report that the picture of a moment shows, by the payload that was heard.
-    fn shown(&self, alloc: Global, moment: Moment) -> Result<Option<HeardReport>, AllocError>
-        ensures { (acted : List ScriptLine) → Stands self.now acted → IfOk result (IsPicture (heard_picture default_table acted moment)) }
-    {
-        time_round_trip();
-        reading_undoes_writing();
-        payload_size();
-        let Some(sent) = &self.sent else {
-            return Ok(None);
-        };
-        let Some(received) = self.heard.first() else {
-            return Ok(None);
-        };
-        let Some(heard) = report_in(alloc, sent.payload.as_slice(), *received)? else {
-            return Ok(None);
-        };
-        if moment.seconds() < heard.version.seconds() + LIFE {
-            Ok(Some(heard))
-        } else {
-            Ok(None)
+        let index = self.sent.len();
+        if index >= FRAME_LIMIT {
+            return Err(Stop::Refused(Reason::Frames));
+        }
+        match self.sender.fill(moment, slot) {
+            Ok(frame) => match self.send(alloc, index, &frame) {
+                Ok(text) => Ok(text),
+                Err(AllocError) => Err(Stop::NoMemory),
+            },
+            Err(fault) => Err(Stop::Refused(Reason::Clock {
+                kept: kept_of(fault),
+            })),
         }
     }
-}
 
-/// The picture of the report that is shown, or of none.
-fn print_shown(
-    alloc: Global,
-    moment: Moment,
-    heard: &Option<HeardReport>,
-) -> Result<String, AllocError>
-    ensures { IfOk result (λ given. string_bytes given ≡ shown_text moment heard.now) }
-{
-    match heard {
-        Some(heard) => print_report(alloc, moment, heard.version, heard.report.all()),
-        None => print_picture(alloc, moment, 0),
+    /// Weaves a frame, keeps it, and answers its text.
+    fn send(&mut self, alloc: Global, index: usize, frame: &AirFrame) -> Result<String, AllocError>
+        ensures sent { IfOk result (λ _. map sent_view self.new.sent.items
+            ≡ map sent_view self.old.sent.items ++ record { moment = frame.now.moment; air = woven frame.now.payload } ∷ []) }
+        ensures text { IfOk result (λ s. string_bytes s ≡ aired_text self.old.party index frame.now) }
+        ensures rest { KeepsRest self.old self.new }
+        ensures received { self.new.receiver ≡ self.old.receiver }
+    {
+        woven_gives_payload();
+        functions_of_a_frame();
+        let mut air = [0; 552];
+        weave(&frame.payload, &mut air);
+        let text = match self.party {
+            Party::Link => print_sent(alloc, index, frame)?,
+            Party::Ground => print_sent_air(alloc, index, frame, &air)?,
+        };
+        self.sent.push(SentFrame {
+            moment: frame.moment,
+            air,
+        })?;
+        Ok(text)
+    }
+
+    fn hear(&mut self, alloc: Global, moment: Moment, frame: u32) -> Result<String, Stop>
+        ensures { (setting : Setting) (acted : List ScriptLine) → Stands setting self.old acted → IsNext setting acted (hear moment frame)
+            → HasTried setting acted (hear moment frame) self.old (answer_bytes result) self.new }
+    {
+        ranges_of_lines();
+        refused_texts();
+        frame_gives_payload();
+        frames_are_bodies();
+        hearings_are_whole();
+        pictures_agree();
+        whole_receptions();
+        let Some(sent) = self.sent.get(frame as usize) else {
+            return Err(Stop::Refused(Reason::NoFrame));
+        };
+        if moment.seconds() > sent.moment.seconds() + self.table.late() {
+            return Err(Stop::Refused(Reason::Late));
+        }
+        let mut payload = [0; 432];
+        match unweave(&sent.air, &mut payload) {
+            Ok(counts) => match self.receive(alloc, moment, &payload, counts) {
+                Ok(text) => Ok(text),
+                Err(AllocError) => Err(Stop::NoMemory),
+            },
+            Err(_) => unreachable!(),
+        }
+    }
+
+    /// Hears a payload, and answers its text.
+    fn receive(
+        &mut self,
+        alloc: Global,
+        moment: Moment,
+        payload: &[u8; 432],
+        counts: [u8; 6],
+    ) -> Result<String, AllocError>
+        ensures table { self.new.receiver.table ≡ self.old.receiver.table }
+        ensures keeps { (contents : List Entry) → Keeps self.old.receiver.table contents self.old.receiver.kept → IfOk result (λ _.
+            Keeps self.old.receiver.table (contents ++ brought self.old.receiver.table (record { moment = moment; payload = payload.now })) self.new.receiver.kept) }
+        ensures text { IfOk result (λ s. string_bytes s ≡ received_text self.old.receiver.table moment payload.now counts) }
+        ensures rest { KeepsRest self.old self.new }
+        ensures sent { self.new.sent ≡ self.old.sent }
+    {
+        let header = read_header(payload);
+        let mut text = print_heard(alloc, moment, header.slot, header.site, counts)?;
+        let unread = self.receiver.hear_payload(alloc, moment, payload)?;
+        text.push_str(print_unread(alloc, unread.as_slice())?.as_str())?;
+        Ok(text)
     }
 }
 
-fn moment_of(line: &Line<'_>) -> Option<Moment>
+/// Whether a command takes a line.
+fn takes(party: Party, line: &Line) -> bool
+    ensures { party_refusal party (line_view line.now) ≡ (if result then None else Some not_here) }
+{
+    match party {
+        Party::Link => true,
+        Party::Ground => !is_heard_or_shown(line),
+    }
+}
+
+fn is_heard_or_shown(line: &Line) -> bool
+    ensures { result ≡ is_heard_or_shown (line_view line.now) }
+{
+    matches!(line, Line::Hear { .. } | Line::Show { .. })
+}
+
+fn is_unbuilt(line: &Line) -> bool
+    ensures { result ≡ is_unbuilt (line_view line.now) }
+{
+    matches!(line, Line::Unbuilt)
+}
+
+fn is_station(line: &Line) -> bool
+    ensures { result ≡ is_station (line_view line.now) }
+{
+    matches!(line, Line::Station { .. })
+}
+
+fn is_empty(line: &Line) -> bool
+    ensures { result ≡ is_empty (line_view line.now) }
+{
+    matches!(line, Line::Nothing)
+}
+
+fn moment_of(line: &Line) -> Option<Moment>
     ensures { result ≡ moment_of (line_view line.now) }
 {
     match line {
-        Line::Empty => None,
+        Line::Nothing | Line::Station { .. } | Line::Unbuilt => None,
         Line::Text { moment, .. }
         | Line::Turn { moment, .. }
         | Line::Hear { moment, .. }
         | Line::Show { moment } => Some(*moment),
+    }
+}
+
+/// The moment before which a frame is not filled.
+fn kept_of(fault: FillFault) -> Moment
+    ensures { result ≡ kept_told fault }
+{
+    let FillFault::Clock { kept } = fault;
+    kept
+}
+
+/// Why a text is not given.
+fn stop_of(fault: GiveFault) -> Stop
+    ensures { (refusal : Option GiftFault) → IsTold refusal fault → TellsRefusal refusal result }
+{
+    match fault {
+        GiveFault::Clock { kept } => Stop::Refused(Reason::Clock { kept }),
+        GiveFault::BadText(text) => stop_of_text(text),
+        GiveFault::FewWords => Stop::Refused(Reason::FewWords),
+        GiveFault::Unlisted => Stop::Refused(Reason::Unlisted),
+        GiveFault::Coarse => Stop::Refused(Reason::Coarse),
+        GiveFault::Ahead => Stop::Refused(Reason::Ahead),
+        GiveFault::Expired => Stop::Refused(Reason::Expired),
+        GiveFault::NotNewer { kept } => Stop::Refused(Reason::NotNewer { kept }),
+        GiveFault::NotBuilt => Stop::Refused(Reason::NotBuilt),
+        GiveFault::NoMemory => Stop::NoMemory,
+    }
+}
+
+/// Why a text cannot be sent.
+fn stop_of_text(fault: TextFault) -> Stop
+    ensures { TellsRefusal (Some (bad_text fault)) result }
+{
+    match fault {
+        TextFault::BadCharacter { place } => Stop::Refused(Reason::BadCharacter { place }),
+        TextFault::TooLong => Stop::Refused(Reason::TextLong),
+        TextFault::NoMemory => Stop::NoMemory,
     }
 }

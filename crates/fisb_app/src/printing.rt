@@ -1,80 +1,143 @@
 //! The texts that the lines of a script give.
-ghost use Rattle.std.specs.Prelude.{◌≡◌, ◌+◌, ◌∷◌, [], IfOk, string_bytes, codes, decimal};
-ghost use Rattle.fisb_app.specs.Output.{spaced, fault_text};
+ghost use Rattle.std.specs.Prelude.{◌≡◌, ◌∷◌, [], map, flat_map, IfOk, string_bytes, codes, decimal};
+ghost use Rattle.hex.specs.Hex.{encode_lower};
+ghost use Rattle.fisb_app.specs.Output.{spaced, fault_text, unread_word, told_text, row_word, shown_entry, picture_text};
 ghost use Rattle.fisb_app.specs.Status.{reason_view};
-ghost use Rattle.fisb_app.specs.MetarText.{metar_picture, second_field};
+ghost use Rattle.receiver_core.specs.Views.{reason_view as why_view, unread_view, entry_view};
+ghost use Rattle.fisb_broadcast.specs.Shown.{alive};
 
 use crate::status::Reason;
+use dlac_text::plain;
 use fisb_time::Moment;
+use ground_core::AirFrame;
+use life_table::RowFault;
+use receiver_core::{ShownReport, Unread, UnreadReason};
 use std::alloc::{AllocError, Global};
 
 /// A frame that was sent: its number, moment and slot, how many bodies it has, and what they take.
 pub(crate) fn print_sent(
     alloc: Global,
     index: usize,
-    moment: Moment,
-    slot: u8,
-    bodies: usize,
-    used: usize,
+    frame: &AirFrame,
 ) -> Result<String, AllocError>
-    ensures { IfOk result (λ s. string_bytes s ≡ spaced (codes "sent" ∷ decimal index ∷ decimal moment ∷ decimal slot
-        ∷ decimal bodies ∷ decimal used ∷ [])) }
+    ensures { IfOk result (λ s. string_bytes s ≡ spaced (codes "sent" ∷ decimal index ∷ decimal frame.now.moment ∷ decimal frame.now.slot
+        ∷ decimal frame.now.bodies ∷ decimal frame.now.used ∷ [])) }
 {
-    let moment = moment.seconds();
+    let moment = frame.moment.seconds();
+    let slot = frame.slot;
+    let bodies = frame.bodies;
+    let used = frame.used;
     format!(in alloc; "sent {index} {moment} {slot} {bodies} {used}\n")
 }
 
-/// A reception: its moment, the slot and the site of the frame, and no corrected byte in any of its six blocks.
+/// The same, and the bytes that stand on the air, as hexadecimal digits.
+pub(crate) fn print_sent_air(
+    alloc: Global,
+    index: usize,
+    frame: &AirFrame,
+    air: &[u8; 552],
+) -> Result<String, AllocError>
+    ensures { IfOk result (λ s. string_bytes s ≡ spaced (codes "sent" ∷ decimal index ∷ decimal frame.now.moment ∷ decimal frame.now.slot
+        ∷ decimal frame.now.bodies ∷ decimal frame.now.used ∷ encode_lower air.now ∷ [])) }
+{
+    let digits = hex::encode(alloc, air.as_slice())?;
+    let moment = frame.moment.seconds();
+    let slot = frame.slot;
+    let bodies = frame.bodies;
+    let used = frame.used;
+    format!(in alloc; "sent {index} {moment} {slot} {bodies} {used} {digits}\n")
+}
+
+/// A reception: its moment, the slot and the site of the frame, and how many bytes of each block were corrected.
 pub(crate) fn print_heard(
     alloc: Global,
     moment: Moment,
     slot: u8,
     site: u8,
+    counts: [u8; 6],
 ) -> Result<String, AllocError>
-    ensures { IfOk result (λ s. string_bytes s ≡ spaced (codes "heard" ∷ decimal moment ∷ decimal slot ∷ decimal site
-        ∷ codes "0" ∷ codes "0" ∷ codes "0" ∷ codes "0" ∷ codes "0" ∷ codes "0" ∷ [])) }
+    ensures { IfOk result (λ s. string_bytes s ≡ spaced (codes "heard" ∷ decimal moment ∷ decimal slot ∷ decimal site ∷ map decimal counts)) }
 {
     let moment = moment.seconds();
-    format!(in alloc; "heard {moment} {slot} {site} 0 0 0 0 0 0\n")
+    let [first, second, third, fourth, fifth, sixth] = counts;
+    format!(in alloc;
+        "heard {moment} {slot} {site} {first} {second} {third} {fourth} {fifth} {sixth}\n"
+    )
 }
 
-/// The head of a picture: its moment and the number of its entries.
+/// The parts that are passed on unread: why, and the type, the product and the length of its information frame.
+pub(crate) fn print_unread(alloc: Global, parts: &[Unread]) -> Result<String, AllocError>
+    ensures { IfOk result (λ s. string_bytes s ≡ flat_map told_text (map unread_view parts.now)) }
+{
+    let mut text = String::new(alloc);
+    for part in parts {
+        text.push_str(print_part(alloc, part)?.as_str())?;
+    }
+    Ok(text)
+}
+
+fn print_part(alloc: Global, part: &Unread) -> Result<String, AllocError>
+    ensures { IfOk result (λ s. string_bytes s ≡ told_text (unread_view part.now)) }
+{
+    let word = unread_word(part.reason);
+    let kind = part.kind;
+    let product = part.product;
+    let length = part.length;
+    format!(in alloc; "unread {word} {kind} {product} {length}\n")
+}
+
+fn unread_word(why: UnreadReason) -> &'static str
+    ensures { result.now ≡ unread_word (why_view why) }
+{
+    match why {
+        UnreadReason::Kind => "kind",
+        UnreadReason::Short => "short",
+        UnreadReason::Flagged => "flagged",
+        UnreadReason::Segment => "segment",
+        UnreadReason::Product => "product",
+        UnreadReason::NoRow => "norow",
+        UnreadReason::Files => "files",
+        UnreadReason::Time => "time",
+        UnreadReason::Stale => "stale",
+        UnreadReason::Words => "words",
+        UnreadReason::Unlisted => "unlisted",
+    }
+}
+
+/// The picture of a moment, of the kept reports: those whose life has not passed.
 pub(crate) fn print_picture(
     alloc: Global,
     moment: Moment,
-    count: usize,
+    kept: &[ShownReport],
 ) -> Result<String, AllocError>
-    ensures { IfOk result (λ s. string_bytes s ≡ spaced (codes "picture" ∷ decimal moment ∷ decimal count ∷ [])) }
+    ensures { IfOk result (λ s. string_bytes s ≡ picture_text moment (alive moment (map entry_view kept.now))) }
 {
+    let mut entries = String::new(alloc);
+    let mut count: usize = 0;
+    for shown in kept {
+        if moment.seconds() < shown.until {
+            entries.push_str(print_entry(alloc, shown)?.as_str())?;
+            count += 1;
+        }
+    }
     let moment = moment.seconds();
-    format!(in alloc; "picture {moment} {count}\n")
+    format!(in alloc; "picture {moment} {count}\n{entries}")
 }
 
-/// A picture of one report of a METAR.
-pub(crate) fn print_report(
-    alloc: Global,
-    moment: Moment,
-    version: Moment,
-    report: &str,
-) -> Result<String, AllocError>
-    ensures { IfOk result (λ s. string_bytes s ≡ metar_picture moment version report.now) }
+/// An entry of a picture: the words of its key, its version, and its report.
+fn print_entry(alloc: Global, shown: &ShownReport) -> Result<String, AllocError>
+    ensures { IfOk result (λ s. string_bytes s ≡ shown_entry (entry_view shown.now)) }
 {
-    let moment = moment.seconds();
-    let version = version.seconds();
-    let place = place_of(report);
-    format!(in alloc; "picture {moment} 1\ntext METAR {place} {version} {report}\n")
-}
-
-/// The second word of a report whose first word ends at its first space.
-fn place_of(report: &str) -> &str
-    ensures { result.now ≡ second_field report.now }
-{
-    let Some((_, behind)) = report.split_once(' ') else {
-        return report;
-    };
-    match behind.split_once(' ') {
-        Some((place, _)) => place,
-        None => behind,
+    let kind = shown.key.kind.all();
+    let place = shown.key.place.all();
+    let version = shown.version.seconds();
+    let report = plain(alloc, &shown.report)?;
+    match &shown.key.third {
+        Some(third) => {
+            let third = third.all();
+            format!(in alloc; "text {kind} {place} {third} {version} {report}\n")
+        }
+        None => format!(in alloc; "text {kind} {place} {version} {report}\n"),
     }
 }
 
@@ -83,12 +146,53 @@ pub(crate) fn print_refused(alloc: Global, line: u64, reason: &Reason) -> Result
     ensures { IfOk result (λ s. string_bytes s ≡ fault_text (record { line = line; reason = reason_view reason.now })) }
 {
     match reason {
-        Reason::LineLong => format!(in alloc; "refused {line} linelong\n"),
-        Reason::Syntax => format!(in alloc; "refused {line} syntax\n"),
+        Reason::BadRow { row, reason } => {
+            let why = row_word(*reason);
+            format!(in alloc; "refused {line} row {row} {why}\n")
+        }
         Reason::Clock { kept } => {
             let kept = kept.seconds();
             format!(in alloc; "refused {line} clock {kept}\n")
         }
+        Reason::BadCharacter { place } => format!(in alloc; "refused {line} character {place}\n"),
+        Reason::NotNewer { kept } => {
+            let kept = kept.seconds();
+            format!(in alloc; "refused {line} notnewer {kept}\n")
+        }
+        Reason::TableLong => format!(in alloc; "refused {line} tablelong\n"),
+        Reason::NoTable => format!(in alloc; "refused {line} notable\n"),
+        Reason::NotToml => format!(in alloc; "refused {line} toml\n"),
+        Reason::LineLong => format!(in alloc; "refused {line} linelong\n"),
+        Reason::Syntax => format!(in alloc; "refused {line} syntax\n"),
+        Reason::NotHere => format!(in alloc; "refused {line} nothere\n"),
+        Reason::Station => format!(in alloc; "refused {line} station\n"),
+        Reason::NoFrame => format!(in alloc; "refused {line} noframe\n"),
+        Reason::Late => format!(in alloc; "refused {line} late\n"),
+        Reason::Frames => format!(in alloc; "refused {line} frames\n"),
+        Reason::TextLong => format!(in alloc; "refused {line} textlong\n"),
+        Reason::FewWords => format!(in alloc; "refused {line} words\n"),
+        Reason::Unlisted => format!(in alloc; "refused {line} unlisted\n"),
+        Reason::Coarse => format!(in alloc; "refused {line} coarse\n"),
+        Reason::Ahead => format!(in alloc; "refused {line} ahead\n"),
+        Reason::Expired => format!(in alloc; "refused {line} expired\n"),
         Reason::NotBuilt => format!(in alloc; "refused {line} notbuilt\n"),
+    }
+}
+
+fn row_word(reason: RowFault) -> &'static str
+    ensures { result.now ≡ row_word reason }
+{
+    match reason {
+        RowFault::Shape => "shape",
+        RowFault::Version => "version",
+        RowFault::Late => "late",
+        RowFault::Rows => "rows",
+        RowFault::Word => "word",
+        RowFault::Twice => "twice",
+        RowFault::As => "as",
+        RowFault::Words => "words",
+        RowFault::Form => "form",
+        RowFault::Life => "life",
+        RowFault::Product => "product",
     }
 }

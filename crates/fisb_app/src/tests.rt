@@ -2,15 +2,22 @@
 //! the rules of the script and of its output, and was worked out by hand.
 
 mod faults;
+mod fields;
+mod ground;
+mod opening;
+mod order;
 mod ordinary;
-mod payload;
 mod refused;
-mod refused_numbers;
+mod several;
+mod tables;
 mod words;
 
-use crate::{Reason, Status, run};
-use fisb_wire::{Bytes, MemorySink, MemorySource, Numbers};
+use crate::{Reason, Status, run, run_link};
+use fisb_time::Moment;
+use fisb_wire::{Bytes, MemorySink, MemorySource, Numbers, StdSource};
 use std::alloc::{AllocError, Global};
+use std::io;
+use std::io::Read;
 use std::process::Abort;
 use std::test::Fail;
 
@@ -22,7 +29,23 @@ fn source_of(alloc: Global, input: &[u8]) -> Result<MemorySource, AllocError> {
 
 /// A sink of ample room, of which no write fails.
 fn ample_sink(alloc: Global) -> Result<MemorySink, AllocError> {
-    MemorySink::new(alloc, 4_096, Numbers::of(Vec::new(alloc)))
+    MemorySink::new(alloc, 16_384, Numbers::of(Vec::new(alloc)))
+}
+
+/// A reader that gives its bytes in pieces of at most seven, and fails behind the last one.
+#[derive(Drop)]
+struct Broken<'a> {
+    left: &'a [u8],
+}
+
+impl Read for Broken<'_> {
+    fn read(&mut self, buf: &mut [u8]) -> io::Result<usize> {
+        if self.left.is_empty() {
+            return Err(io::Error::from(io::ErrorKind::Other));
+        }
+        let size = buf.len().min(7);
+        self.left.read(&mut buf[..size])
+    }
 }
 
 /// The words of a command line.
@@ -39,15 +62,21 @@ fn refusal(line: u64, reason: Reason) -> Status {
     Status::Refused { line, reason }
 }
 
-/// Runs `link` over a script, which has to write exactly `output` and to end with `status`.
-fn check_link(
+/// The moment of these seconds.
+fn moment(seconds: u64) -> Result<Moment, Fail> {
+    Ok(Moment::new(seconds).ok_or("a moment")?)
+}
+
+/// Runs a command over a script, which has to write exactly `output` and to end with `status`.
+fn check_script(
     rt: &impl Abort,
     alloc: Global,
+    command: &str,
     script: &str,
     output: &str,
     status: Status,
 ) -> Result<(), Fail> {
-    let words = words_of(alloc, &["link"])?;
+    let words = words_of(alloc, &[command])?;
     let mut source = source_of(alloc, script.as_bytes())?;
     let mut sink = ample_sink(alloc)?;
     let answer = run(alloc, words.as_slice(), &mut source, &mut sink);
@@ -56,11 +85,71 @@ fn check_link(
     Ok(())
 }
 
-/// The letter A so many times.
-fn letters(alloc: Global, count: usize) -> Result<String, AllocError> {
+/// Runs `link` over a script, which has to write exactly `output` and to end with `status`.
+fn check_link(
+    rt: &impl Abort,
+    alloc: Global,
+    script: &str,
+    output: &str,
+    status: Status,
+) -> Result<(), Fail> {
+    check_script(rt, alloc, "link", script, output, status)
+}
+
+/// Runs `ground` over a script, which has to write exactly `output` and to end with `status`.
+fn check_ground(
+    rt: &impl Abort,
+    alloc: Global,
+    script: &str,
+    output: &str,
+    status: Status,
+) -> Result<(), Fail> {
+    check_script(rt, alloc, "ground", script, output, status)
+}
+
+/// Runs `link` over bytes that are no UTF-8. It has to write exactly `output` and to end with `status`.
+fn check_bytes(
+    rt: &impl Abort,
+    alloc: Global,
+    input: &[u8],
+    output: &str,
+    status: Status,
+) -> Result<(), Fail> {
+    let mut source = source_of(alloc, input)?;
+    let mut sink = ample_sink(alloc)?;
+    assert_eq!(rt; run_link(alloc, &mut source, &mut sink), status);
+    assert_eq!(rt; sink.taken(), output.as_bytes());
+    Ok(())
+}
+
+/// Runs `link` over the bytes before a read that fails. It has to write exactly `output` and to end with `status`.
+fn check_broken(
+    rt: &impl Abort,
+    alloc: Global,
+    read: &str,
+    output: &str,
+    status: Status,
+) -> Result<(), Fail> {
+    let mut source = StdSource::new(Broken {
+        left: read.as_bytes(),
+    });
+    let mut sink = ample_sink(alloc)?;
+    let answer = run_link(alloc, &mut source, &mut sink);
+    assert_eq!(rt; answer, status, "{read}");
+    assert_eq!(rt; sink.taken(), output.as_bytes(), "{read}");
+    Ok(())
+}
+
+/// A text so many times.
+fn repeated(alloc: Global, part: &str, count: usize) -> Result<String, AllocError> {
     let mut text = String::new(alloc);
     for _ in 0..count {
-        text.push('A')?;
+        text.push_str(part)?;
     }
     Ok(text)
+}
+
+/// The letter A so many times.
+fn letters(alloc: Global, count: usize) -> Result<String, AllocError> {
+    repeated(alloc, "A", count)
 }

@@ -3,15 +3,19 @@ ghost use Rattle.std.specs.Prelude.{◌≡◌, ◌↔◌, ◌≤◌, None, Some,
 ghost use Rattle.fisb_wire.specs.Faults.{Rose};
 ghost use Rattle.fisb_app.specs.Command.{command_named, IsUnbuilt};
 ghost use Rattle.fisb_app.specs.declared.command.Command.{Command};
+ghost use Rattle.fisb_app.specs.declared.party.Party.{Party as RustParty};
+ghost use Rattle.fisb_app.specs.declared.party.Party.TheVariants.{Link as TheLink, Ground as TheGround};
 ghost use Rattle.fisb_app.specs.Run.{HasRun, HasPromised, IsDecided, HasRefused, acted_part, is_end, status_of};
-ghost use Rattle.fisb_app.specs.Script.{unbuilt};
+ghost use Rattle.fisb_app.specs.Script.{unbuilt_command};
 
 use crate::command::{Command, command_of};
 use crate::input::{Ending, INPUT_LIMIT, read_input};
 use crate::laws::pictures_agree;
+use crate::party::Party;
 use crate::script::{act_on_script, refuse};
 use crate::status::{Reason, Status};
 use fisb_wire::{Sink, Source};
+use life_table::tables_keep_rules;
 use std::alloc::Global;
 
 /// Runs the command that the words name: `link`, `ground`, `receive`, `gdl`, or `make` with further words.
@@ -28,17 +32,24 @@ pub fn run<S: Source, K: Sink>(
 
     // `link`: what it took, wrote and answered.
     ensures link { command_named (map string_bytes words.now) ≡ Some Command.Link
-        → HasRun (S.left source.old) (S.left source.new) (S.faults source.old) (S.faults source.new)
+        → HasRun Party.Link (S.left source.old) (S.left source.new) (S.faults source.old) (S.faults source.new)
         (K.written sink.old) (K.written sink.new) (K.faults sink.old) (K.faults sink.new) result }
     ensures headline { command_named (map string_bytes words.now) ≡ Some Command.Link
-        → HasPromised (S.left source.old) (S.left source.new) (S.faults source.old) (S.faults source.new)
+        → HasPromised Party.Link (S.left source.old) (S.left source.new) (S.faults source.old) (S.faults source.new)
         (K.written sink.old) (K.written sink.new) (K.faults sink.old) (K.faults sink.new) result }
     ensures decided { command_named (map string_bytes words.now) ≡ Some Command.Link
-        → IsDecided (S.left source.old) (S.faults source.old) (S.faults source.new) (K.faults sink.old) (K.faults sink.new) result }
+        → IsDecided Party.Link (S.left source.old) (S.faults source.old) (S.faults source.new) (K.faults sink.old) (K.faults sink.new) result }
+
+    // `ground`: the same, without pictures.
+    ensures ground_alone { command_named (map string_bytes words.now) ≡ Some Command.Ground
+        → HasRun Party.Ground (S.left source.old) (S.left source.new) (S.faults source.old) (S.faults source.new)
+        (K.written sink.old) (K.written sink.new) (K.faults sink.old) (K.faults sink.new) result }
+    ensures ground_decided { command_named (map string_bytes words.now) ≡ Some Command.Ground
+        → IsDecided Party.Ground (S.left source.old) (S.faults source.old) (S.faults source.new) (K.faults sink.old) (K.faults sink.new) result }
 
     // The commands that are not built yet: nothing is read, and line 1 is refused; `gdl` writes nothing.
     ensures unbuilt { (command : Command) → command_named (map string_bytes words.now) ≡ Some command → IsUnbuilt command
-        → (source.new ≡ source.old) × HasRefused unbuilt (K.written sink.old) (K.written sink.new) (K.faults sink.old) (K.faults sink.new) result }
+        → (source.new ≡ source.old) × HasRefused unbuilt_command (K.written sink.old) (K.written sink.new) (K.faults sink.old) (K.faults sink.new) result }
     ensures gdl { command_named (map string_bytes words.now) ≡ Some Command.Gdl
         → (source.new ≡ source.old) × (sink.new ≡ sink.old) × (result ≡ Status.Refused 1 Reason.NotBuilt) }
 
@@ -59,25 +70,58 @@ pub fn run<S: Source, K: Sink>(
     }
 }
 
-/// Runs `link`: acts on the lines of the script that the source gives.
+/// Runs `link`: acts on the lines of the script that the source gives, as a ground and a receiver of its frames.
 pub fn run_link<S: Source, K: Sink>(alloc: Global, source: &mut S, sink: &mut K) -> Status
     requires { K.spare sink.old ≡ None }
-    ensures ran { HasRun (S.left source.old) (S.left source.new) (S.faults source.old) (S.faults source.new)
+    ensures ran { HasRun Party.Link (S.left source.old) (S.left source.new) (S.faults source.old) (S.faults source.new)
         (K.written sink.old) (K.written sink.new) (K.faults sink.old) (K.faults sink.new) result }
-    ensures headline { HasPromised (S.left source.old) (S.left source.new) (S.faults source.old) (S.faults source.new)
+    ensures headline { HasPromised Party.Link (S.left source.old) (S.left source.new) (S.faults source.old) (S.faults source.new)
         (K.written sink.old) (K.written sink.new) (K.faults sink.old) (K.faults sink.new) result }
-    ensures decided { IsDecided (S.left source.old) (S.faults source.old) (S.faults source.new) (K.faults sink.old) (K.faults sink.new) result }
+    ensures decided { IsDecided Party.Link (S.left source.old) (S.faults source.old) (S.faults source.new) (K.faults sink.old) (K.faults sink.new) result }
+    ensures spare { K.spare sink.new ≡ None }
+    ensures reach { K.reach sink.new ≡ K.reach sink.old }
+    ensures source_faults { S.faults source.old ≤ S.faults source.new }
+    ensures sink_faults { K.faults sink.old ≤ K.faults sink.new }
+{
+    run_script(alloc, Party::Link, source, sink)
+}
+
+/// Runs `ground`: acts on the lines of the script that the source gives, as a ground alone, and writes what stands on the air.
+pub fn run_ground<S: Source, K: Sink>(alloc: Global, source: &mut S, sink: &mut K) -> Status
+    requires { K.spare sink.old ≡ None }
+    ensures ran { HasRun Party.Ground (S.left source.old) (S.left source.new) (S.faults source.old) (S.faults source.new)
+        (K.written sink.old) (K.written sink.new) (K.faults sink.old) (K.faults sink.new) result }
+    ensures decided { IsDecided Party.Ground (S.left source.old) (S.faults source.old) (S.faults source.new) (K.faults sink.old) (K.faults sink.new) result }
+    ensures spare { K.spare sink.new ≡ None }
+    ensures reach { K.reach sink.new ≡ K.reach sink.old }
+    ensures source_faults { S.faults source.old ≤ S.faults source.new }
+    ensures sink_faults { K.faults sink.old ≤ K.faults sink.new }
+{
+    run_script(alloc, Party::Ground, source, sink)
+}
+
+/// Reads the source, and acts on the lines of its script.
+fn run_script<S: Source, K: Sink>(
+    alloc: Global,
+    party: Party,
+    source: &mut S,
+    sink: &mut K,
+) -> Status
+    requires { K.spare sink.old ≡ None }
+    ensures ran { HasRun party (S.left source.old) (S.left source.new) (S.faults source.old) (S.faults source.new)
+        (K.written sink.old) (K.written sink.new) (K.faults sink.old) (K.faults sink.new) result }
     ensures spare { K.spare sink.new ≡ None }
     ensures reach { K.reach sink.new ≡ K.reach sink.old }
     ensures source_faults { S.faults source.old ≤ S.faults source.new }
     ensures sink_faults { K.faults sink.old ≤ K.faults sink.new }
 {
     pictures_agree();
+    tables_keep_rules();
     let Ok(input) = read_input(alloc, source) else {
         return Status::NoMemory;
     };
     let text = acted_part(input.bytes.as_slice());
-    match act_on_script(alloc, text, is_end(input.ending), sink) {
+    match act_on_script(alloc, party, text, is_end(input.ending), sink) {
         Ok(()) => status_of(input.ending),
         Err(status) => status,
     }
@@ -108,23 +152,11 @@ fn status_of(ending: Ending) -> Status
     }
 }
 
-/// Runs `ground`, which is not built yet: nothing is read, and line 1 is refused.
-pub fn run_ground<S: Source, K: Sink>(alloc: Global, source: &mut S, sink: &mut K) -> Status
-    requires { K.spare sink.old ≡ None }
-    ensures unread { source.new ≡ source.old }
-    ensures refused { HasRefused unbuilt (K.written sink.old) (K.written sink.new) (K.faults sink.old) (K.faults sink.new) result }
-    ensures spare { K.spare sink.new ≡ None }
-    ensures reach { K.reach sink.new ≡ K.reach sink.old }
-    ensures sink_faults { K.faults sink.old ≤ K.faults sink.new }
-{
-    refuse(alloc, 1, Reason::NotBuilt, sink)
-}
-
 /// Runs `receive`, which is not built yet: nothing is read, and line 1 is refused.
 pub fn run_receive<S: Source, K: Sink>(alloc: Global, source: &mut S, sink: &mut K) -> Status
     requires { K.spare sink.old ≡ None }
     ensures unread { source.new ≡ source.old }
-    ensures refused { HasRefused unbuilt (K.written sink.old) (K.written sink.new) (K.faults sink.old) (K.faults sink.new) result }
+    ensures refused { HasRefused unbuilt_command (K.written sink.old) (K.written sink.new) (K.faults sink.old) (K.faults sink.new) result }
     ensures spare { K.spare sink.new ≡ None }
     ensures reach { K.reach sink.new ≡ K.reach sink.old }
     ensures sink_faults { K.faults sink.old ≤ K.faults sink.new }
@@ -149,7 +181,7 @@ pub fn run_gdl<S: Source, K: Sink>(alloc: Global, source: &mut S, sink: &mut K) 
 pub fn run_make<K: Sink>(alloc: Global, count: u32, seed: u64, sink: &mut K) -> Status
     requires spare { K.spare sink.old ≡ None }
     requires count { (1 ≤ count) × (count ≤ 1000) }
-    ensures refused { HasRefused unbuilt (K.written sink.old) (K.written sink.new) (K.faults sink.old) (K.faults sink.new) result }
+    ensures refused { HasRefused unbuilt_command (K.written sink.old) (K.written sink.new) (K.faults sink.old) (K.faults sink.new) result }
     ensures spare { K.spare sink.new ≡ None }
     ensures reach { K.reach sink.new ≡ K.reach sink.old }
     ensures sink_faults { K.faults sink.old ≤ K.faults sink.new }

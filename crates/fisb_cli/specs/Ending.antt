@@ -19,6 +19,10 @@ words_of arguments = drop 1 arguments
 abbrev pub IsLinkAlone : List (List ℕ) → Type 0
 IsLinkAlone words = words ≡ codes "link" ∷ []
 
+-- the words are the one word `ground`
+abbrev pub IsGroundAlone : List (List ℕ) → Type 0
+IsGroundAlone words = words ≡ codes "ground" ∷ []
+
 -- the words are the one word `gdl`
 abbrev pub IsGdlAlone : List (List ℕ) → Type 0
 IsGdlAlone words = words ≡ codes "gdl" ∷ []

@@ -3,9 +3,10 @@ ghost use Rattle.std.specs.Prelude.{◌≡◌, ◌⊎◌, IfOk, IfErr, IsSomeAnd
 ghost use Rattle.std.specs.IoError.{error_kind};
 ghost use Rattle.std.specs.Vec.Iter.{into_iter_items};
 ghost use Rattle.fisb_app.specs.Command.{command_named, IsUnbuilt};
-ghost use Rattle.fisb_app.specs.Run.{HasRefused, HasRun, IsDecided};
-ghost use Rattle.fisb_app.specs.Script.{unbuilt};
-ghost use Rattle.fisb_cli.specs.Ending.{EndsAs, IsGdlAlone, IsLinkAlone, number_without_words, words_of};
+ghost use Rattle.fisb_app.specs.Run.{HasRefused};
+ghost use Rattle.fisb_app.specs.Parties.{HasRunLink, HasRunGround, IsLinkDecided, IsGroundDecided};
+ghost use Rattle.fisb_app.specs.Script.{unbuilt_command};
+ghost use Rattle.fisb_cli.specs.Ending.{EndsAs, IsGdlAlone, IsGroundAlone, IsLinkAlone, number_without_words, words_of};
 
 use fisb_app::{Status, run};
 use fisb_wire::{Sink, Source};
@@ -29,13 +30,17 @@ pub fn run_args<S: Source, K: Sink>(
     ensures unnamed { IfOk args (λ args. command_named (map string_bytes (words_of (into_iter_items args))) ≡ None → (result ≡ 2) ⊎ (result ≡ 7)) }
     ensures untouched { result ≡ 2 → (source.new ≡ source.old) × (sink.new ≡ sink.old) }
     ensures unbuilt { IfOk args (λ args. IsSomeAnd (command_named (map string_bytes (words_of (into_iter_items args)))) IsUnbuilt →
-        (source.new ≡ source.old) × EndsAs result (HasRefused unbuilt (K.written sink.old) (K.written sink.new) (K.faults sink.old) (K.faults sink.new))) }
+        (source.new ≡ source.old) × EndsAs result (HasRefused unbuilt_command (K.written sink.old) (K.written sink.new) (K.faults sink.old) (K.faults sink.new))) }
     ensures gdl { IfOk args (λ args. IsGdlAlone (map string_bytes (words_of (into_iter_items args))) →
         (source.new ≡ source.old) × (sink.new ≡ sink.old) × ((result ≡ 3) ⊎ (result ≡ 7))) }
     ensures link { IfOk args (λ args. IsLinkAlone (map string_bytes (words_of (into_iter_items args))) →
-        EndsAs result (λ status. HasRun (S.left source.old) (S.left source.new) (S.faults source.old) (S.faults source.new)
+        EndsAs result (λ status. HasRunLink (S.left source.old) (S.left source.new) (S.faults source.old) (S.faults source.new)
         (K.written sink.old) (K.written sink.new) (K.faults sink.old) (K.faults sink.new) status
-        × IsDecided (S.left source.old) (S.faults source.old) (S.faults source.new) (K.faults sink.old) (K.faults sink.new) status)) }
+        × IsLinkDecided (S.left source.old) (S.faults source.old) (S.faults source.new) (K.faults sink.old) (K.faults sink.new) status)) }
+    ensures ground_alone { IfOk args (λ args. IsGroundAlone (map string_bytes (words_of (into_iter_items args))) →
+        EndsAs result (λ status. HasRunGround (S.left source.old) (S.left source.new) (S.faults source.old) (S.faults source.new)
+        (K.written sink.old) (K.written sink.new) (K.faults sink.old) (K.faults sink.new) status
+        × IsGroundDecided (S.left source.old) (S.faults source.old) (S.faults source.new) (K.faults sink.old) (K.faults sink.new) status)) }
 {
     match args {
         Ok(args) => match words(alloc, args) {

@@ -1,12 +1,10 @@
 //! Reads and writes that fail in the middle, and ends that move few bytes at a call.
 
-use crate::tests::{ample_sink, letters, refusal, source_of};
+use crate::tests::{ample_sink, check_broken, letters, refusal, source_of};
 use crate::{Reason, Status, run_link};
-use fisb_wire::{Bytes, MemorySink, MemorySource, Numbers, StdSink, StdSource};
-use std::alloc::Global;
+use fisb_wire::{Bytes, MemorySink, MemorySource, Numbers, StdSink};
 use std::io;
-use std::io::{Read, Write};
-use std::process::Abort;
+use std::io::Write;
 use std::test::Fail;
 
 const SCRIPT: &str = "---\n\
@@ -19,22 +17,6 @@ const OUTPUT: &str = "sent 0 1700000001 0 1 15\n\
     heard 1700000002 0 0 0 0 0 0 0 0\n\
     picture 1700000003 1\n\
     text METAR KSEA 1699999980 METAR KSEA\n";
-
-/// A reader that gives its bytes in pieces of at most seven, and fails behind the last one.
-#[derive(Drop)]
-struct Broken<'a> {
-    left: &'a [u8],
-}
-
-impl Read for Broken<'_> {
-    fn read(&mut self, buf: &mut [u8]) -> io::Result<usize> {
-        if self.left.is_empty() {
-            return Err(io::Error::from(io::ErrorKind::Other));
-        }
-        let size = buf.len().min(7);
-        self.left.read(&mut buf[..size])
-    }
-}
 
 /// A writer that takes one byte at a call.
 #[derive(Drop)]
@@ -51,24 +33,6 @@ impl Write for OneByte {
     fn flush(&mut self) -> io::Result<()> {
         Ok(())
     }
-}
-
-/// Runs `link` over the bytes before a read that fails. It has to write exactly `output` and to end with `status`.
-fn check_broken(
-    rt: &impl Abort,
-    alloc: Global,
-    read: &str,
-    output: &str,
-    status: Status,
-) -> Result<(), Fail> {
-    let mut source = StdSource::new(Broken {
-        left: read.as_bytes(),
-    });
-    let mut sink = ample_sink(alloc)?;
-    let answer = run_link(alloc, &mut source, &mut sink);
-    assert_eq!(rt; answer, status, "{read}");
-    assert_eq!(rt; sink.taken(), output.as_bytes(), "{read}");
-    Ok(())
 }
 
 #[test]
@@ -92,8 +56,8 @@ fn the_lines_before_a_failed_read_are_acted_on(rt: HostRuntime) -> Result<(), Fa
 #[test]
 fn a_refused_line_before_a_failed_read_is_told(rt: HostRuntime) -> Result<(), Fail> {
     let read = "---\nshow 1700000000\nwind\nsho";
-    let output = "picture 1700000000 0\nrefused 3 notbuilt\n";
-    check_broken(&rt, rt.alloc(), read, output, refusal(3, Reason::NotBuilt))
+    let output = "picture 1700000000 0\nrefused 3 syntax\n";
+    check_broken(&rt, rt.alloc(), read, output, refusal(3, Reason::Syntax))
 }
 
 #[test]

@@ -32,6 +32,17 @@ fn check_unread(
     Ok(())
 }
 
+/// Runs words that name a command that is not built. They have to write exactly `output`.
+fn check_not_built(
+    rt: &impl Abort,
+    alloc: Global,
+    words: &[&str],
+    output: &str,
+) -> Result<(), Fail> {
+    let status = refusal(1, Reason::NotBuilt);
+    check_unread(rt, alloc, words, output, status)
+}
+
 /// How many bytes are left, up to 64.
 fn left_of(source: &mut MemorySource) -> Result<usize, Failed> {
     let mut room = [0u8; 64];
@@ -41,28 +52,19 @@ fn left_of(source: &mut MemorySource) -> Result<usize, Failed> {
 #[test]
 fn words_that_name_no_command_read_and_write_nothing(rt: HostRuntime) -> Result<(), Fail> {
     check_unread(&rt, rt.alloc(), &[], "", Status::Usage)?;
+    check_unread(&rt, rt.alloc(), &[""], "", Status::Usage)?;
     check_unread(&rt, rt.alloc(), &["LINK"], "", Status::Usage)?;
     check_unread(&rt, rt.alloc(), &["link", "x"], "", Status::Usage)?;
+    check_unread(&rt, rt.alloc(), &["ground", "x"], "", Status::Usage)?;
     check_unread(&rt, rt.alloc(), &["gdl", "gdl"], "", Status::Usage)
 }
 
 #[test]
 fn commands_that_are_not_built_refuse_line_1(rt: HostRuntime) -> Result<(), Fail> {
-    for words in [
-        ["ground"].as_slice(),
-        ["receive"].as_slice(),
-        ["make"].as_slice(),
-        ["make", "1", "2"].as_slice(),
-    ] {
-        let status = refusal(1, Reason::NotBuilt);
-        check_unread(&rt, rt.alloc(), words, "refused 1 notbuilt\n", status)?;
-    }
-    Ok(())
-}
-
-#[test]
-fn gdl_is_refused_and_writes_nothing(rt: HostRuntime) -> Result<(), Fail> {
-    check_unread(&rt, rt.alloc(), &["gdl"], "", refusal(1, Reason::NotBuilt))
+    check_not_built(&rt, rt.alloc(), &["receive"], "refused 1 notbuilt\n")?;
+    check_not_built(&rt, rt.alloc(), &["make"], "refused 1 notbuilt\n")?;
+    check_not_built(&rt, rt.alloc(), &["make", "1", "2"], "refused 1 notbuilt\n")?;
+    check_not_built(&rt, rt.alloc(), &["gdl"], "")
 }
 
 #[test]
@@ -71,13 +73,15 @@ fn each_command_has_a_call_of_its_own(rt: HostRuntime) -> Result<(), Fail> {
     let status = refusal(1, Reason::NotBuilt);
     let mut source = source_of(alloc, SCRIPT.as_bytes())?;
     let mut sink = ample_sink(alloc)?;
-    assert_eq!(rt; run_ground(alloc, &mut source, &mut sink), status);
     assert_eq!(rt; run_receive(alloc, &mut source, &mut sink), status);
     assert_eq!(rt; run_gdl(alloc, &mut source, &mut sink), status);
     assert_eq!(rt; run_make(alloc, 1, 2, &mut sink), status);
     assert_eq!(rt; run_link(alloc, &mut source, &mut sink), Status::Done);
+    let mut source = source_of(alloc, SCRIPT.as_bytes())?;
+    let status = refusal(2, Reason::NotHere);
+    assert_eq!(rt; run_ground(alloc, &mut source, &mut sink), status);
     let output =
-        "refused 1 notbuilt\nrefused 1 notbuilt\nrefused 1 notbuilt\npicture 1700000000 0\n";
+        "refused 1 notbuilt\nrefused 1 notbuilt\npicture 1700000000 0\nrefused 2 nothere\n";
     assert_eq!(rt; sink.taken(), output.as_bytes());
     pictures_agree();
     Ok(())

@@ -1,7 +1,9 @@
-use Rattle.fisb_app.proofs.HeardContents.{laws_of}
-use Rattle.fisb_app.proofs.HeardPicture.{pictures}
+use Rattle.fisb_app.proofs.ActedHistory.{LineLaws}
+use Rattle.fisb_app.proofs.ReceptionFacts.{AirLaws, acted-pictures}
 use Rattle.fisb_app.proofs.laws.pictures_agree.Goals as goal
 
 pub returns : goal.returns
-returns c acted moment are =
-    pictures (laws_of c.time_round_trip.ensures.named c.reading_undoes_writing.ensures.text c.payload_size.ensures.size) acted moment are
+returns c =
+    let lines : LineLaws = record { ranges = c.ranges_of_lines.ensures; sendable = c.refused_texts.ensures } in
+    let airs : AirLaws = record { payloads = c.frame_gives_payload.ensures; bodies = c.frames_are_bodies.ensures; whole = c.hearings_are_whole.ensures; agree = c.pictures_agree.ensures } in
+    acted-pictures lines airs

@@ -1,10 +1,10 @@
-use Rattle.std.proofs.Common.{rules, arith, ◌≡◌, ◌==◌, [], ◌∷◌, ◌∙◌, Some, None, length}
+use Rattle.std.proofs.Common.{rules, arith, inl, ap, ◌≡◌, ◌==◌, [], ◌∷◌, ◌∙◌, Some, None, length}
 use Rattle.std.proofs.lemmas.Bool.Decides.{nat_tests}
 use Rattle.std.proofs.lemmas.Iterator.{YieldsList-from_slice}
 use Rattle.std.proofs.lemmas.Iterator.Search.{position_from_yields_List}
 use Rattle.std.proofs.lemmas.List.{take_all, drop_all}
 use borrow.Author.Tests.{tests}
-use Rattle.fisb_app.specs.Acted.{parts_of}
+use Rattle.fisb_app.specs.Opening.{parts_of}
 use Rattle.fisb_app.proofs.ByteCuts.{cut_found, cut_none}
 use Rattle.fisb_app.proofs.LineParts.{lines_cut, part_cut, last_line, no_line, only_part}
 use Rattle.fisb_app.proofs.lines.first_line.Goals as goal
@@ -21,6 +21,7 @@ returns-in-Some c =
       lines = lines_cut c.args.ended text line rest cut;
       part = part_cut c.args.ended text line rest cut;
       shorter = search rules;
+      size = inl (let front = ap length c.split_at.ensures.front in let back = ap length c.split_at.ensures.back in search rules);
       no_line = tt;
       only_part = tt;
     }
@@ -40,6 +41,7 @@ returns-in-None-2 c =
       lines = tt;
       part = tt;
       shorter = tt;
+      size = tt;
       no_line = no_line c.args.ended text cut (elim c.if-ended.branch [ then-ended+else-not-is_empty w ↦ grind (arith, nat_tests) | else-ended w ↦ rw w.if-ended.false ]);
       only_part = only_part c.args.ended text cut;
     }

@@ -1,7 +1,7 @@
 use Rattle.std.proofs.Common.{IsSomeAnd, map, string_bytes, refl, sym, ◌∙◌, subst}
 use Rattle.fisb_app.specs.Command.{command_named, IsUnbuilt}
 use Rattle.fisb_app.specs.declared.status.Status.TheVariants.{NoMemory}
-use Rattle.fisb_cli.proofs.NoMemory.{decided-without-memory}
+use Rattle.fisb_cli.proofs.NoMemory.{link-without-memory, ground-without-memory}
 use Rattle.fisb_cli.proofs.SomeCommand.{of-the-value}
 use Rattle.fisb_cli.proofs.ending.run_args.Goals as goal
 
@@ -18,4 +18,8 @@ returns-in-Err-words-clause-unbuilt g c =
 
 pub returns-in-Err-words-clause-link : goal.returns-in-Err-words-clause-link
 returns-in-Err-words-clause-link g c =
-    rw c.in-Ok.is (λ alone. (NoMemory, c.code-in-Err-words.ensures, (tt, decided-without-memory _ _ _ _ _)))
+    rw c.in-Ok.is (λ alone. (NoMemory, c.code-in-Err-words.ensures, (tt, link-without-memory _ _ _ _ _)))
+
+pub returns-in-Err-words-clause-ground_alone : goal.returns-in-Err-words-clause-ground_alone
+returns-in-Err-words-clause-ground_alone g c =
+    rw c.in-Ok.is (λ alone. (NoMemory, c.code-in-Err-words.ensures, (tt, ground-without-memory _ _ _ _ _)))
