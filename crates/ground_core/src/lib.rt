@@ -3,9 +3,9 @@
 
 mod fault;
 mod filling;
-mod sending;
 mod judging;
 mod line;
+mod sending;
 mod station;
 mod waiting;
 
