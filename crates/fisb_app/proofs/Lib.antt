@@ -16,3 +16,4 @@ pub mod LinkSteps
 pub mod SendSteps
 pub mod HearSteps
 pub mod RefusedLines
+pub mod Scenes
