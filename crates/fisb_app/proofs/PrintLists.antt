@@ -1,14 +1,16 @@
 -- The texts of a list's elements, one after another, as a loop writes them.
-use Rattle.std.proofs.Common.{◌≡◌, ℕ, ◌+◌, ◌<◌, ◌≤◌, nat_lt, true, false, List, [], ◌∷◌, ◌++◌, length, map, flat_map, take, get_or, codes, decimal, ap, sym, ◌∙◌, append-nil, append_assoc, arith}
+use Rattle.std.proofs.Common.{◌≡◌, refl, inl, inr, ℕ, suc, ◌+◌, ◌<◌, ◌≤◌, nat_lt, true, false, List, [], ◌∷◌, ◌++◌, length, map, flat_map, filter, count_by, take, get_or, ap, sym, ◌∙◌, append-nil, append_assoc, arith}
+use Rattle.std.proofs.lemmas.Bool.{cases_Bool}
 use Rattle.std.proofs.lemmas.Bool.Decides.{nat_tests}
 use Rattle.std.proofs.lemmas.List.{map_more, take_all}
+use Rattle.std.proofs.lemmas.List.Sums.{length-filter}
 use Rattle.std.proofs.lemmas.List.Elements.{filter-append}
 use Rattle.std.proofs.lemmas.Grind.{flat_map-append}
 use Rattle.fisb_broadcast.specs.Entry.{Entry}
 use Rattle.fisb_broadcast.specs.Shown.{alive}
 use Rattle.receiver_core.specs.declared.shown.ShownReport.{ShownReport}
 use Rattle.receiver_core.specs.Views.{entry_view}
-use Rattle.fisb_app.specs.Output.{shown_entry, picture_text}
+use Rattle.fisb_app.specs.Output.{shown_entry, picture_head, picture_text}
 
 one_more : {Y : Type 0} (f : Y → List ℕ) (ys : List Y) (y : Y) {old new shown piece : List ℕ}
     → old ≡ flat_map f ys → new ≡ old ++ shown → shown ≡ piece → piece ≡ f y → new ≡ flat_map f (ys ++ y ∷ [])
@@ -63,18 +65,38 @@ entries_more moment kept i item within is lives before pushed same piece_is =
     one_more shown_entry (alive moment (map entry_view (take i kept))) (entry_view item) before pushed same piece_is
     ∙ ap (flat_map shown_entry) (sym (alive_more moment kept i item within is lives))
 
--- a picture as it is written in one piece
-abbrev pub picture_piece : ℕ → ℕ → List ℕ → List ℕ
-picture_piece moment count entries = codes "picture " ++ (decimal moment ++ (codes " " ++ (decimal count ++ (codes "\n" ++ entries))))
+-- such a report is written behind the head of a picture and the reports before it
+pub picture_more : (head : List ℕ) (moment : ℕ) (kept : List ShownReport) (i : ℕ) (item : ShownReport) {old new shown piece : List ℕ}
+    → i < length kept → item ≡ get_or kept i item → moment < item.until
+    → old ≡ head ++ flat_map shown_entry (alive moment (map entry_view (take i kept))) → new ≡ old ++ shown → shown ≡ piece
+    → piece ≡ shown_entry (entry_view item)
+    → new ≡ head ++ flat_map shown_entry (alive moment (map entry_view (take (i + 1) kept)))
+picture_more head moment kept i item {shown = shown} within is lives before pushed same piece_is =
+    pushed
+    ∙ ap (λ (t : List ℕ). t ++ shown) before
+    ∙ append_assoc head (flat_map shown_entry (alive moment (map entry_view (take i kept)))) shown
+    ∙ ap (λ (t : List ℕ). head ++ t) (entries_more moment kept i item within is lives refl refl same piece_is)
 
-pub picture_whole : {moment moment' count index : ℕ} {text : List ℕ} (kept : List ShownReport) → moment ≡ moment' → length kept ≤ index
-    → count ≡ length (alive moment' (map entry_view (take index kept)))
-    → text ≡ flat_map shown_entry (alive moment' (map entry_view (take index kept)))
-    → picture_piece moment count text ≡ picture_text moment' (alive moment' (map entry_view kept))
-picture_whole {moment' = moment'} {count = count} {index = index} {text = text} kept same all counted written =
-    let shown = alive moment' (map entry_view (take index kept)) in
-    ap (λ (m : ℕ). picture_piece m count text) same
-    ∙ ap (λ (n : ℕ). picture_piece moment' n text) counted
-    ∙ ap (picture_piece moment' (length shown)) written
-    ∙ (simp append_assoc)
-    ∙ ap (λ (ks : List ShownReport). picture_text moment' (alive moment' (map entry_view ks))) (take_all index kept all)
+-- how many reports have a life that has not passed
+alive_length : (moment : ℕ) (kept : List ShownReport)
+    → length (filter (λ (shown : ShownReport). nat_lt moment shown.until) kept) ≡ length (alive moment (map entry_view kept))
+alive_length moment [] = refl
+alive_length moment (shown ∷ more) = elim (cases_Bool (nat_lt moment shown.until)) [
+  | inl lives ↦ rw lives (ap suc (alive_length moment more))
+  | inr over ↦ rw over (alive_length moment more)
+]
+
+alive_counted : (moment : ℕ) (kept : List ShownReport)
+    → count_by (λ (shown : ShownReport). nat_lt moment shown.until) kept ≡ length (alive moment (map entry_view kept))
+alive_counted moment kept = sym (length-filter (λ (shown : ShownReport). nat_lt moment shown.until) kept) ∙ alive_length moment kept
+
+-- where all reports were looked at, that is the picture
+pub picture_whole : (moment count index : ℕ) (kept : List ShownReport) {text : List ℕ} → length kept ≤ index
+    → count ≡ count_by (λ (shown : ShownReport). nat_lt moment shown.until) kept
+    → text ≡ picture_head moment count ++ flat_map shown_entry (alive moment (map entry_view (take index kept)))
+    → text ≡ picture_text moment (alive moment (map entry_view kept))
+picture_whole moment count index kept all counted written =
+    written
+    ∙ ap (λ (n : ℕ). picture_head moment n ++ flat_map shown_entry (alive moment (map entry_view (take index kept)))) (counted ∙ alive_counted moment kept)
+    ∙ ap (λ (ks : List ShownReport). picture_head moment (length (alive moment (map entry_view kept))) ++ flat_map shown_entry (alive moment (map entry_view ks)))
+    (take_all index kept all)

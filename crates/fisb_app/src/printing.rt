@@ -1,5 +1,5 @@
 //! The texts that the lines of a script give.
-ghost use Rattle.std.specs.Prelude.{◌≡◌, ◌∷◌, [], map, flat_map, IfOk, string_bytes, codes, decimal};
+ghost use Rattle.std.specs.Prelude.{◌≡◌, ◌∷◌, [], nat_lt, count_by, map, flat_map, IfOk, string_bytes, codes, decimal};
 ghost use Rattle.hex.specs.Hex.{encode_lower};
 ghost use Rattle.fisb_app.specs.Output.{spaced, fault_text, unread_word, told_text, row_word, shown_entry, picture_text};
 ghost use Rattle.fisb_app.specs.Status.{reason_view};
@@ -112,16 +112,29 @@ pub(crate) fn print_picture(
 ) -> Result<String, AllocError>
     ensures { IfOk result (λ s. string_bytes s ≡ picture_text moment (alive moment (map entry_view kept.now))) }
 {
-    let mut entries = String::new(alloc);
-    let mut count: usize = 0;
+    let count = alive_count(moment, kept);
+    let seconds = moment.seconds();
+    let mut text = format!(in alloc; "picture {seconds} {count}\n")?;
     for shown in kept {
-        if moment.seconds() < shown.until {
-            entries.push_str(print_entry(alloc, shown)?.as_str())?;
-            count += 1;
+        if is_alive(moment, shown) {
+            text.push_str(print_entry(alloc, shown)?.as_str())?;
         }
     }
-    let moment = moment.seconds();
-    format!(in alloc; "picture {moment} {count}\n{entries}")
+    Ok(text)
+}
+
+/// How many of the kept reports have a life that has not passed at a moment.
+fn alive_count(moment: Moment, kept: &[ShownReport]) -> usize
+    ensures { result ≡ count_by (λ shown. nat_lt moment shown.until) kept.now }
+{
+    kept.iter().filter(|shown| is_alive(moment, shown)).count()
+}
+
+/// Whether the life of a report has not passed at a moment.
+fn is_alive(moment: Moment, shown: &ShownReport) -> bool
+    ensures { result ≡ nat_lt moment shown.now.until }
+{
+    moment.seconds() < shown.until
 }
 
 /// An entry of a picture: the words of its key, its version, and its report.
