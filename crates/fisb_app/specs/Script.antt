@@ -4,7 +4,8 @@ use Rattle.life_table.specs.LifeTable.{LifeTable}
 use Rattle.fisb_app.specs.declared.party.Party.{Party}
 use Rattle.life_table.specs.declared.fault.RowFault.{RowFault}
 
--- the reasons, in the order in which they are looked at
+-- the reasons, in the order in which they are looked at; but the last one is looked at twice: directly behind `syntax` of a line of a
+-- form that is not built, and last of a text that is longer than one APDU
 pub data Reason : Type 0 where
   table_long : Reason
   no_table : Reason

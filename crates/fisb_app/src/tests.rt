@@ -4,6 +4,7 @@
 mod faults;
 mod fields;
 mod ground;
+mod limits;
 mod opening;
 mod order;
 mod ordinary;
@@ -29,7 +30,12 @@ fn source_of(alloc: Global, input: &[u8]) -> Result<MemorySource, AllocError> {
 
 /// A sink of ample room, of which no write fails.
 fn ample_sink(alloc: Global) -> Result<MemorySink, AllocError> {
-    MemorySink::new(alloc, 16_384, Numbers::of(Vec::new(alloc)))
+    sink_of_room(alloc, 16_384)
+}
+
+/// A sink with room for so many bytes, of which no write fails before.
+fn sink_of_room(alloc: Global, room: usize) -> Result<MemorySink, AllocError> {
+    MemorySink::new(alloc, room, Numbers::of(Vec::new(alloc)))
 }
 
 /// A reader that gives its bytes in pieces of at most seven, and fails behind the last one.
