@@ -1,8 +1,9 @@
 -- Which body spells which APDU, as the format states it: the fields of the header side by side with the flags 0, any fill
 -- bits, and the payload.
-use Rattle.std.specs.Prelude.{◌≡◌, ℕ, ◌^◌, ◌<◌, ◌≤◌, ◌↔◌, false, List, ◌++◌, All, Option, None, Some, Result, Ok}
+use Rattle.std.specs.Prelude.{◌≡◌, ℕ, ◌^◌, ◌<◌, ◌≤◌, ◌↔◌, false, List, ◌++◌, Option, None, Some, Result, Ok}
 use Rattle.fisb_time.specs.declared.form.TimeForm.{TimeForm}
 use Rattle.fisb_time.specs.declared.form.TimeFields.{TimeFields}
+pub use Rattle.bit_fields.specs.Bits.{AreBytes}
 use Rattle.apdu_core.specs.Apdu.{Apdu, ApduFault, Segmentation, has_date, has_seconds, fill_width, header_with}
 
 -- each field of the time is within its width, and those that the form lacks are 0
@@ -32,9 +33,6 @@ pub record FitsApdu (a : Apdu) : Type 0 where
   pub product : a.product < 2048
   pub time : FitsTime a.form a.time
   pub segmentation : FitsSegmentation a.segmentation
-
-abbrev pub AreBytes : List ℕ → Type 0
-AreBytes bytes = All (λ byte. byte < 256) bytes
 
 -- the body spells the APDU with these fill bits
 pub record SpellsWith (fill : ℕ) (body : List ℕ) (a : Apdu) : Type 0 where

@@ -1,10 +1,11 @@
--- The list of information frames: one frame further, where it ends, and that what is written reads back.
-use Rattle.std.proofs.Common.{◌≡◌, ℕ, zero, suc, ◌+◌, ◌-◌, ◌*◌, ◌<◌, ◌≤◌, true, false, ◌&&◌, ◌||◌, List, [], ◌∷◌, ◌++◌, length, take, drop, replicate, nat_lt, ◌==◌, refl, sym, ap, subst, ◌∙◌, inl, inr, arith, append_assoc}
+-- The list of information frames: one frame further, and where it ends.
+use Rattle.std.proofs.Common.{◌≡◌, ℕ, zero, suc, ◌+◌, ◌-◌, ◌*◌, ◌/◌, ◌%◌, ◌<◌, ◌≤◌, true, false, ◌&&◌, ◌||◌, List, [], ◌∷◌, length, take, drop, get_or, nat_lt, ◌==◌, refl, sym, ap, subst, ◌∙◌, inl, inr, arith}
 use Rattle.std.specs.List.{All}
-use Rattle.std.proofs.lemmas.List.{length-append, length-drop, length-take-le, take_at, take_rest, drop_at}
-use Rattle.std.proofs.lemmas.List.Elements.{All-nil, All-cons, All-head, All-tail}
+use Rattle.std.proofs.lemmas.List.{length-drop, length-take-le, take_rest}
+use Rattle.std.proofs.lemmas.List.Elements.{All-nil, All-cons}
 use Rattle.std.proofs.lemmas.Bool.{cases_Bool, cases_eq, lt-ltb, le-ltb, ltb-false, cond-true, cond-false, ne_eqb, eq-eqb, and_left, and_right, and_from, or_from, or_left, or_right, or_parts, true≢false}
-use Rattle.uplink_frame.specs.UplinkFrame.{InformationFrame, information_frame, length_at_front, kind_at_front, ends_here, frame_at_front, behind_frame, frames_at_front, frames_in, information_frames, spelled_frames, FitsFrame}
+use Rattle.bit_fields.specs.Bits.{field_at}
+use Rattle.uplink_frame.specs.UplinkFrame.{InformationFrame, length_at_front, kind_at_front, ends_here, frame_at_front, behind_frame, frames_at_front, frames_in, information_frames, FitsFrame}
 
 -- equal arguments give equal values
 pub ap2 :
@@ -40,19 +41,19 @@ goes_on bytes whole not_zeros =
     (le-ltb (length bytes) (2 + length_at_front bytes) whole)
 
 -- the list, where it ends and where it goes on
-at_end :
+pub at_end :
     (most : ℕ) (bytes : List ℕ) → ends_here bytes ≡ true → frames_at_front most bytes ≡ []
 at_end zero bytes ends = refl
 at_end (suc most) bytes ends =
     cond-true (ends_here bytes) [] (frame_at_front bytes ∷ frames_at_front most (behind_frame bytes)) ends
 
-one_more :
+pub one_more :
     (most : ℕ) (bytes : List ℕ) → ends_here bytes ≡ false →
     frames_at_front (suc most) bytes ≡ frame_at_front bytes ∷ frames_at_front most (behind_frame bytes)
 one_more most bytes on =
     cond-false (ends_here bytes) [] (frame_at_front bytes ∷ frames_at_front most (behind_frame bytes)) on
 
-length-behind_frame :
+pub length-behind_frame :
     (bytes : List ℕ) → length (behind_frame bytes) ≡ length bytes - 2 - length_at_front bytes
 length-behind_frame bytes =
     length-drop (length_at_front bytes) (drop 2 bytes) ∙ ap (λ n. n - length_at_front bytes) (length-drop 2 bytes)
@@ -102,25 +103,42 @@ information_frames-frames_in payload size =
     in
     at 212 refl (omega arith)
 
+-- what holds of bytes where the list goes on
+pub record GoesOn (bytes : List ℕ) : Type 0 where
+  pub enough : 2 ≤ length bytes
+  pub whole : 2 + length_at_front bytes ≤ length bytes
+  pub not_zeros : kind_at_front bytes ≡ 0 → 0 < length_at_front bytes
+
+pub goes_on-parts : (bytes : List ℕ) → ends_here bytes ≡ false → GoesOn bytes
+goes_on-parts bytes on =
+    let size = length_at_front bytes in
+    let kind = kind_at_front bytes in
+    let tests = or_parts (nat_lt (length bytes) 2 || ((size == 0) && (kind == 0))) (nat_lt (length bytes) (2 + size)) on in
+    let both = or_parts (nat_lt (length bytes) 2) ((size == 0) && (kind == 0)) tests.0 in
+    record {
+      enough = ltb-false (length bytes) 2 both.0;
+      whole = ltb-false (length bytes) (2 + size) tests.1;
+      not_zeros = λ no_kind. elim (cases_eq size 0) [
+        | inl none ↦ absurd (true≢false (sym (and_from _ _ (eq-eqb size 0 none) (eq-eqb kind 0 no_kind)) ∙ both.1))
+        | inr some ↦ omega arith
+      ];
+    }
+
+-- the body that is read has the length at the front
+pub length-body : (bytes : List ℕ) → 2 + length_at_front bytes ≤ length bytes → length (take (length_at_front bytes) (drop 2 bytes)) ≡ length_at_front bytes
+length-body bytes whole =
+    let left = length-drop 2 bytes in length-take-le (length_at_front bytes) (drop 2 bytes) (omega arith)
+
 -- each frame that is read fits
 frame_fits :
     (bytes : List ℕ) → length bytes < 512 → ends_here bytes ≡ false → FitsFrame (frame_at_front bytes)
 frame_fits bytes short on =
-    let left = length-drop 2 bytes in
-    let ends = or_parts (nat_lt (length bytes) 2 || ((length_at_front bytes == 0) && (kind_at_front bytes == 0)))
-    (nat_lt (length bytes) (2 + length_at_front bytes)) on
-    in
-    let zeros = or_parts (nat_lt (length bytes) 2) ((length_at_front bytes == 0) && (kind_at_front bytes == 0)) ends.0 in
-    let whole : 2 + length_at_front bytes ≤ length bytes = ltb-false (length bytes) (2 + length_at_front bytes) ends.1 in
-    let size = length-take-le (length_at_front bytes) (drop 2 bytes) (omega arith) in
+    let parts = goes_on-parts bytes on in
+    let size = length-body bytes parts.whole in
     record {
       kind = omega arith;
-      body = omega arith;
-      goes_on = λ no_kind. elim (cases_eq (length_at_front bytes) 0) [
-        | inl none ↦
-            absurd (true≢false (sym (and_from _ _ (eq-eqb (length_at_front bytes) 0 none) (eq-eqb (kind_at_front bytes) 0 no_kind)) ∙ zeros.1))
-        | inr some ↦ omega arith
-      ];
+      body = omega (arith, size, parts.whole);
+      goes_on = λ no_kind. omega (arith, size, parts.not_zeros no_kind);
     }
 
 pub All-frames_at_front :
@@ -140,81 +158,44 @@ pub All-frames_in : (bytes : List ℕ) → length bytes < 512 → All FitsFrame 
 unfolding frames_in
 All-frames_in bytes short = All-frames_at_front (length bytes) bytes short
 
--- the front of a frame that is written has its length and its type
-length_at_front-frame :
-    (frame : InformationFrame) (more : List ℕ) → FitsFrame frame →
-    length_at_front (information_frame frame ++ more) ≡ length frame.body
-length_at_front-frame frame more fits = omega (arith, fits.kind, fits.body)
+-- the length and the type in two bytes
+length_of_two : (high low : ℕ) → high < 256 → low < 256 → field_at (high ∷ low ∷ []) 0 9 ≡ high * 2 + low / 128
+length_of_two high low high_is low_is = omega arith
 
-kind_at_front-frame :
-    (frame : InformationFrame) (more : List ℕ) → FitsFrame frame →
-    kind_at_front (information_frame frame ++ more) ≡ frame.kind
-kind_at_front-frame frame more fits = omega (arith, fits.kind, fits.body)
+kind_of_two : (high low : ℕ) → field_at (high ∷ low ∷ []) 12 4 ≡ low % 16
+kind_of_two high low = omega arith
 
--- it does not end the list, and what is read is the frame and what stands behind it
-goes_on-frame :
-    (frame : InformationFrame) (more : List ℕ) → FitsFrame frame →
-    ends_here (information_frame frame ++ more) ≡ false
-goes_on-frame frame more fits =
-    let size = length_at_front-frame frame more fits in
-    let kind = kind_at_front-frame frame more fits in
-    let all = length-append frame.body more in
-    goes_on (information_frame frame ++ more) (omega (arith, size, all))
-    (λ no_length no_kind. absurd (omega (arith, size, no_length, fits.goes_on (sym kind ∙ no_kind))))
+first_two : (bytes : List ℕ) → 2 ≤ length bytes → take 2 bytes ≡ get_or bytes 0 0 ∷ get_or bytes 1 0 ∷ []
+first_two [] enough = absurd (omega arith)
+first_two (high ∷ []) enough = absurd (omega arith)
+first_two (high ∷ low ∷ more) enough = refl
 
-frame_at_front-frame :
-    (frame : InformationFrame) (more : List ℕ) → FitsFrame frame →
-    frame_at_front (information_frame frame ++ more) ≡ frame
-frame_at_front-frame frame more fits =
-    let size = length_at_front-frame frame more fits in
-    let kind = kind_at_front-frame frame more fits in
-    let body : take (length_at_front (information_frame frame ++ more)) (frame.body ++ more) ≡ frame.body =
-    take_at frame.body more _ (sym size)
-    in
-    ap2 (λ (k : ℕ) (b : List ℕ). record { kind = k; body = b }) kind body
+pub length_at_front-two :
+    (bytes : List ℕ) → 2 ≤ length bytes → get_or bytes 0 0 < 256 → get_or bytes 1 0 < 256 →
+    length_at_front bytes ≡ get_or bytes 0 0 * 2 + get_or bytes 1 0 / 128
+length_at_front-two bytes enough high low =
+    ap (λ (two : List ℕ). field_at two 0 9) (first_two bytes enough) ∙ length_of_two (get_or bytes 0 0) (get_or bytes 1 0) high low
 
-behind_frame-frame :
-    (frame : InformationFrame) (more : List ℕ) → FitsFrame frame →
-    behind_frame (information_frame frame ++ more) ≡ more
-behind_frame-frame frame more fits =
-    drop_at frame.body more _ (sym (length_at_front-frame frame more fits))
-
--- the list ends where zeros begin
-pub frames_in-zeros : (count : ℕ) → frames_in (replicate count 0) ≡ []
-frames_in-zeros zero = frames_in-end [] refl
-frames_in-zeros (suc zero) = frames_in-end (0 ∷ []) refl
-frames_in-zeros (suc (suc count)) =
-    frames_in-end (0 ∷ 0 ∷ replicate count 0) (ends-zeros (0 ∷ 0 ∷ replicate count 0) refl refl)
-
--- frames that are written one behind the other, with zeros behind them, are read as they were written
-pub frames_in-spelled :
-    (frames : List InformationFrame) (count : ℕ) → All FitsFrame frames →
-    frames_in (spelled_frames frames ++ replicate count 0) ≡ frames
-frames_in-spelled [] count fits = frames_in-zeros count
-frames_in-spelled (frame ∷ frames) count fits =
-    let first = All-head FitsFrame frame frames fits in
-    let more = spelled_frames frames ++ replicate count 0 in
-    ap frames_in (append_assoc (information_frame frame) (spelled_frames frames) (replicate count 0))
-    ∙ frames_in-more (information_frame frame ++ more) (goes_on-frame frame more first)
-    ∙ ap2 (λ (f : InformationFrame) (b : List ℕ). f ∷ frames_in b) (frame_at_front-frame frame more first)
-    (behind_frame-frame frame more first)
-    ∙ ap (λ (fs : List InformationFrame). frame ∷ fs) (frames_in-spelled frames count (All-tail FitsFrame frame frames fits))
+pub kind_at_front-two : (bytes : List ℕ) → 2 ≤ length bytes → kind_at_front bytes ≡ get_or bytes 1 0 % 16
+kind_at_front-two bytes enough =
+    ap (λ (two : List ℕ). field_at two 12 4) (first_two bytes enough) ∙ kind_of_two (get_or bytes 0 0) (get_or bytes 1 0)
 
 -- the frame at the front of some bytes, in the parts that a reader cuts them into
 pub frames_in-read :
-    (left body behind : List ℕ) (size : ℕ) → 2 ≤ length left → size ≡ length_at_front left →
+    (left body behind : List ℕ) (size kind : ℕ) → 2 ≤ length left → size ≡ length_at_front left → kind ≡ kind_at_front left →
     body ≡ take size (take (length left - 2) (drop 2 left)) → behind ≡ drop size (take (length left - 2) (drop 2 left)) →
-    size ≤ length (take (length left - 2) (drop 2 left)) → (size ≡ 0 → kind_at_front left ≡ 0 → ⊥) →
-    frames_in left ≡ record { kind = kind_at_front left; body = body } ∷ frames_in behind
-frames_in-read left body behind size enough size_is body_is behind_is whole not_zeros =
+    size ≤ length (take (length left - 2) (drop 2 left)) → (size ≡ 0 → kind ≡ 0 → ⊥) →
+    frames_in left ≡ record { kind = kind; body = body } ∷ frames_in behind
+frames_in-read left body behind size kind enough size_is kind_is body_is behind_is whole not_zeros =
     let all = take_rest left 2 in
     let rest = length-drop 2 left in
     let on : ends_here left ≡ false =
-    goes_on left (omega (arith, ap length all)) (λ none. not_zeros (size_is ∙ none))
+    goes_on left (omega (arith, ap length all)) (λ no_length no_kind. not_zeros (size_is ∙ no_length) (kind_is ∙ no_kind))
     in
     let front : take (length_at_front left) (drop 2 left) ≡ body =
     ap2 (λ (n : ℕ) (b : List ℕ). take n b) (sym size_is) (sym all) ∙ sym body_is
     in
     let back : behind_frame left ≡ behind = ap2 (λ (n : ℕ) (b : List ℕ). drop n b) (sym size_is) (sym all) ∙ sym behind_is in
     frames_in-more left on
-    ∙ ap2 (λ (b : List ℕ) (more : List ℕ). record { kind = kind_at_front left; body = b } ∷ frames_in more) front back
+    ∙ ap2 (λ (b more : List ℕ). record { kind = kind_at_front left; body = b } ∷ frames_in more) front back
+    ∙ ap (λ (k : ℕ). record { kind = k; body = body } ∷ frames_in behind) (sym kind_is)

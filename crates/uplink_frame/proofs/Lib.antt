@@ -1,4 +1,5 @@
 pub mod FrameList
+pub mod Spelled
 pub mod HeaderBits
 pub mod Pushed
 pub mod ReadBack

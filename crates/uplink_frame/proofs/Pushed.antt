@@ -1,14 +1,14 @@
 -- Application data: none, one information frame more, and what a payload has of them.
 use Rattle.std.proofs.Common.{◌≡◌, ℕ, ◌+◌, ◌-◌, ◌*◌, ◌/◌, ◌%◌, ◌<◌, ◌≤◌, List, [], ◌∷◌, ◌++◌, length, take, drop, replicate, refl, sym, ap, subst, ◌∙◌, arith, append_assoc}
-use Rattle.std.specs.Int.{bytes_high_first}
 use Rattle.std.specs.List.{All}
 use Rattle.std.proofs.lemmas.List.{append-nil, length-append, length-take-le, take_at, drop_at, drop_all, drop-drop, drop-replicate}
 use Rattle.std.proofs.lemmas.List.Elements.{All-push}
 use Rattle.std.proofs.lemmas.Grind.{flat_map-append}
 use Rattle.std.proofs.Math.Seq.{drop-append-add}
-use Rattle.uplink_frame.specs.UplinkFrame.{Header, InformationFrame, header_bytes, information_frame, frames_in, information_frames, spelled_frames, application_data, payload_of, FitsFrame}
+use Rattle.uplink_frame.specs.UplinkFrame.{Header, InformationFrame, header_bytes, frame_front, information_frame, frames_in, information_frames, spelled_frames, application_data, payload_of, FitsFrame}
 use Rattle.uplink_frame.specs.AppDataBytes.{IsFilled}
-use Rattle.uplink_frame.proofs.FrameList.{ap2, frames_in-zeros, frames_in-spelled, All-frames_in, information_frames-frames_in}
+use Rattle.uplink_frame.proofs.FrameList.{ap2, All-frames_in, information_frames-frames_in}
+use Rattle.uplink_frame.proofs.Spelled.{frames_in-zeros, frames_in-written}
 
 -- zeros are the application data of no frame
 pub filled-zeros : (bytes : List ℕ) → bytes ≡ replicate 424 0 → IsFilled bytes 0
@@ -48,7 +48,7 @@ written_behind start front body bytes once twice room used bytes_are long two fi
 -- the two bytes before a body: nine bits of length, three of zero, and four of type
 pub front_is :
     (size kind : ℕ) → size < 512 → kind < 16 →
-    size / 2 ∷ (size % 2 * 128 + kind) ∷ [] ≡ bytes_high_first 2 (size * 128 + kind)
+    size / 2 ∷ (size % 2 * 128 + kind) ∷ [] ≡ frame_front size 0 kind
 front_is size kind short small = ap2 (λ (a b : ℕ). a ∷ b ∷ []) (omega arith) (omega arith)
 
 -- the bytes of some frames and of one more
@@ -91,7 +91,7 @@ pushed bytes once twice front used frame filled whole fits room front_is two fir
     let twice_is : twice ≡ application_data more = at 424 refl in
     let read : frames_in twice ≡ more =
     ap frames_in twice_is
-    ∙ frames_in-spelled more (424 - length (spelled_frames more))
+    ∙ frames_in-written more (424 - length (spelled_frames more))
     (All-push FitsFrame frames frame (All-frames_in bytes (omega arith)) fits)
     in
     record {

@@ -1,12 +1,13 @@
 -- The payload of a header and of information frames that fit reads back.
-use Rattle.std.proofs.Common.{◌≡◌, ℕ, ◌+◌, ◌-◌, ◌*◌, ◌<◌, ◌≤◌, List, [], ◌∷◌, ◌++◌, length, take, drop, replicate, refl, ap, ◌∙◌, arith, lit<}
-use Rattle.std.specs.Int.{bytes_high_first}
+use Rattle.std.proofs.Common.{◌≡◌, ℕ, ◌+◌, ◌-◌, ◌<◌, ◌≤◌, List, [], ◌∷◌, ◌++◌, length, take, drop, replicate, refl, ap, ◌∙◌, arith, lit<}
 use Rattle.std.specs.List.{All}
 use Rattle.std.proofs.lemmas.List.{length-append, length-replicate}
 use Rattle.std.proofs.lemmas.List.Elements.{All-nil, All-head, All-tail, All-append, All-replicate}
-use Rattle.uplink_frame.specs.UplinkFrame.{Header, FitsHeader, InformationFrame, FitsFrame, header_bytes, information_frame, frames_in, spelled_frames, application_data, payload_of}
-use Rattle.uplink_frame.specs.Laws.{AreBytes, ReadsBack}
-use Rattle.uplink_frame.proofs.FrameList.{information_frames-frames_in, frames_in-spelled}
+use Rattle.uplink_frame.specs.UplinkFrame.{Header, FitsHeader, InformationFrame, FitsFrame, header_bytes, frame_front, information_frame, frames_in, spelled_frames, application_data, payload_of}
+use Rattle.bit_fields.specs.Bits.{AreBytes}
+use Rattle.uplink_frame.specs.Laws.{ReadsBack}
+use Rattle.uplink_frame.proofs.FrameList.{information_frames-frames_in}
+use Rattle.uplink_frame.proofs.Spelled.{frames_in-written}
 use Rattle.uplink_frame.proofs.HeaderBits.{header_in-written, length-header_bytes, All-bytes_high_first}
 
 length-payload_of :
@@ -41,7 +42,7 @@ All-spelled_frames (frame ∷ frames) bodies =
     let P : ℕ → Type 0 = λ byte. byte < 256 in
     let Q : InformationFrame → Type 0 = λ frame. AreBytes frame.body in
     All-append P (information_frame frame) (spelled_frames frames)
-    (All-append P (bytes_high_first 2 (length frame.body * 128 + frame.kind)) frame.body (All-bytes_high_first 2 (length frame.body * 128 + frame.kind)) (All-head Q frame frames bodies))
+    (All-append P (frame_front (length frame.body) 0 frame.kind) frame.body (All-bytes_high_first 2 _) (All-head Q frame frames bodies))
     (All-spelled_frames frames (All-tail Q frame frames bodies))
 
 All-payload_of :
@@ -62,7 +63,7 @@ reads_back h frames header_fits frames_fit bodies room =
       header_back = header_in-written h (payload_of h frames) header_fits (front-payload_of h frames);
       frames_back =
           information_frames-frames_in (payload_of h frames) size ∙ ap frames_in (rest-payload_of h frames)
-          ∙ frames_in-spelled frames (424 - length (spelled_frames frames)) frames_fit;
+          ∙ frames_in-written frames (424 - length (spelled_frames frames)) frames_fit;
       size = size;
       bytes = All-payload_of h frames bodies;
     }

@@ -29,8 +29,9 @@ pub header_in-reserved : header_in (0 ∷ 0 ∷ 0x0A ∷ 0 ∷ 0 ∷ 0x13 ∷ 0x
 unfolding header_in
 header_in-reserved = refl
 
--- an APDU of 13 bytes, and a body whose length needs the ninth bit
-pub information_frame-thirteen : take 2 (information_frame (fisb_frame (replicate 13 7))) ≡ 0x06 ∷ 0x80 ∷ []
+-- an APDU with a payload of nine bytes, and a body whose length needs the ninth bit
+pub information_frame-thirteen :
+    take 7 (information_frame (fisb_frame (0x06 ∷ 0x74 ∷ 0x32 ∷ 0x20 ∷ replicate 9 7))) ≡ 0x06 ∷ 0x80 ∷ 0x06 ∷ 0x74 ∷ 0x32 ∷ 0x20 ∷ 7 ∷ []
 information_frame-thirteen = refl
 
 pub information_frame-nine_bits :

@@ -1,9 +1,8 @@
 -- The laws of headers and information frames.
-use Rattle.std.specs.Prelude.{◌≡◌, ℕ, ◌<◌, ◌≤◌, List, length, All}
+use Rattle.std.specs.Prelude.{◌≡◌, ℕ, ◌≤◌, ◌↔◌, List, length, drop, All}
+use Rattle.bit_fields.specs.Bits.{AreBytes}
 use Rattle.uplink_frame.specs.UplinkFrame.{Header, FitsHeader, header_in, InformationFrame, FitsFrame, information_frames, spelled_frames, payload_of}
-
-abbrev pub AreBytes : List ℕ → Type 0
-AreBytes bytes = All (λ byte. byte < 256) bytes
+use Rattle.uplink_frame.specs.Spelling.{SpellsFrames}
 
 -- what a payload of this header and of these frames reads back as
 pub record ReadsBack (h : Header) (frames : List InformationFrame) : Type 0 where
@@ -16,3 +15,8 @@ pub record ReadsBack (h : Header) (frames : List InformationFrame) : Type 0 wher
 abbrev pub PayloadReadsBack : Type 0
 PayloadReadsBack = (h : Header) (frames : List InformationFrame) → FitsHeader h → All FitsFrame frames
     → All (λ frame. AreBytes frame.body) frames → length (spelled_frames frames) ≤ 424 → ReadsBack h frames
+
+-- the information frames of a payload are those that its bytes spell from byte 8 on, and no others
+abbrev pub FramesAreSpelled : Type 0
+FramesAreSpelled = (payload : List ℕ) (frames : List InformationFrame) → AreBytes payload → length payload ≡ 432
+    → (information_frames payload ≡ frames) ↔ SpellsFrames frames (drop 8 payload)

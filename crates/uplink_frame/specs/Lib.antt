@@ -1,4 +1,5 @@
 pub mod UplinkFrame
 pub mod AppDataBytes
 pub mod Views
+pub mod Spelling
 pub mod Laws

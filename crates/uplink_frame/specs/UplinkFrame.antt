@@ -1,5 +1,5 @@
 -- The payload of a ground uplink message (RTCA DO-282B): a header of 8 bytes, and 424 bytes of information frames.
-use Rattle.std.specs.Prelude.{ℕ, zero, suc, ◌+◌, ◌-◌, ◌*◌, ◌/◌, ◌%◌, ◌^◌, ◌<◌, Bool, ◌&&◌, ◌||◌, ◌==◌, ◌≡◌, nat_lt, if◌then◌else◌, List, [], ◌∷◌, ◌++◌, length, take, drop, slice_index, flat_map, replicate}
+use Rattle.std.specs.Prelude.{ℕ, zero, suc, ◌+◌, ◌-◌, ◌^◌, ◌<◌, Bool, ◌&&◌, ◌||◌, ◌==◌, ◌≡◌, nat_lt, if◌then◌else◌, List, [], ◌∷◌, ◌++◌, length, take, drop, flat_map, replicate}
 use Rattle.std.specs.Int.{bytes_high_first}
 use Rattle.bit_fields.specs.Bits.{joined, field_at}
 
@@ -47,16 +47,21 @@ pub record InformationFrame : Type 0 where
   pub kind : ℕ
   pub body : List ℕ
 
--- 9 bits of length, 3 reserved bits, 4 bits of type, and the body
-abbrev pub information_frame : InformationFrame → List ℕ
-information_frame frame = bytes_high_first 2 (length frame.body * 128 + frame.kind) ++ frame.body
+-- the two bytes before a body: 9 bits of length, 3 reserved bits, 4 bits of type
+abbrev pub frame_front : ℕ → ℕ → ℕ → List ℕ
+frame_front size reserved kind = bytes_high_first 2
+    (joined 0 (record { width = 9; number = size } ∷ record { width = 3; number = reserved } ∷ record { width = 4; number = kind } ∷ []))
 
--- the length and the type at the front of some bytes
+-- the bytes of a frame; its reserved bits are 0
+abbrev pub information_frame : InformationFrame → List ℕ
+information_frame frame = frame_front (length frame.body) 0 frame.kind ++ frame.body
+
+-- the length and the type at the front of some bytes; reserved bits are not looked at
 abbrev pub length_at_front : List ℕ → ℕ
-length_at_front bytes = slice_index bytes 0 * 2 + slice_index bytes 1 / 128
+length_at_front bytes = field_at (take 2 bytes) 0 9
 
 abbrev pub kind_at_front : List ℕ → ℕ
-kind_at_front bytes = slice_index bytes 1 % 16
+kind_at_front bytes = field_at (take 2 bytes) 12 4
 
 -- the list ends where fewer than two bytes are left, where length and type are 0, and where the length is more than what is left
 abbrev pub ends_here : List ℕ → Bool
@@ -77,7 +82,8 @@ frames_at_front (suc most) bytes = if ends_here bytes then [] else frame_at_fron
 unfoldable pub frames_in : List ℕ → List InformationFrame
 frames_in bytes = frames_at_front (length bytes) bytes
 
--- the information frames of a payload, of which each takes two bytes or more
+-- the information frames of a payload, of which each takes two bytes or more. This walks over them; `Spelling` says which
+-- they are with no walk, and a law that they are the same
 unfoldable pub information_frames : List ℕ → List InformationFrame
 information_frames payload = frames_at_front 212 (drop 8 payload)
 

@@ -10,5 +10,5 @@ mod walk;
 
 pub use app_data::{AppData, NoRoom};
 pub use header::{UplinkHeader, read_header, write_header};
-pub use laws::payload_reads_back;
+pub use laws::{frames_are_spelled, payload_reads_back};
 pub use walk::{FrameWalk, InfoFrame, frames};

@@ -3,7 +3,8 @@ ghost use Rattle.uplink_frame.specs.UplinkFrame.{FitsHeader, information_frames,
 ghost use Rattle.uplink_frame.specs.Views.{header_view};
 
 use crate::{
-    AppData, InfoFrame, NoRoom, UplinkHeader, frames, payload_reads_back, read_header, write_header,
+    AppData, InfoFrame, NoRoom, UplinkHeader, frames, frames_are_spelled, payload_reads_back,
+    read_header, write_header,
 };
 use std::alloc::{AllocError, Global};
 use std::process::Abort;
@@ -182,10 +183,9 @@ fn a_length_above_what_is_left_ends_the_list(rt: HostRuntime) -> Result<(), Fail
 }
 
 #[test]
-fn a_frame_of_thirteen_bytes_begins_with_06_80(rt: HostRuntime) -> Result<(), Fail> {
-    let body = [
-        0x06, 0x74, 0x58, 0xD0, 0x34, 0x55, 0x01, 0x4A, 0x02, 0xD3, 0x14, 0x10, 0x00,
-    ];
+fn an_apdu_with_nine_bytes_begins_with_06_80(rt: HostRuntime) -> Result<(), Fail> {
+    // hours and minutes of a text at 12:34, and a payload of nine bytes
+    let body = [0x06, 0x74, 0x32, 0x20, 1, 2, 3, 4, 5, 6, 7, 8, 9];
     let mut data = AppData::new();
     assert_eq!(rt; data.used(), 0);
     assert_eq!(rt; data.push(0, &body), Ok(()));
@@ -193,7 +193,8 @@ fn a_frame_of_thirteen_bytes_begins_with_06_80(rt: HostRuntime) -> Result<(), Fa
     let mut payload = [0xFF; 432];
     data.finish(&mut payload);
     assert!(rt; payload[..8] == [0xFF; 8]);
-    assert!(rt; payload[8..12] == [0x06, 0x80, 0x06, 0x74]);
+    assert!(rt; payload[8..14] == [0x06, 0x80, 0x06, 0x74, 0x32, 0x20]);
+    assert!(rt; payload[14..23] == [1, 2, 3, 4, 5, 6, 7, 8, 9]);
     assert!(rt; payload[23..] == [0; 409]);
     let frame = frames(&payload).next().ok_or("no frame")?;
     assert_eq!(rt; frame.kind, 0);
@@ -204,6 +205,7 @@ fn a_frame_of_thirteen_bytes_begins_with_06_80(rt: HostRuntime) -> Result<(), Fa
 #[test]
 fn a_length_has_nine_bits(rt: HostRuntime) -> Result<(), Fail> {
     payload_reads_back();
+    frames_are_spelled();
     let body = [0x5A; 300];
     let payload = made(&header(0, 0, 5), 5, &body);
     assert!(rt; payload[8..11] == [0x96, 0x05, 0x5A]);

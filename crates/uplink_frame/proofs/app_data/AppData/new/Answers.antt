@@ -1,5 +1,5 @@
 use Rattle.uplink_frame.proofs.Pushed.{filled-zeros}
-use Rattle.uplink_frame.proofs.FrameList.{frames_in-zeros}
+use Rattle.uplink_frame.proofs.Spelled.{frames_in-zeros}
 use Rattle.uplink_frame.specs.UplinkFrame.{frames_in}
 use Rattle.std.proofs.Common.{ap, ◌∙◌}
 use Rattle.uplink_frame.proofs.app_data.AppData.new.Goals as goal
