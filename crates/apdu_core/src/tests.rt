@@ -1,7 +1,6 @@
 //! Bodies as they are on the air, and the ends of each form's ranges.
 ghost use Rattle.std.specs.Prelude.{◌≡◌, ◌≤◌, length};
-ghost use Rattle.apdu_core.specs.Apdu.{apdu_bytes};
-ghost use Rattle.apdu_core.specs.Spelling.{FitsApdu};
+ghost use Rattle.apdu_core.specs.Spelling.{FitsApdu, FitsTime};
 ghost use Rattle.apdu_core.specs.Views.{apdu_view};
 
 use super::*;
@@ -27,9 +26,10 @@ fn hour_and_minute(hours: u8, minutes: u8) -> TimeFields
 /// Whether the APDU is written as these bytes, leaves the rest of the room alone, and reads back.
 fn is_written_as(apdu: &Apdu<'_>, expected: &[u8]) -> bool
     requires fits { FitsApdu (apdu_view apdu.now) }
-    requires holds { length (apdu_bytes (apdu_view apdu.now)) ≤ 16 }
+    requires short { length (apdu_view apdu.now).payload ≤ 9 }
 {
-    let mut room = [0xAA; 16];
+    apdu_reads_back();
+    let mut room = [0xAA; 18];
     let number = write_apdu(apdu, &mut room);
     let (written, rest) = room.split_at(number);
     written == expected && rest.iter().all(|byte| *byte == 0xAA) && read_apdu(written) == Ok(*apdu)
@@ -83,218 +83,119 @@ fn the_first_of_two_segments(rt: HostRuntime) {
     assert!(rt; is_written_as(&apdu, &[0x06, 0x76, 0x58, 0xD0, 0x00, 0x04, 0x01, 0x05]));
 }
 
-#[test]
-fn the_ends_of_hours_and_minutes(rt: HostRuntime) {
-    let least = Apdu {
-        product: 0,
-        form: TimeForm::Minute,
-        time: hour_and_minute(0, 0),
-        seg: None,
-        payload: &[],
+/// The greatest fields that a form has bits for.
+fn greatest_time(form: TimeForm) -> TimeFields
+    ensures { FitsTime form result }
+{
+    let time = TimeFields {
+        month: 0,
+        day: 0,
+        hours: 31,
+        minutes: 63,
+        seconds: 0,
     };
-    let greatest = Apdu {
-        product: 2047,
-        form: TimeForm::Minute,
-        time: TimeFields {
-            month: 0,
-            day: 0,
-            hours: 31,
-            minutes: 63,
-            seconds: 0,
-        },
-        seg: None,
-        payload: &[],
-    };
-    let first = Some(Seg {
-        file: 0,
-        count: 1,
-        number: 1,
-    });
-    let last = Some(Seg {
-        file: 1023,
-        count: 511,
-        number: 511,
-    });
-    assert!(rt; is_written_as(&least, &[0x00, 0x00, 0x00, 0x00]));
-    assert!(rt; is_written_as(&greatest, &[0x1F, 0xFC, 0x7F, 0xF0]));
-    assert!(rt;
-        is_written_as(
-            &Apdu {
-                seg: first,
-                ..least
-            },
-            &[0x00, 0x02, 0x00, 0x00, 0x00, 0x02, 0x01]
-        )
-    );
-    assert!(rt;
-        is_written_as(
-            &Apdu {
-                seg: last,
-                ..greatest
-            },
-            &[0x1F, 0xFE, 0x7F, 0xFF, 0xFF, 0xFF, 0xFF]
-        )
-    );
-}
-
-#[test]
-fn the_ends_of_seconds(rt: HostRuntime) {
-    let least = Apdu {
-        product: 0,
-        form: TimeForm::Second,
-        time: hour_and_minute(0, 0),
-        seg: None,
-        payload: &[],
-    };
-    let greatest = Apdu {
-        product: 2047,
-        form: TimeForm::Second,
-        time: TimeFields {
-            month: 0,
-            day: 0,
-            hours: 31,
-            minutes: 63,
+    match form {
+        TimeForm::Minute => time,
+        TimeForm::Second => TimeFields {
             seconds: 63,
+            ..time
         },
-        seg: None,
-        payload: &[],
-    };
-    let first = Some(Seg {
-        file: 0,
-        count: 1,
-        number: 1,
-    });
-    let last = Some(Seg {
-        file: 1023,
-        count: 511,
-        number: 511,
-    });
-    assert!(rt; is_written_as(&least, &[0x00, 0x00, 0x80, 0x00, 0x00]));
-    assert!(rt; is_written_as(&greatest, &[0x1F, 0xFC, 0xFF, 0xFF, 0xC0]));
-    assert!(rt;
-        is_written_as(
-            &Apdu {
-                seg: first,
-                ..least
-            },
-            &[0x00, 0x02, 0x80, 0x00, 0x00, 0x00, 0x08, 0x04]
-        )
-    );
-    assert!(rt;
-        is_written_as(
-            &Apdu {
-                seg: last,
-                ..greatest
-            },
-            &[0x1F, 0xFE, 0xFF, 0xFF, 0xFF, 0xFF, 0xFF, 0xFC]
-        )
-    );
-}
-
-#[test]
-fn the_ends_of_dates(rt: HostRuntime) {
-    let least = Apdu {
-        product: 0,
-        form: TimeForm::DayMinute,
-        time: hour_and_minute(0, 0),
-        seg: None,
-        payload: &[],
-    };
-    let greatest = Apdu {
-        product: 2047,
-        form: TimeForm::DayMinute,
-        time: TimeFields {
+        TimeForm::DayMinute => TimeFields {
             month: 15,
             day: 31,
-            hours: 31,
-            minutes: 63,
-            seconds: 0,
+            ..time
         },
-        seg: None,
-        payload: &[],
-    };
-    let first = Some(Seg {
-        file: 0,
-        count: 1,
-        number: 1,
-    });
-    let last = Some(Seg {
-        file: 1023,
-        count: 511,
-        number: 511,
-    });
-    assert!(rt; is_written_as(&least, &[0x00, 0x01, 0x00, 0x00, 0x00]));
-    assert!(rt; is_written_as(&greatest, &[0x1F, 0xFD, 0x7F, 0xFF, 0xF8]));
-    assert!(rt;
-        is_written_as(
-            &Apdu {
-                seg: first,
-                ..least
-            },
-            &[0x00, 0x03, 0x00, 0x00, 0x00, 0x00, 0x01, 0x00, 0x80]
-        )
-    );
-    assert!(rt;
-        is_written_as(
-            &Apdu {
-                seg: last,
-                ..greatest
-            },
-            &[0x1F, 0xFF, 0x7F, 0xFF, 0xFF, 0xFF, 0xFF, 0xFF, 0x80]
-        )
-    );
+        TimeForm::DaySecond => TimeFields {
+            month: 15,
+            day: 31,
+            seconds: 63,
+            ..time
+        },
+    }
 }
 
-#[test]
-fn the_ends_of_dates_and_seconds(rt: HostRuntime) {
+/// Whether the least and the greatest values of a form are written as these bytes, without a segment and then with one.
+fn ends_are(form: TimeForm, expected: [&[u8]; 4]) -> bool {
     let least = Apdu {
         product: 0,
-        form: TimeForm::DaySecond,
+        form,
         time: hour_and_minute(0, 0),
         seg: None,
         payload: &[],
     };
     let greatest = Apdu {
         product: 2047,
-        form: TimeForm::DaySecond,
-        time: TimeFields {
-            month: 15,
-            day: 31,
-            hours: 31,
-            minutes: 63,
-            seconds: 63,
-        },
-        seg: None,
-        payload: &[],
+        time: greatest_time(form),
+        ..least
     };
-    let first = Some(Seg {
+    let first = Seg {
         file: 0,
         count: 1,
         number: 1,
-    });
-    let last = Some(Seg {
+    };
+    let last = Seg {
         file: 1023,
         count: 511,
         number: 511,
-    });
-    assert!(rt; is_written_as(&least, &[0x00, 0x01, 0x80, 0x00, 0x00, 0x00]));
-    assert!(rt; is_written_as(&greatest, &[0x1F, 0xFD, 0xFF, 0xFF, 0xFF, 0xE0]));
+    };
+    let in_first = Apdu {
+        seg: Some(first),
+        ..least
+    };
+    let in_last = Apdu {
+        seg: Some(last),
+        ..greatest
+    };
+    is_written_as(&least, expected[0])
+        && is_written_as(&greatest, expected[1])
+        && is_written_as(&in_first, expected[2])
+        && is_written_as(&in_last, expected[3])
+}
+
+#[test]
+fn the_ends_of_each_form(rt: HostRuntime) {
     assert!(rt;
-        is_written_as(
-            &Apdu {
-                seg: first,
-                ..least
-            },
-            &[0x00, 0x03, 0x80, 0x00, 0x00, 0x00, 0x00, 0x04, 0x02]
+        ends_are(
+            TimeForm::Minute,
+            [
+                &[0x00, 0x00, 0x00, 0x00],
+                &[0x1F, 0xFC, 0x7F, 0xF0],
+                &[0x00, 0x02, 0x00, 0x00, 0x00, 0x02, 0x01],
+                &[0x1F, 0xFE, 0x7F, 0xFF, 0xFF, 0xFF, 0xFF],
+            ]
         )
     );
     assert!(rt;
-        is_written_as(
-            &Apdu {
-                seg: last,
-                ..greatest
-            },
-            &[0x1F, 0xFF, 0xFF, 0xFF, 0xFF, 0xFF, 0xFF, 0xFF, 0xFE]
+        ends_are(
+            TimeForm::Second,
+            [
+                &[0x00, 0x00, 0x80, 0x00, 0x00],
+                &[0x1F, 0xFC, 0xFF, 0xFF, 0xC0],
+                &[0x00, 0x02, 0x80, 0x00, 0x00, 0x00, 0x08, 0x04],
+                &[0x1F, 0xFE, 0xFF, 0xFF, 0xFF, 0xFF, 0xFF, 0xFC],
+            ]
+        )
+    );
+    assert!(rt;
+        ends_are(
+            TimeForm::DayMinute,
+            [
+                &[0x00, 0x01, 0x00, 0x00, 0x00],
+                &[0x1F, 0xFD, 0x7F, 0xFF, 0xF8],
+                &[0x00, 0x03, 0x00, 0x00, 0x00, 0x00, 0x01, 0x00, 0x80],
+                &[0x1F, 0xFF, 0x7F, 0xFF, 0xFF, 0xFF, 0xFF, 0xFF, 0x80],
+            ]
+        )
+    );
+    assert!(rt;
+        ends_are(
+            TimeForm::DaySecond,
+            [
+                &[0x00, 0x01, 0x80, 0x00, 0x00, 0x00],
+                &[0x1F, 0xFD, 0xFF, 0xFF, 0xFF, 0xE0],
+                &[0x00, 0x03, 0x80, 0x00, 0x00, 0x00, 0x00, 0x04, 0x02],
+                &[0x1F, 0xFF, 0xFF, 0xFF, 0xFF, 0xFF, 0xFF, 0xFF, 0xFE],
+            ]
         )
     );
 }
