@@ -1,7 +1,7 @@
 -- Which moment the fields of a received time name. A time field has no year, and often no day, so many
 -- moments have the same fields. Meant is the latest of them that is at most a minute after the
 -- reception: what is broadcast lies in the past, and the minute allows for clocks that differ.
-use Rattle.std.specs.Prelude.{◌≡◌, ℕ, zero, suc, ◌+◌, ◌≤◌, Bool, ◌&&◌, cond, IsTrue, Option, None, Some}
+use Rattle.std.specs.Prelude.{◌≡◌, ℕ, zero, suc, ◌+◌, ◌<◌, ◌≤◌, Bool, ◌&&◌, cond, IsTrue, Option, None, Some}
 use Rattle.fisb_time.specs.declared.form.TimeForm.{TimeForm}
 use Rattle.fisb_time.specs.declared.form.TimeForm.TheVariants.{Minute, Second, DayMinute, DaySecond}
 use Rattle.fisb_time.specs.declared.form.TimeFields.{TimeFields}
@@ -44,3 +44,10 @@ window Minute = 86400
 window Second = 86400
 window DayMinute = 31536000
 window DaySecond = 31536000
+
+-- the fields of a moment in this form name that moment again where they are received from a minute
+-- before it on, and earlier than a minute short of so many seconds after it
+abbrev pub NamesAgain : TimeForm → ℕ → Type 0
+NamesAgain form seconds = (moment received : ℕ) → IsMoment moment → IsMoment received
+    → IsTrue (shows form moment) → moment ≤ received + 60 → received + 60 < moment + seconds
+    → Names form (shown form moment) received moment

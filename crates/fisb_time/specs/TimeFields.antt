@@ -56,14 +56,6 @@ same_fields f g = f.month == g.month
     && f.minutes == g.minutes
     && f.seconds == g.seconds
 
--- the fields are an hour and a minute of a day, and nothing else
-pub record IsMinuteOfDay (f : TimeFields) : Type 0 where
-  pub hours : f.hours < 24
-  pub minutes : f.minutes < 60
-  pub month : f.month ≡ 0
-  pub day : f.day ≡ 0
-  pub seconds : f.seconds ≡ 0
-
 -- the second of the minute in a form: 0 where the form has no seconds
 abbrev pub IsSecondIn : TimeForm → ℕ → Type 0
 IsSecondIn Minute second = second ≡ 0

@@ -7,7 +7,7 @@ ghost use Rattle.fisb_time.specs.Moment.{IsMoment};
 ghost use Rattle.fisb_time.specs.TimeForm.{shows};
 ghost use Rattle.fisb_time.specs.TimeFields.{shown};
 ghost use Rattle.fisb_time.specs.CivilDate.{CivilDate, IsDateOf, date_of};
-ghost use Rattle.fisb_time.specs.Naming.{Names, named, window};
+ghost use Rattle.fisb_time.specs.Naming.{Names, NamesAgain, named, window};
 
 /// The moment that is found by the function is the one that is named by property.
 pub fn named_is_greatest()
@@ -15,35 +15,32 @@ pub fn named_is_greatest()
         (named form fields received ≡ Some moment) ↔ Names form fields received moment }
 {}
 
-/// The time round trip, for hours and minutes: the fields of a moment name that moment again where
-/// they are received less than a day after it, and not more than a minute before it.
+/// The time round trip for times of day: the fields of a moment name that moment again where they
+/// are received from a minute before it on, and earlier than a minute short of a day after it.
 pub fn time_round_trip()
-    ensures named { (moment received : ℕ) →
-        IsMoment moment → IsMoment received →
-        IsTrue (shows TimeForm.Minute moment) →
-        moment ≤ received + 60 → received + 60 < moment + 86400 →
-        named TimeForm.Minute (shown TimeForm.Minute moment) received ≡ Some moment }
-    ensures names { (moment received : ℕ) →
-        IsMoment moment → IsMoment received →
-        IsTrue (shows TimeForm.Minute moment) →
-        moment ≤ received + 60 → received + 60 < moment + 86400 →
-        Names TimeForm.Minute (shown TimeForm.Minute moment) received moment }
-{}
+    ensures minutes { NamesAgain TimeForm.Minute 86400 }
+    ensures seconds { NamesAgain TimeForm.Second 86400 }
+{
+    form_round_trip()
+}
 
-/// The time round trip, for every form: the fields of a moment name that moment again where they
-/// are received not more than a minute before it, and before the same fields can come again: after
-/// a day for a time of day, and after 365 days for a date.
+/// The time round trip for dates: the fields of a moment name that moment again where they are
+/// received from a minute before it on, and earlier than a minute short of 365 days after it.
+pub fn date_round_trip()
+    ensures minutes { NamesAgain TimeForm.DayMinute 31536000 }
+    ensures seconds { NamesAgain TimeForm.DaySecond 31536000 }
+{
+    form_round_trip()
+}
+
+/// Both round trips as one, for every form: `window` is a day or 365 days.
 pub fn form_round_trip()
     ensures named { (form : TimeForm) (moment received : ℕ) →
         IsMoment moment → IsMoment received →
         IsTrue (shows form moment) →
         moment ≤ received + 60 → received + 60 < moment + window form →
         named form (shown form moment) received ≡ Some moment }
-    ensures names { (form : TimeForm) (moment received : ℕ) →
-        IsMoment moment → IsMoment received →
-        IsTrue (shows form moment) →
-        moment ≤ received + 60 → received + 60 < moment + window form →
-        Names form (shown form moment) received moment }
+    ensures names { (form : TimeForm) → NamesAgain form (window form) }
 {}
 
 /// The date that the function computes is the one that the calendar has for the day of the moment.
