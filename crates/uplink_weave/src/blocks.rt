@@ -2,17 +2,15 @@
 ghost use Rattle.std.specs.Prelude.{◌≡◌, ◌*◌, ◌<◌, ℕ, length, slice_index};
 ghost use Rattle.uplink_weave.specs.Woven.{block, BeginsWithPart};
 
-// A block of a frame.
+// Puts a block of a frame in the place of a word.
 #[inline]
-pub(crate) fn read_block(air: &[u8; 552], number: usize) -> [u8; 92]
+pub(crate) fn read_block(air: &[u8; 552], number: usize, word: &mut [u8; 92])
     requires { number < 6 }
-    ensures { result ≡ block number air.now }
+    ensures { word.new ≡ block number air.now }
 {
-    let mut word = [0; 92];
     for k in 0..92 {
         word[k] = air[6 * k + number];
     }
-    word
 }
 
 // Puts a word in the place of a block of a frame.

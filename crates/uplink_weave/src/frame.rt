@@ -1,7 +1,8 @@
 //! Frames on the air, and their payloads.
-ghost use Rattle.std.specs.Prelude.{◌≡◌, ◌↔◌, ℕ, List, Some, None, is_ok, IsTrue, IfOk, IfErr, OnOk, OnErr};
+ghost use Rattle.std.specs.Prelude.{◌≡◌, ◌↔◌, ◌<◌, ℕ, List, [], slice_index_or, Some, None, is_ok, IsTrue, IfOk, IfErr, OnOk, OnErr};
+ghost use Rattle.rs_code.specs.CodeWord.{IsNearest};
 ghost use Rattle.uplink_weave.specs.Functions.{woven, payload_in, counts_in, lost_block_in};
-ghost use Rattle.uplink_weave.specs.Woven.{AllCorrectable, HasCounts, HasPayload, IsLostBlock, IsWoven};
+ghost use Rattle.uplink_weave.specs.Woven.{block, AllCorrectable, HasCounts, HasPayload, IsLostBlock, IsWoven};
 
 use crate::blocks::{read_block, read_part, write_block, write_part};
 use crate::laws::{functions_of_a_frame, woven_is_the_frame};
@@ -28,6 +29,28 @@ pub fn weave(payload: &[u8; 432], air: &mut [u8; 552])
     }
 }
 
+// Corrects the words of the six blocks of a frame, and gives the number of bytes that were corrected in each.
+fn correct_blocks(air: &[u8; 552], words: &mut [[u8; 92]; 6]) -> Result<[u8; 6], Lost>
+    ensures exactly { IsTrue (is_ok result) ↔ AllCorrectable air.now }
+    ensures words { OnOk result ((r : ℕ) → r < 6 → IsNearest 92 20 120 (block r air.now) (slice_index_or words.new r [])) }
+    ensures counts { IfOk result (λ counts. HasCounts air.now counts) }
+    ensures lost { IfErr result (λ lost. IsLostBlock air.now lost.block) }
+{
+    let code = UplinkCode::new();
+    let mut counts = [0; 6];
+    for number in 0..6 {
+        let word = &mut words[number];
+        read_block(air, number, word);
+        match code.correct(word) {
+            Ok(changed) => counts[number] = changed,
+            Err(_) => return Err(Lost {
+                block: number as u8,
+            }),
+        }
+    }
+    Ok(counts)
+}
+
 /// Writes the payload of a frame, and gives the number of bytes that were corrected in each of its six blocks. Where a
 /// block is lost, the answer names the first such block and the payload stays as it is.
 pub fn unweave(air: &[u8; 552], payload: &mut [u8; 432]) -> Result<[u8; 6], Lost>
@@ -42,19 +65,10 @@ pub fn unweave(air: &[u8; 552], payload: &mut [u8; 432]) -> Result<[u8; 6], Lost
     ensures first_lost { IfErr result (λ lost. lost_block_in air.now ≡ Some lost.block) }
 {
     functions_of_a_frame();
-    let code = UplinkCode::new();
-    let mut made = [0; 432];
-    let mut counts = [0; 6];
+    let mut words = [[0; 92]; 6];
+    let counts = correct_blocks(air, &mut words)?;
     for number in 0..6 {
-        let mut word = read_block(air, number);
-        match code.correct(&mut word) {
-            Ok(changed) => counts[number] = changed,
-            Err(_) => return Err(Lost {
-                block: number as u8,
-            }),
-        }
-        write_part(&word, number, &mut made);
+        write_part(&words[number], number, payload);
     }
-    *payload = made;
     Ok(counts)
 }
