@@ -1,14 +1,15 @@
 -- A word whose power sums are 0 at n consecutive powers, and of which at most n bytes are not 0, is 0 throughout. Where
 -- y is the power that goes with the first byte, each byte times the sum of its own power and y makes the sums at j + 1
 -- and at j into one, and the first byte falls out.
-use Rattle.std.proofs.Common.{◌≡◌, ℕ, zero, suc, ◌+◌, ◌*◌, ◌<◌, ◌≤◌, List, [], ◌∷◌, length, get_or, cond, Bool, refl, sym, ◌∙◌, ap, ap₂, arith, lit<, inl, inr, eqb}
+use Rattle.std.proofs.Common.{◌≡◌, ℕ, zero, suc, ◌+◌, ◌*◌, ◌<◌, ◌≤◌, List, [], ◌∷◌, length, get_or, refl, sym, ◌∙◌, ap, ap₂, arith, lit<, inl, inr}
 use Rattle.std.specs.Int.Bits.{bit_xor, xor_zero_r, xor_self}
-use Rattle.std.proofs.lemmas.Bool.{cases_lt, cases_Bool, eqb-true}
+use Rattle.std.proofs.lemmas.Bool.{cases_lt, cases_eq}
 use Rattle.gf256_core.specs.Field.{IsField}
 use Rattle.poly256.specs.Polynomial.{element_product, element_power}
 use Rattle.rs_code.specs.CodeWord.{power_sum, IsCodeWord, differences}
 use Rattle.rs_code.specs.Laws.{HasMinimumDistance}
 use Rattle.rs_code.proofs.Xors.{xor-shuffle, xor-equal, product-zero_right, product-xor_right, product-turned}
+use Rattle.rs_code.proofs.Differences.{differences-cons_same, differences-cons_apart}
 use Rattle.rs_code.proofs.Powers.{power-add, power-fits, power-not_zero, power-injective}
 use Rattle.rs_code.proofs.PowerSums.{power_sum-cons, power_sum-empty, power_sum-cons_zero, power_sum-zeros, power_sum-sum}
 
@@ -176,22 +177,20 @@ weight-difference : (xs ys : List ℕ) → weight (difference xs ys) ≤ differe
 unfolding weight difference
 weight-difference [] ys = omega arith
 weight-difference (x ∷ xs) [] = omega arith
-weight-difference (x ∷ xs) (y ∷ ys) = elim (cases_Bool (eqb x y)) [
-  | inl same ↦
-      let e : bit_xor x y ≡ 0 = ap (bit_xor x) (sym (eqb-true x y same)) ∙ xor_self x in
-      let w : weight (bit_xor x y ∷ difference xs ys) ≡ weight (difference xs ys) =
-      ap (λ (z : ℕ). weight (z ∷ difference xs ys)) e in
-      let d : differences (x ∷ xs) (y ∷ ys) ≡ differences xs ys =
-      ap (λ (z : Bool). cond z (differences xs ys) (suc (differences xs ys))) same in
-      let rest = weight-difference xs ys in
-      omega arith
-  | inr apart ↦
-      let w = weight-cons (bit_xor x y) (difference xs ys) in
-      let d : differences (x ∷ xs) (y ∷ ys) ≡ suc (differences xs ys) =
-      ap (λ (z : Bool). cond z (differences xs ys) (suc (differences xs ys))) apart in
-      let rest = weight-difference xs ys in
-      omega arith
-]
+weight-difference (x ∷ xs) (y ∷ ys) =
+    let rest = weight-difference xs ys in
+    elim (cases_eq x y) [
+      | inl same ↦
+          let e : bit_xor x y ≡ 0 = ap (bit_xor x) (sym same) ∙ xor_self x in
+          let w : weight (bit_xor x y ∷ difference xs ys) ≡ weight (difference xs ys) =
+          ap (λ (z : ℕ). weight (z ∷ difference xs ys)) e in
+          let d = differences-cons_same x y xs ys same in
+          omega arith
+      | inr apart ↦
+          let w = weight-cons (bit_xor x y) (difference xs ys) in
+          let d = differences-cons_apart x y xs ys apart in
+          omega arith
+    ]
 
 same_from_places : (xs ys : List ℕ) → length xs ≡ length ys → ((k : ℕ) → get_or xs k 0 ≡ get_or ys k 0) → xs ≡ ys
 same_from_places [] [] l e = refl

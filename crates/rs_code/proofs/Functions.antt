@@ -1,13 +1,14 @@
 -- The functions that give code words against what they are to give.
-use Rattle.std.proofs.Common.{◌≡◌, ℕ, zero, suc, ◌+◌, ◌-◌, ◌<◌, ◌≤◌, List, [], ◌∷◌, length, get_or, take, true, ◌&&◌, eqb, ltb, leb, Some, None, lit<, refl, sym, ◌∙◌, ap, subst, arith, inl, inr, eq-eqb}
+use Rattle.std.proofs.Common.{◌≡◌, ℕ, zero, suc, ◌+◌, ◌-◌, ◌<◌, ◌≤◌, List, [], ◌∷◌, length, get_or, take, true, ◌&&◌, eqb, ltb, Some, None, lit<, refl, sym, ◌∙◌, ap, subst, arith, inl, inr, eq-eqb}
 use Rattle.std.specs.List.{list_all, range_with_len}
 use Rattle.std.specs.Option.{unwrap_or}
-use Rattle.std.proofs.lemmas.Bool.{and_parts, and_from, eqb-true, ltb-true, lt-ltb, leb-true, le-leb, cases_eq}
+use Rattle.std.proofs.lemmas.Bool.{and_parts, and_from, eqb-true, ltb-true, lt-ltb, cases_eq}
 use Rattle.gf256_core.specs.Field.{IsField}
-use Rattle.rs_code.specs.CodeWord.{IsInstance, IsCodeWord, IsNearest, IsCorrectable, power_sum, differences, bound}
+use Rattle.rs_code.specs.CodeWord.{IsInstance, IsCodeWord, IsNear, IsCorrectable, power_sum, differences, are_near}
 use Rattle.rs_code.specs.Functions.{words, is_code_word, begins_with, encoded, corrected}
 use Rattle.rs_code.specs.Laws.{HasCodeWordTest, HasOneEncoded, IsCorrected}
-use Rattle.rs_code.proofs.Words.{differences-same, same_from_no_differences, same_from_front}
+use Rattle.rs_code.proofs.Differences.{differences-same, same_from_no_differences}
+use Rattle.rs_code.proofs.Words.{same_from_front}
 use Rattle.rs_code.proofs.Nearest.{one_nearest}
 use Rattle.rs_code.proofs.Existence.{code_word_exists}
 use Rattle.rs_code.proofs.Finding.{Stands-words, find-passes, find-none, find-only}
@@ -110,40 +111,40 @@ one_encoded F count roots first message word instance l bytes =
 
 near_from :
     (count roots first : ℕ) (word other : List ℕ)
-    → (is_code_word count roots first other && leb (differences word other) (bound roots)) ≡ true
-    → IsNearest count roots first word other
+    → (is_code_word count roots first other && are_near roots word other) ≡ true
+    → IsNear count roots first word other
 near_from count roots first word other e =
-    let parts = and_parts (is_code_word count roots first other) (leb (differences word other) (bound roots)) e in
+    let parts = and_parts (is_code_word count roots first other) (are_near roots word other) e in
     record {
       code = code_word_from count roots first other parts.0;
-      near = leb-true (differences word other) (bound roots) parts.1;
+      near = parts.1;
     }
 
 corrected_to :
     (F : IsField 391) (count roots first : ℕ) (word other : List ℕ) → IsInstance count roots first
-    → IsNearest count roots first word other → corrected count roots first word ≡ Some other
+    → IsNear count roots first word other → corrected count roots first word ≡ Some other
 unfolding corrected
 corrected_to F count roots first word other instance is =
-    find-only (λ (near : List ℕ). is_code_word count roots first near && leb (differences word near) (bound roots)) (words count) other
+    find-only (λ (near : List ℕ). is_code_word count roots first near && are_near roots word near) (words count) other
     (Stands-words count other is.code.long is.code.bytes)
-    (and_from (is_code_word count roots first other) (leb (differences word other) (bound roots))
-    (code_word_to count roots first other is.code) (le-leb (differences word other) (bound roots) is.near))
+    (and_from (is_code_word count roots first other) (are_near roots word other)
+    (code_word_to count roots first other is.code) is.near)
     (λ near passes.
     one_nearest F count roots first word near other instance (near_from count roots first word near passes) is)
 
 corrected_from :
     (count roots first : ℕ) (word other : List ℕ) → corrected count roots first word ≡ Some other
-    → IsNearest count roots first word other
+    → IsNear count roots first word other
 unfolding corrected
 corrected_from count roots first word other e =
     near_from count roots first word other
-    (find-passes (λ (near : List ℕ). is_code_word count roots first near && leb (differences word near) (bound roots)) (words count) other e)
+    (find-passes (λ (near : List ℕ). is_code_word count roots first near && are_near roots word near) (words count) other e)
 
 corrected_none :
     (count roots first : ℕ) (word : List ℕ) → ¬ IsCorrectable count roots first word → corrected count roots first word ≡ None
 unfolding corrected
 corrected_none count roots first word none =
-    find-none (λ (near : List ℕ). is_code_word count roots first near && leb (differences word near) (bound roots)) (words count)
+    find-none (λ (near : List ℕ). is_code_word count roots first near && are_near roots word near) (words count)
     (λ near passes. none (near, near_from count roots first word near passes))
 
 pub is_corrected : (F : IsField 391) → IsCorrected

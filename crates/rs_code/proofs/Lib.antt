@@ -1,6 +1,7 @@
 pub mod Xors
 pub mod Powers
 pub mod PowerSums
+pub mod Differences
 pub mod Distance
 pub mod Places
 pub mod Kernels

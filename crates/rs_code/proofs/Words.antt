@@ -1,34 +1,10 @@
--- Words that differ in no place, and words with one front.
-use Rattle.std.proofs.Common.{◌≡◌, ℕ, suc, ◌≤◌, List, [], ◌∷◌, ◌++◌, ◌-◌, length, take, drop, subst, length-drop, cond, Bool, refl, sym, ◌∙◌, ap, ap₂, arith, inl, inr, eqb, eq-eqb}
-use Rattle.std.proofs.lemmas.Bool.{cases_Bool, eqb-true}
+-- Words with one front.
+use Rattle.std.proofs.Common.{◌≡◌, ℕ, ◌≤◌, List, [], ◌∷◌, ◌++◌, ◌-◌, length, take, drop, subst, length-drop, refl, sym, ◌∙◌, ap, ap₂, arith}
 use Rattle.std.proofs.lemmas.List.{take-append-drop}
 use Rattle.gf256_core.specs.Field.{IsField}
 use Rattle.rs_code.specs.CodeWord.{IsInstance, IsCodeWord, differences}
+use Rattle.rs_code.proofs.Differences.{differences-cons_same, differences-cons_bounds}
 use Rattle.rs_code.proofs.Distance.{same_code_word}
-
-differences-cons_same :
-    (x : ℕ) (xs ys : List ℕ) → differences (x ∷ xs) (x ∷ ys) ≡ differences xs ys
-differences-cons_same x xs ys =
-    ap (λ (z : Bool). cond z (differences xs ys) (suc (differences xs ys))) (eq-eqb x x refl)
-
-pub differences-same : (xs : List ℕ) → differences xs xs ≡ 0
-differences-same [] = refl
-differences-same (x ∷ xs) = differences-cons_same x xs xs ∙ differences-same xs
-
-pub same_from_no_differences : (xs ys : List ℕ) → differences xs ys ≤ 0 → xs ≡ ys
-same_from_no_differences [] [] h = refl
-same_from_no_differences [] (y ∷ ys) h = absurd (omega arith)
-same_from_no_differences (x ∷ xs) [] h = absurd (omega arith)
-same_from_no_differences (x ∷ xs) (y ∷ ys) h = elim (cases_Bool (eqb x y)) [
-  | inl same ↦
-      let d : differences (x ∷ xs) (y ∷ ys) ≡ differences xs ys =
-      ap (λ (z : Bool). cond z (differences xs ys) (suc (differences xs ys))) same in
-      ap₂ (λ (z : ℕ) (zs : List ℕ). z ∷ zs) (eqb-true x y same) (same_from_no_differences xs ys (omega arith))
-  | inr apart ↦
-      let d : differences (x ∷ xs) (y ∷ ys) ≡ suc (differences xs ys) =
-      ap (λ (z : Bool). cond z (differences xs ys) (suc (differences xs ys))) apart in
-      absurd (omega arith)
-]
 
 differences-at_most : (xs ys : List ℕ) → length xs ≡ length ys → differences xs ys ≤ length xs
 differences-at_most [] [] l = omega arith
@@ -36,23 +12,15 @@ differences-at_most [] (y ∷ ys) l = absurd (omega arith)
 differences-at_most (x ∷ xs) [] l = absurd (omega arith)
 differences-at_most (x ∷ xs) (y ∷ ys) l =
     let rest = differences-at_most xs ys (omega arith) in
-    elim (cases_Bool (eqb x y)) [
-      | inl same ↦
-          let d : differences (x ∷ xs) (y ∷ ys) ≡ differences xs ys =
-          ap (λ (z : Bool). cond z (differences xs ys) (suc (differences xs ys))) same in
-          omega arith
-      | inr apart ↦
-          let d : differences (x ∷ xs) (y ∷ ys) ≡ suc (differences xs ys) =
-          ap (λ (z : Bool). cond z (differences xs ys) (suc (differences xs ys))) apart in
-          omega arith
-    ]
+    let first = (differences-cons_bounds x y xs ys).1 in
+    omega arith
 
 -- words with one front differ only behind it
 pub differences-front :
     (front xs ys : List ℕ) → length xs ≡ length ys → differences (front ++ xs) (front ++ ys) ≤ length xs
 differences-front [] xs ys l = differences-at_most xs ys l
 differences-front (b ∷ front) xs ys l =
-    let same = differences-cons_same b (front ++ xs) (front ++ ys) in
+    let same = differences-cons_same b b (front ++ xs) (front ++ ys) refl in
     let rest = differences-front front xs ys l in
     omega arith
 

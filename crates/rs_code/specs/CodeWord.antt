@@ -1,7 +1,7 @@
 -- Reed-Solomon code words over the field of the uplink. A code has words of `count` bytes, and `roots` elements at which
 -- each code word is 0: the powers of 2, which is x, from `first` on. The first byte of a word is the coefficient of the
 -- highest power.
-use Rattle.std.specs.Prelude.{◌≡◌, ℕ, suc, ◌+◌, ◌*◌, ◌%◌, ◌<◌, ◌≤◌, ◌==◌, List, [], ◌∷◌, cond, length, slice_index, bit_xor}
+use Rattle.std.specs.Prelude.{◌≡◌, ℕ, suc, ◌+◌, ◌*◌, ◌%◌, ◌<◌, ◌≤◌, ◌==◌, nat_le, Bool, IsTrue, List, [], ◌∷◌, cond, length, slice_index, bit_xor}
 use Rattle.poly256.specs.Polynomial.{element_product, element_power}
 
 -- the numbers that make a code
@@ -32,11 +32,15 @@ differences (x ∷ xs) (y ∷ ys) = cond (x == y) (differences xs ys) (suc (diff
 abbrev pub bound : ℕ → ℕ
 bound roots = 0
 
+-- whether two words differ in no more places than that
+abbrev pub are_near : ℕ → List ℕ → List ℕ → Bool
+are_near roots word other = nat_le (differences word other) (bound roots)
+
 -- `other` is a code word near `word`
-pub record IsNearest (count roots first : ℕ) (word other : List ℕ) : Type 0 where
+pub record IsNear (count roots first : ℕ) (word other : List ℕ) : Type 0 where
   pub code : IsCodeWord count roots first other
-  pub near : differences word other ≤ bound roots
+  pub near : IsTrue (are_near roots word other)
 
 -- there is a code word near `word`
 abbrev pub IsCorrectable : ℕ → ℕ → ℕ → List ℕ → Type 0
-IsCorrectable count roots first word = (other : List ℕ) × IsNearest count roots first word other
+IsCorrectable count roots first word = (other : List ℕ) × IsNear count roots first word other

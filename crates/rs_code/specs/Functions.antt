@@ -1,9 +1,9 @@
 -- Code words as functions, for definitions that stand above: the code word that begins with a message, and the code word
 -- near a word. Both are the first such among all words, which nobody computes; the laws of this crate say that there is
 -- no other, and where there is one.
-use Rattle.std.specs.Prelude.{ℕ, zero, suc, ◌==◌, nat_lt, nat_le, Bool, ◌&&◌, List, [], ◌∷◌, length, take, map, flat_map, find, Option, unwrap_or}
+use Rattle.std.specs.Prelude.{ℕ, zero, suc, ◌==◌, nat_lt, Bool, ◌&&◌, List, [], ◌∷◌, length, take, map, flat_map, find, Option, unwrap_or}
 use Rattle.std.specs.List.{range_with_len, list_all}
-use Rattle.rs_code.specs.CodeWord.{power_sum, differences, bound}
+use Rattle.rs_code.specs.CodeWord.{power_sum, differences, are_near}
 
 -- all words of so many bytes
 unfoldable pub words : ℕ → List (List ℕ)
@@ -28,4 +28,4 @@ encoded count roots first message =
 -- the code word near a word, where there is one
 unfoldable pub corrected : ℕ → ℕ → ℕ → List ℕ → Option (List ℕ)
 corrected count roots first word =
-    find (λ other. is_code_word count roots first other && nat_le (differences word other) (bound roots)) (words count)
+    find (λ other. is_code_word count roots first other && are_near roots word other) (words count)

@@ -1,6 +1,6 @@
 -- The laws of the distance between code words, and of the functions that give code words.
 use Rattle.std.specs.Prelude.{◌≡◌, ◌≢◌, ◌↔◌, ℕ, ◌+◌, ◌-◌, ◌<◌, ◌≤◌, List, length, take, slice_index, IsTrue, Some, None}
-use Rattle.rs_code.specs.CodeWord.{IsInstance, IsCodeWord, IsNearest, IsCorrectable, differences}
+use Rattle.rs_code.specs.CodeWord.{IsInstance, IsCodeWord, IsNear, IsCorrectable, differences}
 use Rattle.rs_code.specs.Functions.{is_code_word, encoded, corrected}
 
 -- two different code words differ in at least one place more than the code has roots
@@ -14,7 +14,7 @@ HasMinimumDistance =
 abbrev pub HasOneNearest : Type 0
 HasOneNearest =
     (count roots first : ℕ) (word near other : List ℕ) → IsInstance count roots first
-    → IsNearest count roots first word near → IsNearest count roots first word other → near ≡ other
+    → IsNear count roots first word near → IsNear count roots first word other → near ≡ other
 
 -- the test of a code word tells them
 abbrev pub HasCodeWordTest : Type 0
@@ -32,7 +32,7 @@ HasOneEncoded =
 pub record IsCorrected : Type 0 where
   pub nearest :
       (count roots first : ℕ) (word other : List ℕ) → IsInstance count roots first
-      → (corrected count roots first word ≡ Some other) ↔ IsNearest count roots first word other
+      → (corrected count roots first word ≡ Some other) ↔ IsNear count roots first word other
   pub none :
       (count roots first : ℕ) (word : List ℕ) → IsInstance count roots first
       → (corrected count roots first word ≡ None) ↔ ¬ IsCorrectable count roots first word

@@ -1,6 +1,6 @@
 //! Codes, and what they do with words.
 ghost use Rattle.std.specs.Prelude.{◌≡◌, ◌+◌, ◌-◌, ℕ, List, take, length, is_ok, IsTrue, Some, None, IfOk, OnOk, OnErr, ◌↔◌};
-ghost use Rattle.rs_code.specs.CodeWord.{IsInstance, IsCodeWord, IsNearest, IsCorrectable, differences};
+ghost use Rattle.rs_code.specs.CodeWord.{IsInstance, IsCodeWord, IsNear, IsCorrectable, differences};
 ghost use Rattle.rs_code.specs.Functions.{encoded, corrected};
 ghost use Rattle.rs_code.specs.Rows.{AreRows};
 
@@ -70,7 +70,7 @@ impl<const N: usize, const ROOTS: usize, const FIRST: usize> Rs<N, ROOTS, FIRST>
     /// word stays as it is.
     pub fn correct(&self, word: &mut [u8; N]) -> Result<u8, Uncorrectable>
         ensures exactly { IsTrue (is_ok result) ↔ IsCorrectable N ROOTS FIRST word.old }
-        ensures corrected { IfOk result (λ changed. IsNearest N ROOTS FIRST word.old word.new × (changed ≡ differences word.old word.new)) }
+        ensures corrected { IfOk result (λ changed. IsNear N ROOTS FIRST word.old word.new × (changed ≡ differences word.old word.new)) }
         ensures unchanged { OnErr result (word.new ≡ word.old) }
         ensures function { OnOk result (corrected N ROOTS FIRST word.old ≡ Some word.new) }
         ensures none { OnErr result (corrected N ROOTS FIRST word.old ≡ None) }

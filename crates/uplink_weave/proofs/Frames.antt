@@ -1,12 +1,13 @@
 -- Woven frames, payloads and counts.
-use Rattle.std.proofs.Common.{◌≡◌, ℕ, ◌+◌, ◌*◌, ◌-◌, ◌/◌, ◌%◌, ◌<◌, ◌≤◌, List, length, get_or, refl, sym, ◌∙◌, ap, arith, inl, inr}
-use Rattle.std.proofs.lemmas.Bool.{cases_lt}
+use Rattle.std.proofs.Common.{◌≡◌, ℕ, ◌+◌, ◌*◌, ◌-◌, ◌/◌, ◌%◌, ◌<◌, List, IsTrue, get_or, refl, sym, ◌∙◌, ap, arith, inl, inr}
+use Rattle.std.proofs.lemmas.Bool.{cases_lt, le-leb}
 use Rattle.std.proofs.lemmas.List.{ext_get_or, length-replicate, get_or-replicate}
-use Rattle.rs_code.specs.CodeWord.{IsInstance, IsNearest, differences}
-use Rattle.rs_code.specs.Laws.{HasMinimumDistance}
+use Rattle.rs_code.specs.CodeWord.{IsInstance, are_near, bound, differences}
+use Rattle.rs_code.specs.Laws.{HasOneNearest}
 use Rattle.uplink_weave.specs.Woven.{block}
 use Rattle.uplink_weave.specs.Laws.{WovenGivesPayload, NearGivesPayload, IsUnique, BurstIsSpread}
-use Rattle.uplink_weave.proofs.Differences.{differences-same, same_from_few, differences-between, differences-window}
+use Rattle.rs_code.proofs.Differences.{differences-same}
+use Rattle.uplink_weave.proofs.Differences.{differences-window}
 use Rattle.uplink_weave.proofs.Places.{length-block, get_or-block}
 
 pub near_gives_payload : NearGivesPayload
@@ -15,15 +16,20 @@ near_gives_payload payload woven air is near = record {
   parts = λ r h. (block r woven, record { code = is.code r h; near = near r h }, is.parts r h);
 }
 
+near_itself : (word : List ℕ) → IsTrue (are_near 20 word word)
+near_itself word =
+    let none = differences-same word in
+    le-leb (differences word word) (bound 20) (omega arith)
+
 pub woven_gives_payload : WovenGivesPayload
 woven_gives_payload payload air is = (
-  near_gives_payload payload air air is (λ r h. let none = differences-same (block r air) in omega arith),
+  near_gives_payload payload air air is (λ r h. near_itself (block r air)),
   record {
     six = length-replicate {A = ℕ} 6 0;
     each = λ r h.
         let none = differences-same (block r air) in (
           block r air,
-          record { code = is.code r h; near = omega arith },
+          record { code = is.code r h; near = near_itself (block r air) },
           get_or-replicate {A = ℕ} 6 r 0 0 h ∙ sym none,
         );
   },
@@ -37,21 +43,8 @@ uplink = record {
   high = omega arith;
 }
 
--- one code word is near a word at most
-one_nearest :
-    (D : HasMinimumDistance) (word one other : List ℕ) → IsNearest 92 20 120 word one → IsNearest 92 20 120 word other
-    → length word ≡ 92 → one ≡ other
-one_nearest D word one other near near' long =
-    let l : length one ≡ length word = near.code.long ∙ sym long in
-    let l' : length other ≡ length word = near'.code.long ∙ sym long in
-    let few : differences one other ≤ differences word one + differences word other =
-    differences-between word one other l l' in
-    let d = near.near in
-    let d' = near'.near in
-    same_from_few 20 one other (omega arith) (λ apart. D 92 20 120 one other uplink near.code near'.code apart)
-
-pub unique : HasMinimumDistance → IsUnique
-unique D = record {
+pub unique : HasOneNearest → IsUnique
+unique O = record {
   payload = λ air one other has has'.
       ext_get_or 0 one other (has.full ∙ sym has'.full)
       (λ i h.
@@ -64,7 +57,7 @@ unique D = record {
       ap (λ (j : ℕ). get_or one j 0) (sym place)
       ∙ sym (part.2 (i % 72) inside)
       ∙ ap (λ (w : List ℕ). get_or w (i % 72) 0)
-      (one_nearest D (block (i / 72) air) part.0 part'.0 part.1 part'.1 (length-block (i / 72) air))
+      (O 92 20 120 (block (i / 72) air) part.0 part'.0 uplink part.1 part'.1)
       ∙ part'.2 (i % 72) inside
       ∙ ap (λ (j : ℕ). get_or other j 0) place);
   counts = λ air one other has has'.
@@ -76,7 +69,7 @@ unique D = record {
       let each' = has'.each r low in
       each.2
       ∙ ap (λ (w : List ℕ). differences (block r air) w)
-      (one_nearest D (block r air) each.0 each'.0 each.1 each'.1 (length-block r air))
+      (O 92 20 120 (block r air) each.0 each'.0 uplink each.1 each'.1)
       ∙ sym each'.2);
   lost = λ air one other is is'. elim (cases_lt one other) [
     | inl lower ↦ absurd (is.lost (is'.first one lower))

@@ -4,7 +4,7 @@ use Rattle.std.specs.Option.{is_none, unwrap_or}
 use Rattle.std.proofs.lemmas.Bool.{cases_lt}
 use Rattle.std.proofs.lemmas.List.{ext_get_or, get_or-drop, get_or_past}
 use Rattle.std.proofs.lemmas.List.FromFn.{length-map-range_with_len, get_or-map-range_with_len}
-use Rattle.rs_code.specs.CodeWord.{IsCodeWord, IsNearest, IsCorrectable, differences}
+use Rattle.rs_code.specs.CodeWord.{IsCodeWord, IsNear, IsCorrectable, differences}
 use Rattle.rs_code.specs.Functions.{encoded}
 use Rattle.rs_code.specs.Laws.{HasOneEncoded, IsCorrected}
 use Rattle.uplink_weave.specs.Woven.{block, IsWoven, AllCorrectable, HasPayload, HasCounts, IsLostBlock}
@@ -118,7 +118,7 @@ is_the_frame E = record {
 
 near_is :
     (C : IsCorrected) (air : List ℕ) (r : ℕ) (word : List ℕ)
-    → (corrected_block air r ≡ Some word) ↔ IsNearest 92 20 120 (block r air) word
+    → (corrected_block air r ≡ Some word) ↔ IsNear 92 20 120 (block r air) word
 unfolding corrected_block
 near_is C air r word = C.nearest 92 20 120 (block r air) word uplink
 

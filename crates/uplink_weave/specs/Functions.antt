@@ -3,7 +3,7 @@ use Rattle.std.specs.Prelude.{ℕ, ◌*◌, ◌/◌, ◌%◌, List, [], ◌∷�
 use Rattle.std.specs.List.{range_with_len}
 use Rattle.rs_code.specs.CodeWord.{differences}
 use Rattle.rs_code.specs.Functions.{encoded, corrected}
-use Rattle.uplink_weave.specs.Woven.{block}
+use Rattle.uplink_weave.specs.Woven.{block, block_bytes, block_roots, first_root}
 
 -- the part of a payload that a block carries
 abbrev pub part : ℕ → List ℕ → List ℕ
@@ -12,11 +12,11 @@ part r payload = take 72 (drop (72 * r) payload)
 -- the frame of a payload: byte 6k + r on the air is byte k of the code word that begins with part r
 unfoldable pub woven : List ℕ → List ℕ
 woven payload =
-    map (λ place. slice_index (encoded 92 20 120 (part (place % 6) payload)) (place / 6)) (range_with_len 0 552)
+    map (λ place. slice_index (encoded block_bytes block_roots first_root (part (place % 6) payload)) (place / 6)) (range_with_len 0 552)
 
 -- the code word near a block, where there is one
 unfoldable pub corrected_block : List ℕ → ℕ → Option (List ℕ)
-corrected_block air r = corrected 92 20 120 (block r air)
+corrected_block air r = corrected block_bytes block_roots first_root (block r air)
 
 -- the first 72 bytes of each word, joined, where none is missing
 abbrev pub joined : List (Option (List ℕ)) → Option (List ℕ)

@@ -1,7 +1,7 @@
 -- The laws of woven frames.
-use Rattle.std.specs.Prelude.{◌≡◌, ◌↔◌, ℕ, ◌+◌, ◌<◌, ◌≤◌, ◌⊎◌, List, length, slice_index, replicate, Some, None}
-use Rattle.rs_code.specs.CodeWord.{bound, differences}
-use Rattle.uplink_weave.specs.Woven.{block, IsWoven, AllCorrectable, HasPayload, HasCounts, IsLostBlock}
+use Rattle.std.specs.Prelude.{◌≡◌, ◌↔◌, ℕ, ◌+◌, ◌<◌, ◌≤◌, ◌⊎◌, List, length, slice_index, replicate, IsTrue, Some, None}
+use Rattle.rs_code.specs.CodeWord.{are_near, differences}
+use Rattle.uplink_weave.specs.Woven.{block, block_roots, IsWoven, AllCorrectable, HasPayload, HasCounts, IsLostBlock}
 use Rattle.uplink_weave.specs.Functions.{woven, payload_in, counts_in, lost_block_in}
 
 -- a woven frame has the payload that it is woven of, and no byte of it is to be changed
@@ -12,7 +12,7 @@ WovenGivesPayload = (payload air : List ℕ) → IsWoven payload air → HasPayl
 abbrev pub NearGivesPayload : Type 0
 NearGivesPayload =
     (payload woven air : List ℕ) → IsWoven payload woven
-    → ((r : ℕ) → r < 6 → differences (block r air) (block r woven) ≤ bound 20) → HasPayload air payload
+    → ((r : ℕ) → r < 6 → IsTrue (are_near block_roots (block r air) (block r woven))) → HasPayload air payload
 
 -- a frame has at most one payload, one list of counts and one first lost block
 pub record IsUnique : Type 0 where

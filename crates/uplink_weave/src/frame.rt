@@ -1,8 +1,7 @@
 //! Frames on the air, and their payloads.
-ghost use Rattle.std.specs.Prelude.{◌≡◌, ◌↔◌, ◌<◌, ℕ, List, [], slice_index_or, Some, None, is_ok, IsTrue, IfOk, IfErr, OnOk, OnErr};
-ghost use Rattle.rs_code.specs.CodeWord.{IsNearest};
+ghost use Rattle.std.specs.Prelude.{◌≡◌, ◌↔◌, ℕ, List, Some, None, is_ok, IsTrue, IfOk, IfErr, OnOk, OnErr};
 ghost use Rattle.uplink_weave.specs.Functions.{woven, payload_in, counts_in, lost_block_in};
-ghost use Rattle.uplink_weave.specs.Woven.{block, AllCorrectable, HasCounts, HasPayload, IsLostBlock, IsWoven};
+ghost use Rattle.uplink_weave.specs.Woven.{AllCorrectable, AreCorrected, HasCounts, HasPayload, IsLostBlock, IsWoven};
 
 use crate::blocks::{read_block, read_part, write_block, write_part};
 use crate::laws::{functions_of_a_frame, woven_is_the_frame};
@@ -32,7 +31,7 @@ pub fn weave(payload: &[u8; 432], air: &mut [u8; 552])
 // Corrects the words of the six blocks of a frame, and gives the number of bytes that were corrected in each.
 fn correct_blocks(air: &[u8; 552], words: &mut [[u8; 92]; 6]) -> Result<[u8; 6], Lost>
     ensures exactly { IsTrue (is_ok result) ↔ AllCorrectable air.now }
-    ensures words { OnOk result ((r : ℕ) → r < 6 → IsNearest 92 20 120 (block r air.now) (slice_index_or words.new r [])) }
+    ensures words { OnOk result (AreCorrected air.now words.new) }
     ensures counts { IfOk result (λ counts. HasCounts air.now counts) }
     ensures lost { IfErr result (λ lost. IsLostBlock air.now lost.block) }
 {

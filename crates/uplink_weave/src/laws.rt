@@ -2,7 +2,7 @@
 ghost use Rattle.uplink_weave.specs.Laws.{BurstIsSpread, FrameGivesPayload, GivesPayload, IsTheFrame};
 ghost use Rattle.uplink_weave.specs.Laws.{IsUnique, NearGivesPayload, WovenGivesPayload};
 
-use rs_code::{corrected_is_nearest, minimum_distance, one_encoded};
+use rs_code::{corrected_is_nearest, one_encoded, one_nearest};
 
 /// The law that a woven frame has the payload that it is woven of, with no byte to be changed.
 #[inline]
@@ -21,7 +21,7 @@ pub fn near_gives_payload()
 pub fn unique_payload()
     ensures { IsUnique }
 {
-    minimum_distance()
+    one_nearest()
 }
 
 /// The law that frames which differ only inside 60 consecutive places differ in at most ten places of each block.
