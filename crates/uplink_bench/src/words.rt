@@ -28,20 +28,32 @@ impl Row {
     }
 }
 
+// A word with a pseudo-random message, and the parity of it.
+fn next_word(code: &UplinkCode, row: &mut Row) -> [u8; 92] {
+    let mut word = [0; 92];
+    for place in 0..72 {
+        word[place] = row.byte();
+    }
+    code.encode(&mut word);
+    word
+}
+
+// Prints the parity of a word.
+fn print_parity(rt: &impl Print, word: &[u8; 92]) -> io::Result<()> {
+    for place in 72..92 {
+        print!(rt; "{:02x}", word[place])?;
+    }
+    Ok(())
+}
+
 /// Prints a line for each of so many words: the parity of its message, and whether it is a code word once one byte was
 /// changed. In about half of the words the change is 0.
-pub fn print_words(rt: HostRuntime, count: u32) -> io::Result<()> {
+pub fn print_words(rt: &impl Print, count: u32) -> io::Result<()> {
     let code = UplinkCode::new();
     let mut row = Row::of(1);
     for _ in 0..count {
-        let mut word = [0; 92];
-        for place in 0..72 {
-            word[place] = row.byte();
-        }
-        code.encode(&mut word);
-        for place in 72..92 {
-            print!(rt; "{:02x}", word[place])?;
-        }
+        let mut word = next_word(&code, &mut row);
+        print_parity(rt, &word)?;
         let change = row.byte();
         if change < 128 {
             let place = row.byte() as usize % 92;
