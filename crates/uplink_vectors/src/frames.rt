@@ -65,17 +65,6 @@ fn a_report_is_woven_to_the_bytes_of_the_definition(rt: HostRuntime) {
 }
 
 #[test]
-fn bytes_stand_at_their_places_on_the_air(rt: HostRuntime) {
-    let mut payload = report();
-    payload[72] = 0x27;
-    let mut air = [0; 552];
-    weave(&payload, &mut air);
-    assert_eq!(rt; air[48], 0x06);
-    assert_eq!(rt; air[1], 0x27);
-    assert_eq!(rt; air[432], 0x9a);
-}
-
-#[test]
 fn each_block_has_its_own_parity(rt: HostRuntime) {
     let mut payload = [0u8; 432];
     for i in 0..432 {
