@@ -1,6 +1,6 @@
 -- Every table that a document writes keeps the rules.
 use Rattle.std.proofs.Common.{◌≡◌, ℕ, ◌+◌, ◌≤◌, ◌==◌, ℤ, pos, negsuc, Bool, true, false, not, cond, List, [], ◌∷◌, ◌++◌, length, Option, Some, None, is_some, Result, Ok, Err, refl, sym, ap, subst, ◌∙◌, ◌⊎◌, inl, inr, codes}
-use Rattle.std.specs.List.{find}
+use Rattle.std.specs.List.{find, AllByRecursion}
 use Rattle.std.specs.Str.{bytes_eq}
 use Rattle.std.specs.Ordering.{int_eq}
 use Rattle.std.specs.Prelude.{int_lt, unsigned_abs}
@@ -16,6 +16,9 @@ use Rattle.life_table.specs.RowsOf.{followed, numbered, own_row, own_text, alike
 use Rattle.life_table.specs.declared.fault.RowFault.{RowFault}
 use Rattle.life_table.specs.declared.fault.RowFault.TheVariants.{Shape, Word, Twice, As, Words, Form, Life, Product}
 use Rattle.life_table.specs.declared.fault.TableFault.{TableFault}
+use Rattle.life_table.proofs.Behind.{AllBehind, AllBehind-nil, AllBehind-push, each_placed}
+use Rattle.life_table.proofs.Finding.{found_word, found_each}
+use Rattle.life_table.proofs.Ruled.{IsSound, IsNew, IsNewRadar, table_keeps}
 
 -- what a test or a missing value let through
 pub let_through : {B : Type 0} (b : Bool) (e : RowFault) (r : Result B RowFault) (y : B) → cond b (Err e) r ≡ Ok y → (b ≡ false) × (r ≡ Ok y)
@@ -65,54 +68,42 @@ two_or_three z n h =
       | inr f ↦ let e = rw f at h in let (_, same) = some_if (int_eq z (pos 3)) 3 n e in inr (sym same)
     ]
 
--- the rules of a row behind earlier ones
-pub record Accepted (late : ℕ) (rows : List TextRow) (r : TextRow) : Type 0 where
-  pub lives : 1 ≤ r.life
-  pub within : IsWithinForm late r.form r.life
-  pub words : (r.words ≡ 2) ⊎ (r.words ≡ 3)
-  pub named : find (λ q. bytes_eq q.word r.kind) rows ≡ Some (row r.kind r.kind r.words r.life r.form)
-
-abbrev pub AllAccepted : ℕ → List TextRow → Type 0
-AllAccepted late rows = (word : List ℕ) (r : TextRow) → find (λ q. bytes_eq q.word word) rows ≡ Some r → Accepted late rows r
-
--- a new row: none has its word, and its type is its own or that of an earlier row, which says the same
-record IsNew (late : ℕ) (rows : List TextRow) (r : TextRow) : Type 0 where
-  new : find (λ q. bytes_eq q.word r.word) rows ≡ None
-  lives : 1 ≤ r.life
-  within : IsWithinForm late r.form r.life
-  words : (r.words ≡ 2) ⊎ (r.words ≡ 3)
-  named : (r.kind ≡ r.word) ⊎ (find (λ q. bytes_eq q.word r.kind) rows ≡ Some (row r.kind r.kind r.words r.life r.form))
-
 absent : {X : Type 0} (o : Option X) → is_some o ≡ false → o ≡ None
 absent None h = refl
 absent (Some x) h = absurd (false≢true (sym h))
 
 own_is_new : (late : ℕ) (rows : List TextRow) (word : List ℕ) (words life form : ℤ) (r : TextRow) → own_row late rows word words life form ≡ Ok r → IsNew late rows r
 own_is_new late rows word words life form r h =
-    let (_, h1) = let_through (not (is_word word)) Word _ r h in
+    let (spelt, h1) = let_through (not (is_word word)) Word _ r h in
     let (none, h2) = let_through (is_some (find (λ q. bytes_eq q.word word) rows)) Twice _ r h1 in
     let (count, e3, h3) = had Words (key_words words) _ r h2 in
     let (shown, e4, h4) = had Form (form_of form) _ r h3 in
     let (seconds, e5, h5) = had Life (life_in late shown life) _ r h4 in
     let same : row word word count seconds shown ≡ r = cc in
     let (lives, within) = life_lives late shown life seconds e5 in
-    subst (IsNew late rows) same (record { new = absent (find (λ q. bytes_eq q.word word) rows) none; lives = lives; within = within; words = two_or_three words count e3; named = inl refl })
+    let is : is_word word ≡ true = not-false (is_word word) spelt in
+    let sound : IsSound late (row word word count seconds shown) = record { word = is; kind = is; words = two_or_three words count e3; lives = lives; within = within } in
+    subst (IsNew late rows) same (record { sound = sound; new = absent (find (λ q. bytes_eq q.word word) rows) none; named = inl refl })
 
-alike_is_new : (late : ℕ) (rows : List TextRow) (word kind : List ℕ) (r : TextRow) → AllAccepted late rows → alike_row rows word kind ≡ Ok r → IsNew late rows r
+alike_is_new : (late : ℕ) (rows : List TextRow) (word kind : List ℕ) (r : TextRow) → AllBehind (IsNew late) rows → alike_row rows word kind ≡ Ok r → IsNew late rows r
 alike_is_new late rows word kind r all h =
-    let (_, h1) = let_through (not (is_word word)) Word _ r h in
-    let (_, h2) = let_through (not (is_word kind)) Word _ r h1 in
+    let (spelt, h1) = let_through (not (is_word word)) Word _ r h in
+    let (spelt_kind, h2) = let_through (not (is_word kind)) Word _ r h1 in
     let (none, h3) = let_through (is_some (find (λ q. bytes_eq q.word word) rows)) Twice _ r h2 in
     let (own, e4, h4) = had As (find (λ q. bytes_eq q.word kind) rows) _ r h3 in
     let (alike, h5) = let_through (not (bytes_eq own.kind kind)) As _ r h4 in
     let same : row word kind own.words own.life own.form ≡ r = cc in
-    let accepted = all kind own e4 in
-    let kind_same : own.kind ≡ kind = (bytes_eq-Decides own.kind kind).0 (not-false (bytes_eq own.kind kind) alike) in
-    let named : find (λ q. bytes_eq q.word kind) rows ≡ Some (row kind kind own.words own.life own.form) =
-    subst (λ k. find (λ q. bytes_eq q.word k) rows ≡ Some (row k k own.words own.life own.form)) kind_same accepted.named in
-    subst (IsNew late rows) same (record { new = absent (find (λ q. bytes_eq q.word word) rows) none; lives = accepted.lives; within = accepted.within; words = accepted.words; named = inr named })
+    let each : AllByRecursion (IsSound late) rows = each_placed (IsSound late) rows (λ before after q e. (all before after q e).sound) in
+    let base : IsSound late own = found_each (IsSound late) (λ q. bytes_eq q.word kind) rows each own e4 in
+    let own_word : own.word ≡ kind = found_word kind rows own e4 in
+    let own_kind : own.kind ≡ kind = (bytes_eq-Decides own.kind kind).0 (not-false (bytes_eq own.kind kind) alike) in
+    let whole : own ≡ row kind kind own.words own.life own.form = ap (λ w. row w own.kind own.words own.life own.form) own_word ∙ ap (λ k. row kind k own.words own.life own.form) own_kind in
+    let named : find (λ q. bytes_eq q.word kind) rows ≡ Some (row kind kind own.words own.life own.form) = e4 ∙ ap Some whole in
+    let sound : IsSound late (row word kind own.words own.life own.form) =
+    record { word = not-false (is_word word) spelt; kind = not-false (is_word kind) spelt_kind; words = base.words; lives = base.lives; within = base.within } in
+    subst (IsNew late rows) same (record { sound = sound; new = absent (find (λ q. bytes_eq q.word word) rows) none; named = inr named })
 
-entry_is_new : (late : ℕ) (rows : List TextRow) (value : Data) (r : TextRow) → AllAccepted late rows → text_entry late rows value ≡ Ok r → IsNew late rows r
+entry_is_new : (late : ℕ) (rows : List TextRow) (value : Data) (r : TextRow) → AllBehind (IsNew late) rows → text_entry late rows value ≡ Ok r → IsNew late rows r
 unfolding text_entry own_text alike_text
 entry_is_new late rows value r all h =
     elim (cases_Bool (member_count value == 4)) [
@@ -134,116 +125,48 @@ entry_is_new late rows value r all h =
           ]
     ]
 
-find_front : {X : Type 0} (test : X → Bool) (xs ys : List X) (x : X) → find test xs ≡ Some x → find test (xs ++ ys) ≡ Some x
-find_front test [] ys x h = absurd (cc)
-find_front test (z ∷ xs) ys x h = elim (cases_Bool (test z)) [ inl t ↦ rw t (rw t at h) | inr f ↦ rw f (find_front test xs ys x (rw f at h)) ]
+texts_behind : (late : ℕ) (rows : List TextRow) (items : Items) (all : List TextRow) → AllBehind (IsNew late) rows → text_rows late rows items ≡ Ok all → AllBehind (IsNew late) all
+texts_behind late rows no_items all behind h = let same : rows ≡ all = cc in subst (AllBehind (IsNew late)) same behind
+texts_behind late rows (item value more) all behind h =
+    let (r, e, h') = went_on (numbered (length rows + 1) (text_entry late rows value)) (λ r. text_rows late (rows ++ r ∷ []) more) all h in
+    let n = entry_is_new late rows value r behind (was_ok (length rows + 1) (text_entry late rows value) r e) in
+    texts_behind late (rows ++ r ∷ []) more all (AllBehind-push (IsNew late) rows r behind n) h'
 
-find_behind : {X : Type 0} (test : X → Bool) (xs ys : List X) → find test xs ≡ None → find test (xs ++ ys) ≡ find test ys
-find_behind test [] ys h = refl
-find_behind test (z ∷ xs) ys h = elim (cases_Bool (test z)) [ inl t ↦ absurd (let h' = rw t at h in cc) | inr f ↦ rw f (find_behind test xs ys (rw f at h)) ]
-
-cases_find : {X : Type 0} (o : Option X) → ((x : X) × (o ≡ Some x)) ⊎ (o ≡ None)
-cases_find None = inr refl
-cases_find (Some x) = inl (x, refl)
-
-last_found : (word : List ℕ) (r q : TextRow) → find (λ s. bytes_eq s.word word) (r ∷ []) ≡ Some q → r ≡ q
-last_found word r q h = elim (cases_Bool (bytes_eq r.word word)) [ inl t ↦ let h' = rw t at h in cc | inr f ↦ absurd (let h' = rw f at h in cc) ]
-
-kept_row : (late : ℕ) (rows ys : List TextRow) (r : TextRow) → Accepted late rows r → Accepted late (rows ++ ys) r
-kept_row late rows ys r a = record { lives = a.lives; within = a.within; words = a.words; named = find_front (λ q. bytes_eq q.word r.kind) rows ys _ a.named }
-
-new_row : (late : ℕ) (rows : List TextRow) (r : TextRow) → IsNew late rows r → Accepted late (rows ++ r ∷ []) r
-new_row late rows r n = record {
-  lives = n.lives;
-  within = n.within;
-  words = n.words;
-  named = elim n.named [
-    | inl own ↦
-        let hit : bytes_eq r.word r.kind ≡ true = (bytes_eq-Decides r.word r.kind).1 (sym own) in
-        let here : find (λ q. bytes_eq q.word r.kind) (r ∷ []) ≡ Some r = rw hit in
-        let none : find (λ q. bytes_eq q.word r.kind) rows ≡ None = subst (λ k. find (λ q. bytes_eq q.word k) rows ≡ None) (sym own) n.new in
-        let found : find (λ q. bytes_eq q.word r.kind) (rows ++ r ∷ []) ≡ Some r = find_behind (λ q. bytes_eq q.word r.kind) rows (r ∷ []) none ∙ here in
-        let whole : r ≡ row r.kind r.kind r.words r.life r.form = ap (λ w. row w r.kind r.words r.life r.form) (sym own) in
-        found ∙ ap Some whole
-    | inr earlier ↦ find_front (λ q. bytes_eq q.word r.kind) rows (r ∷ []) _ earlier
-  ];
-}
-
-one_more : (late : ℕ) (rows : List TextRow) (r : TextRow) → AllAccepted late rows → IsNew late rows r → AllAccepted late (rows ++ r ∷ [])
-one_more late rows r all n word q found =
-    elim (cases_find (find (λ s. bytes_eq s.word word) rows)) [
-      | inl (p, old) ↦
-          let same : Some p ≡ Some q = sym (find_front (λ s. bytes_eq s.word word) rows (r ∷ []) p old) ∙ found in
-          let pq : p ≡ q = cc in
-          subst (Accepted late (rows ++ r ∷ [])) pq (kept_row late rows (r ∷ []) p (all word p old))
-      | inr none ↦
-          let last = last_found word r q (sym (find_behind (λ s. bytes_eq s.word word) rows (r ∷ []) none) ∙ found) in
-          subst (Accepted late (rows ++ r ∷ [])) last (new_row late rows r n)
+radar_number : (z : ℤ) (n : ℕ) → radar_product z ≡ Some n → (n ≡ 63) ⊎ (n ≡ 64)
+radar_number z n h =
+    elim (cases_Bool (int_eq z (pos 63))) [
+      | inl t ↦ let e = rw t at h in inl (cc)
+      | inr f ↦ let e = rw f at h in let (_, same) = some_if (int_eq z (pos 64)) 64 n e in inr (sym same)
     ]
 
-pub texts_accepted : (late : ℕ) (rows : List TextRow) (items : Items) (all : List TextRow) → AllAccepted late rows → text_rows late rows items ≡ Ok all → AllAccepted late all
-texts_accepted late rows no_items all accepted h = let same : rows ≡ all = cc in subst (AllAccepted late) same accepted
-texts_accepted late rows (item value more) all accepted h =
-    let (r, e, h') = went_on (numbered (length rows + 1) (text_entry late rows value)) (λ r. text_rows late (rows ++ r ∷ []) more) all h in
-    let n = entry_is_new late rows value r accepted (was_ok (length rows + 1) (text_entry late rows value) r e) in
-    texts_accepted late (rows ++ r ∷ []) more all (one_more late rows r accepted n) h'
-
--- the rules of a row of radar
-record Living (late : ℕ) (r : RadarRow) : Type 0 where
-  lives : 1 ≤ r.life
-  within : IsWithinForm late r.form r.life
-
-abbrev AllLiving : ℕ → List RadarRow → Type 0
-AllLiving late rows = (product : ℕ) (r : RadarRow) → find (λ q. q.product == product) rows ≡ Some r → Living late r
-
-radar_lives : (late : ℕ) (rows : List RadarRow) (value : Data) (r : RadarRow) → radar_entry late rows value ≡ Ok r → Living late r
+radar_is_new : (late : ℕ) (rows : List RadarRow) (value : Data) (r : RadarRow) → radar_entry late rows value ≡ Ok r → IsNewRadar late rows r
 unfolding radar_entry
-radar_lives late rows value r h =
+radar_is_new late rows value r h =
     let (_, h0) = let_through (not (member_count value == 3)) Shape _ r h in
     let (product, e1, h1) = had Shape (integer_at (codes "product") value) _ r h0 in
     let (life, e2, h2) = had Shape (integer_at (codes "life") value) _ r h1 in
     let (form, e3, h3) = had Shape (integer_at (codes "form") value) _ r h2 in
     let (number, e4, h4) = had Product (radar_product product) _ r h3 in
-    let (_, h5) = let_through (is_some (find (λ q. q.product == number) rows)) Twice _ r h4 in
+    let (none, h5) = let_through (is_some (find (λ q. q.product == number) rows)) Twice _ r h4 in
     let (shown, e6, h6) = had Form (form_of form) _ r h5 in
     let (seconds, e7, h7) = had Life (life_in late shown life) _ r h6 in
     let same : radar number seconds shown ≡ r = cc in
     let (lives, within) = life_lives late shown life seconds e7 in
-    subst (Living late) same (record { lives = lives; within = within })
+    subst (IsNewRadar late rows) same
+    (record { product = radar_number product number e4; lives = lives; within = within; new = absent (find (λ q. q.product == number) rows) none })
 
-last_radar : (product : ℕ) (r q : RadarRow) → find (λ s. s.product == product) (r ∷ []) ≡ Some q → r ≡ q
-last_radar product r q h = elim (cases_Bool (r.product == product)) [ inl t ↦ let h' = rw t at h in cc | inr f ↦ absurd (let h' = rw f at h in cc) ]
-
-radars_living : (late before : ℕ) (rows : List RadarRow) (items : Items) (all : List RadarRow) → AllLiving late rows → radar_rows late before rows items ≡ Ok all → AllLiving late all
-radars_living late before rows no_items all living h = let same : rows ≡ all = cc in subst (AllLiving late) same living
-radars_living late before rows (item value more) all living h =
+radars_behind : (late before : ℕ) (rows : List RadarRow) (items : Items) (all : List RadarRow) → AllBehind (IsNewRadar late) rows → radar_rows late before rows items ≡ Ok all
+    → AllBehind (IsNewRadar late) all
+radars_behind late before rows no_items all behind h = let same : rows ≡ all = cc in subst (AllBehind (IsNewRadar late)) same behind
+radars_behind late before rows (item value more) all behind h =
     let (r, e, h') = went_on (numbered (before + length rows + 1) (radar_entry late rows value)) (λ r. radar_rows late before (rows ++ r ∷ []) more) all h in
-    let here : Living late r = radar_lives late rows value r (was_ok (before + length rows + 1) (radar_entry late rows value) r e) in
-    let next : AllLiving late (rows ++ r ∷ []) = λ product q found.
-    elim (cases_find (find (λ s. s.product == product) rows)) [
-      | inl (p, old) ↦
-          let same : Some p ≡ Some q = sym (find_front (λ s. s.product == product) rows (r ∷ []) p old) ∙ found in
-          let pq : p ≡ q = cc in
-          subst (Living late) pq (living product p old)
-      | inr none ↦
-          let last = last_radar product r q (sym (find_behind (λ s. s.product == product) rows (r ∷ []) none) ∙ found) in
-          subst (Living late) last here
-    ] in
-    radars_living late before (rows ++ r ∷ []) more all next h'
-
-none_found : {X : Type 0} (x : X) → None ≡ Some x → ⊥
-none_found x h = cc
+    let n = radar_is_new late rows value r (was_ok (before + length rows + 1) (radar_entry late rows value) r e) in
+    radars_behind late before (rows ++ r ∷ []) more all (AllBehind-push (IsNewRadar late) rows r behind n) h'
 
 -- a table of the rows that a document writes keeps the rules
 pub written_table : (late before : ℕ) (texts : List TextRow) (radars : List RadarRow) (text_items radar_items : Items) → late ≤ 43200 → length texts ≤ 64 → length radars ≤ 2
     → text_rows late [] text_items ≡ Ok texts → radar_rows late before [] radar_items ≡ Ok radars → IsTable (record { late = late; texts = texts; radars = radars })
 written_table late before texts radars text_items radar_items in_time few_texts few_radars read_texts read_radars =
-    let accepted = texts_accepted late [] text_items texts (λ word r h. absurd (none_found r h)) read_texts in
-    let living = radars_living late before [] radar_items radars (λ product r h. absurd (none_found r h)) read_radars in
-    record {
-      late = in_time;
-      few_texts = few_texts;
-      few_radars = few_radars;
-      texts = λ word r found. let a = accepted word r found in record { lives = a.lives; within = a.within; words = a.words; named = a.named };
-      radars = λ product r found. let a = living product r found in record { lives = a.lives; within = a.within };
-    }
+    table_keeps (record { late = late; texts = texts; radars = radars }) in_time few_texts few_radars
+    (texts_behind late [] text_items texts (AllBehind-nil (IsNew late)) read_texts)
+    (radars_behind late before [] radar_items radars (AllBehind-nil (IsNewRadar late)) read_radars)

@@ -1,8 +1,12 @@
--- No row of reports lives longer than the longest life.
-use Rattle.std.proofs.Common.{◌≡◌, ℕ, ◌≤◌, Bool, List, [], ◌∷◌, map, fold, max, Some, refl, arith, inl, inr}
-use Rattle.std.specs.List.{find}
+-- No row of reports lives longer than the longest life, and the longest life is at most thirty days.
+use Rattle.std.proofs.Common.{◌≡◌, ℕ, ◌≤◌, ◌==◌, Bool, List, [], ◌∷◌, map, filter, fold, max, Some, IfSome, refl, arith, inl, inr}
+use Rattle.std.specs.List.{find, All, AllByRecursion}
 use Rattle.std.proofs.lemmas.Bool.{cases_Bool}
-use Rattle.life_table.specs.LifeTable.{TextRow, greatest_of}
+use Rattle.std.proofs.lemmas.List.Elements.{All-weaker, All-map, All-filter, recursion_from_All}
+use Rattle.fisb_time.specs.declared.form.TimeForm.{TimeForm}
+use Rattle.fisb_time.specs.declared.form.TimeForm.TheVariants.{Minute, Second, DayMinute, DaySecond}
+use Rattle.life_table.specs.LifeTable.{LifeTable, TextRow, RadarRow, greatest_of, longest}
+use Rattle.life_table.specs.Rules.{IsTable, IsTextRow, IsRadarRow, IsWithinForm}
 
 fold_above : (xs : List ℕ) (a : ℕ) → a ≤ fold max a xs
 fold_above [] a = omega arith
@@ -32,3 +36,33 @@ greatest_above test (q ∷ rows) r h =
       | inr f ↦ found_below test rows r q.life (rw f at h)
     ] in
     (longest, refl, below)
+
+abbrev IsShort : ℕ → Type 0
+IsShort life = life ≤ 2592000
+
+short_by_form : (late : ℕ) (form : TimeForm) (life : ℕ) → IsWithinForm late form life → IsShort life
+short_by_form late Minute life within = omega arith
+short_by_form late Second life within = omega arith
+short_by_form late DayMinute life within = within
+short_by_form late DaySecond life within = within
+
+fold_short : (xs : List ℕ) (a : ℕ) → IsShort a → AllByRecursion IsShort xs → IsShort (fold max a xs)
+fold_short [] a here all = here
+fold_short (x ∷ xs) a here all = fold_short xs (max a x) (omega (arith, all.0)) all.1
+
+greatest_short : (xs : List ℕ) → AllByRecursion IsShort xs → IfSome (greatest_of xs) IsShort
+greatest_short [] all = tt
+greatest_short (x ∷ xs) all = fold_short xs x all.0 all.1
+
+lives_short : {X : Type 0} (life : X → ℕ) (rows : List X) → All (λ r. IsShort (life r)) rows → IfSome (greatest_of (map life rows)) IsShort
+lives_short life rows all = greatest_short (map life rows) (recursion_from_All IsShort (map life rows) (All-map IsShort life rows all))
+
+pub longest_short : (t : LifeTable) (product : ℕ) → IsTable t → IfSome (longest t product) IsShort
+longest_short t product rules =
+    let texts : All (λ r. IsShort r.life) t.texts = All-weaker (IsTextRow t) (λ r. IsShort r.life) (λ r is. short_by_form t.late r.form r.life is.within) t.texts rules.all_texts in
+    let radars : All (λ r. IsShort r.life) t.radars = All-weaker (IsRadarRow t) (λ r. IsShort r.life) (λ r is. short_by_form t.late r.form r.life is.within) t.radars rules.all_radars in
+    let some : List RadarRow = filter (λ r. r.product == product) t.radars in
+    elim (cases_Bool (product == 413)) [
+      | inl reports ↦ rw reports (lives_short (λ (r : TextRow). r.life) t.texts texts)
+      | inr other ↦ rw other (lives_short (λ (r : RadarRow). r.life) some (All-filter (λ r. r.product == product) (λ r. IsShort r.life) t.radars radars))
+    ]

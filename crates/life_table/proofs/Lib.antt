@@ -1,4 +1,6 @@
 pub mod Finding
+pub mod Behind
+pub mod Ruled
 pub mod Default
 pub mod Trees
 pub mod Accepted

@@ -1,8 +1,10 @@
--- The rules that every life table keeps.
-use Rattle.std.specs.Prelude.{◌≡◌, ℕ, ◌+◌, ◌≤◌, ◌⊎◌, List, length, Some}
+-- The rules that every life table keeps, for every row of its lists.
+use Rattle.std.specs.Prelude.{◌≡◌, ℕ, ◌+◌, ◌≤◌, ◌⊎◌, IsTrue, List, ◌∷◌, ◌++◌, length, Some}
+use Rattle.std.specs.List.{All, Contains}
 use Rattle.fisb_time.specs.declared.form.TimeForm.{TimeForm}
 use Rattle.fisb_time.specs.declared.form.TimeForm.TheVariants.{Minute, Second, DayMinute, DaySecond}
-use Rattle.life_table.specs.LifeTable.{LifeTable, TextRow, RadarRow, text_row, radar_row}
+use Rattle.life_table.specs.LifeTable.{LifeTable, TextRow, RadarRow, row, text_row, radar_row}
+use Rattle.life_table.specs.Document.{is_word}
 
 -- A life and what may pass until a frame is heard, with the minute that clocks may differ, stay below the time after which a
 -- received time could name a later moment: a day where the form has no date. With a date a life is at most thirty days.
@@ -12,20 +14,35 @@ IsWithinForm late Second life = life + late + 60 ≤ 86400
 IsWithinForm late DayMinute life = life ≤ 2592000
 IsWithinForm late DaySecond life = life ≤ 2592000
 
--- a row of reports: the type that it names has a row of its own, which says the same
-pub record IsTextRow (table : LifeTable) (row : TextRow) : Type 0 where
-  pub lives : 1 ≤ row.life
-  pub within : IsWithinForm table.late row.form row.life
-  pub words : (row.words ≡ 2) ⊎ (row.words ≡ 3)
-  pub named : text_row table row.kind ≡ Some (record { word = row.kind; kind = row.kind; words = row.words; life = row.life; form = row.form })
+-- the row without `as` that a row is kept as
+abbrev pub own : TextRow → TextRow
+own r = row r.kind r.kind r.words r.life r.form
 
-pub record IsRadarRow (table : LifeTable) (row : RadarRow) : Type 0 where
+-- a row of reports: it is the row that its word finds, so that no type stands twice, and the type that it names finds its own
+pub record IsTextRow (table : LifeTable) (row : TextRow) : Type 0 where
+  pub word : IsTrue (is_word row.word)
+  pub kind : IsTrue (is_word row.kind)
+  pub words : (row.words ≡ 2) ⊎ (row.words ≡ 3)
   pub lives : 1 ≤ row.life
   pub within : IsWithinForm table.late row.form row.life
+  pub found : text_row table row.word ≡ Some row
+  pub named : text_row table row.kind ≡ Some (own row)
+
+-- a row of radar: it is the row that its product finds, so that no product stands twice
+pub record IsRadarRow (table : LifeTable) (row : RadarRow) : Type 0 where
+  pub product : (row.product ≡ 63) ⊎ (row.product ≡ 64)
+  pub lives : 1 ≤ row.life
+  pub within : IsWithinForm table.late row.form row.life
+  pub found : radar_row table row.product ≡ Some row
 
 pub record IsTable (table : LifeTable) : Type 0 where
   pub late : table.late ≤ 43200
   pub few_texts : length table.texts ≤ 64
   pub few_radars : length table.radars ≤ 2
+  pub all_texts : All (IsTextRow table) table.texts
+  pub all_radars : All (IsRadarRow table) table.radars
+  -- a row with `as` stands behind the row without `as` that it is kept as
+  pub earlier : (before after : List TextRow) (row : TextRow) → table.texts ≡ before ++ row ∷ after → (row.kind ≡ row.word) ⊎ Contains before (own row)
+  -- so do the rows that a look-up finds keep the rules
   pub texts : (word : List ℕ) (row : TextRow) → text_row table word ≡ Some row → IsTextRow table row
   pub radars : (product : ℕ) (row : RadarRow) → radar_row table product ≡ Some row → IsRadarRow table row

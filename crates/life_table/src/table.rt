@@ -1,5 +1,5 @@
 //! The table of lives.
-ghost use Rattle.std.specs.Prelude.{◌≡◌, IfOk, option_map, map};
+ghost use Rattle.std.specs.Prelude.{◌≡◌, ◌≤◌, IfOk, IfSome, option_map, map};
 ghost use Rattle.life_table.specs.LifeTable as spec;
 ghost use Rattle.life_table.specs.Rules.{IsTable};
 ghost use Rattle.life_table.specs.Views.{text_view, radar_view};
@@ -80,7 +80,8 @@ impl LifeTable {
 
     /// The greatest life of a product's rows; reports are product 413.
     pub fn longest(&self, product: u16) -> Option<u64>
-        ensures { result ≡ spec.longest self.now product }
+        ensures life { result ≡ spec.longest self.now product }
+        ensures bounded { IfSome result (λ life. life ≤ 2592000) }
     {
         if product == REPORTS {
             greatest_text_life(self.texts.as_slice())

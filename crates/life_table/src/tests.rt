@@ -15,12 +15,14 @@ fn document(alloc: Global, rows: &[&str]) -> Result<String, AllocError> {
     Ok(text)
 }
 
-/// What is wrong with a document: the row and the reason, if it is a document with a fault.
-fn fault(alloc: Global, text: &str) -> Option<(u32, RowFault)> {
-    match LifeTable::read(alloc, text.as_bytes()) {
-        Err(TableFault::BadRow { row, reason }) => Some((row, reason)),
-        _ => None,
-    }
+/// Why a document writes no table, if it writes none.
+fn fault(alloc: Global, text: &str) -> Option<TableFault> {
+    LifeTable::read(alloc, text.as_bytes()).err()
+}
+
+/// The fault of a row.
+fn bad_row(row: u32, reason: RowFault) -> Option<TableFault> {
+    Some(TableFault::BadRow { row, reason })
 }
 
 #[test]
@@ -34,7 +36,7 @@ fn lives_of_reports_end_within_a_day(rt: HostRuntime) -> Result<(), Fail> {
         "form = 0",
     ];
     let text = document(alloc, &rows)?;
-    assert_eq!(rt; fault(alloc, text.as_str()), Some((1, RowFault::Life)));
+    assert_eq!(rt; fault(alloc, text.as_str()), bad_row(1, RowFault::Life));
     let rows = ["[[text]]", METAR];
     let table = LifeTable::read(alloc, document(alloc, &rows)?.as_str().as_bytes())?;
     let row = table.text_row("METAR").ok_or("no row")?;
@@ -74,60 +76,94 @@ fn default_table_and_its_copy_agree(rt: HostRuntime) -> Result<(), Fail> {
 }
 
 #[test]
-fn texts_that_are_no_document_are_refused(rt: HostRuntime) {
-    for text in [
-        "version =",
-        "version = 1\nversion = 1\nlate = 0\n",
-        "text = []\n[[text]]\n",
-        "late = 9999999999999999999\n",
-        "a = 1\rb = 1",
-    ] {
-        let answer = LifeTable::read(rt.alloc(), text.as_bytes());
-        assert!(rt; matches!(answer, Err(TableFault::NotToml)), "{text}");
-    }
-    let answer = LifeTable::read(rt.alloc(), [0xFF, 0xFE].as_slice());
-    assert!(rt; matches!(answer, Err(TableFault::NotToml)));
-}
-
-#[test]
-fn odd_documents_are_tables(rt: HostRuntime) {
-    for text in [
-        "version = 1\nlate = 0\n",
-        "version = 0x1\nlate = +0\n",
-        "\u{FEFF}version = 1\nlate = 43_200\n",
-        "version = 1\n\"l\\u0061te\" = 600\ntext = []\nradar = []\n",
-        "version = 1\nlate = 0\ntext = [{ type = \"A\", words = 2, life = 1, form = 1 }, { type = \"B\", as = \"A\" }]\n",
-        "version = 1\nlate = 600\n[[radar]]\nproduct = 63\nlife = 1\nform = 3\n[[text]]\ntype = \"A./-9\"\nwords = 3\nlife = 2592000\nform = 3\n",
-    ] {
-        assert!(rt;
-            LifeTable::read(rt.alloc(), text.as_bytes()).is_ok(),
-            "{text}"
-        );
-    }
-}
-
-#[test]
-fn heads_are_told_by_their_first_fault(rt: HostRuntime) {
-    for (text, reason) in [
-        ("", RowFault::Shape),
-        ("version = 1\n", RowFault::Shape),
-        ("late = 600\n", RowFault::Shape),
-        ("version = 1.0\nlate = 600\n", RowFault::Shape),
-        ("version = 2\nlate = \"600\"\n", RowFault::Shape),
-        ("version = 1\nlate = 600\nlater = 1\n", RowFault::Shape),
-        ("version = 1\nlate = 600\ntext = 1\n", RowFault::Shape),
-        ("version = 1\nlate = 600\ntext = [1]\n", RowFault::Shape),
+fn odd_documents_are_tables_or_have_a_fault(rt: HostRuntime) {
+    let not_toml = Some(TableFault::NotToml);
+    for (text, wrong) in [
+        // No document of the language.
+        ("version =", not_toml),
+        ("version = 1\nversion = 1\nlate = 0\n", not_toml),
+        ("text = []\n[[text]]\n", not_toml),
+        ("late = 9999999999999999999\n", not_toml),
+        ("a = 1\rb = 1", not_toml),
+        ("version = 1\nlate = 0\0\n", not_toml),
+        ("version = 1 # \0\nlate = 0\n", not_toml),
+        ("\u{FEFF}\u{FEFF}version = 1\nlate = 43_200\n", not_toml),
+        // Odd spellings of a table.
+        ("\u{FEFF}version = 1\nlate = 43_200\n", None),
+        ("version = 1\nlate = 0\n", None),
+        ("version = 0x1\nlate = +0\n", None),
+        (
+            "version = 1\n\"l\\u0061te\" = 600\ntext = []\nradar = []\n",
+            None,
+        ),
+        (
+            "version = 1\nlate = 0\ntext = [{ type = \"A\", words = 2, life = 1, form = 1 }, { type = \"B\", as = \"A\" }]\n",
+            None,
+        ),
+        (
+            "version = 1\nlate = 600\n[[radar]]\nproduct = 63\nlife = 1\nform = 3\n[[text]]\ntype = \"A./-9\"\nwords = 3\nlife = 2592000\nform = 3\n",
+            None,
+        ),
+        // The first fault of the document's own entries.
+        ("", bad_row(0, RowFault::Shape)),
+        ("version = 1\n", bad_row(0, RowFault::Shape)),
+        ("late = 600\n", bad_row(0, RowFault::Shape)),
+        ("version = 1.0\nlate = 600\n", bad_row(0, RowFault::Shape)),
+        ("version = 2\nlate = \"600\"\n", bad_row(0, RowFault::Shape)),
+        (
+            "version = 1\nlate = 600\nlater = 1\n",
+            bad_row(0, RowFault::Shape),
+        ),
+        (
+            "version = 1\nlate = 600\ntext = 1\n",
+            bad_row(0, RowFault::Shape),
+        ),
+        (
+            "version = 1\nlate = 600\ntext = [1]\n",
+            bad_row(0, RowFault::Shape),
+        ),
         (
             "version = 1\nlate = 600\nradar = [{}, 1]\n",
-            RowFault::Shape,
+            bad_row(0, RowFault::Shape),
         ),
-        ("version = 2\nlate = 43201\n", RowFault::Version),
-        ("version = -1\nlate = 600\n", RowFault::Version),
-        ("version = 1\nlate = 43201\n", RowFault::Late),
-        ("version = 1\nlate = -1\n", RowFault::Late),
+        ("version = 2\nlate = 43201\n", bad_row(0, RowFault::Version)),
+        ("version = -1\nlate = 600\n", bad_row(0, RowFault::Version)),
+        ("version = 1\nlate = 43201\n", bad_row(0, RowFault::Late)),
+        ("version = 1\nlate = -1\n", bad_row(0, RowFault::Late)),
     ] {
-        assert_eq!(rt; fault(rt.alloc(), text), Some((0, reason)), "{text}");
+        assert_eq!(rt; fault(rt.alloc(), text), wrong, "{text}");
     }
+    let no_text = LifeTable::read(rt.alloc(), [0xFF, 0xFE].as_slice());
+    assert_eq!(rt; no_text.err(), not_toml);
+}
+
+#[test]
+fn mixed_rows_are_counted_within_their_key(rt: HostRuntime) -> Result<(), Fail> {
+    let alloc = rt.alloc();
+    for (rows, wrong) in [
+        (["METAR", "63", "SPECI", "64"], None),
+        (["63", "METAR", "64", "SPECI"], None),
+        (["METAR", "63", "metar", "64"], bad_row(2, RowFault::Word)),
+        (["63", "METAR", "64", "metar"], bad_row(2, RowFault::Word)),
+        (
+            ["63", "METAR", "65", "SPECI"],
+            bad_row(4, RowFault::Product),
+        ),
+        (["METAR", "63", "SPECI", "63"], bad_row(4, RowFault::Twice)),
+        (["65", "metar", "65", "METAR"], bad_row(1, RowFault::Word)),
+    ] {
+        let mut text = String::from_str(alloc, "version = 1\nlate = 600\n")?;
+        for name in rows {
+            let row = if name.starts_with("6") {
+                format!(in alloc; "[[radar]]\nproduct = {name}\nlife = 1\nform = 0\n")?
+            } else {
+                format!(in alloc; "[[text]]\ntype = \"{name}\"\nwords = 2\nlife = 1\nform = 0\n")?
+            };
+            text.push_str(row.as_str())?;
+        }
+        assert_eq!(rt; fault(alloc, text.as_str()), wrong, "{text}");
+    }
+    Ok(())
 }
 
 #[test]
@@ -226,7 +262,7 @@ fn rows_are_told_by_their_first_fault(rt: HostRuntime) -> Result<(), Fail> {
         // `late` is 600, so that a life of 85,740 ends with the day.
         assert_eq!(rt;
             fault(alloc, text.as_str()),
-            wrong.map(|reason| (3, reason)),
+            wrong.and_then(|reason| bad_row(3, reason)),
             "{row}"
         );
     }
@@ -263,7 +299,7 @@ fn radar_rows_are_told_behind_the_reports(rt: HostRuntime) -> Result<(), Fail> {
         let text = document(alloc, &rows)?;
         assert_eq!(rt;
             fault(alloc, text.as_str()),
-            wrong.map(|reason| (3, reason)),
+            wrong.and_then(|reason| bad_row(3, reason)),
             "{row}"
         );
     }
@@ -273,7 +309,7 @@ fn radar_rows_are_told_behind_the_reports(rt: HostRuntime) -> Result<(), Fail> {
 #[test]
 fn rows_are_at_most_64_and_2(rt: HostRuntime) -> Result<(), Fail> {
     let alloc = rt.alloc();
-    for (count, wrong) in [(64, None), (65, Some((0, RowFault::Rows)))] {
+    for (count, wrong) in [(64, None), (65, bad_row(0, RowFault::Rows))] {
         let mut text = document(alloc, &["[[radar]]\nproduct = 63\nlife = 1\nform = 0"])?;
         for number in 0..count {
             text.push_str("[[text]]\ntype = \"A")?;
@@ -288,6 +324,6 @@ fn rows_are_at_most_64_and_2(rt: HostRuntime) -> Result<(), Fail> {
     let two = document(alloc, &[radar, other])?;
     assert_eq!(rt; fault(alloc, two.as_str()), None);
     let three = document(alloc, &[radar, other, other])?;
-    assert_eq!(rt; fault(alloc, three.as_str()), Some((0, RowFault::Rows)));
+    assert_eq!(rt; fault(alloc, three.as_str()), bad_row(0, RowFault::Rows));
     Ok(())
 }
