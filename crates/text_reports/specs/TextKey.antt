@@ -1,6 +1,6 @@
 -- What names a report: its type, its place, and for some types a third word.
-use Rattle.std.specs.Prelude.{ℕ, Bool, true, false, ◌&&◌, ◌||◌, ◌==◌, nat_lt, if◌then◌else◌, List, [], ◌∷◌, length, filter, Option, Some, None, Result, Ok, Err}
-use Rattle.std.specs.List.{slice_split}
+use Rattle.std.specs.Prelude.{◌≡◌, ℕ, ◌≤◌, Bool, true, false, ◌&&◌, ◌||◌, ◌==◌, nat_lt, if◌then◌else◌, List, [], ◌∷◌, length, filter, Option, Some, None, Result, Ok, Err}
+use Rattle.std.specs.List.{slice_split, All}
 use Rattle.std.specs.Str.{bytes_eq}
 use Rattle.std.specs.Cmp.Lexicographic.{slice_cmp}
 use Rattle.std.specs.Option.{option_cmp}
@@ -20,6 +20,11 @@ pub data KeyFault : Type 0 where
 -- a space or a newline
 abbrev pub is_blank : ℕ → Bool
 is_blank c = (c == 32) || (c == 10)
+
+-- what a word is: at least one byte, and none of them a space or a newline
+pub record IsWord (word : List ℕ) : Type 0 where
+  pub some : 1 ≤ length word
+  pub unbroken : All (λ c. is_blank c ≡ false) word
 
 -- words are the longest runs without space and newline
 abbrev pub words_of : List ℕ → List (List ℕ)

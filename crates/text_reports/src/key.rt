@@ -1,6 +1,6 @@
 //! The key of a report.
 ghost use Rattle.std.specs.Prelude.{◌≡◌, IfOk, IfErr, Ok};
-ghost use Rattle.text_reports.specs.TextKey.{text_key, text_key_cmp, words_of};
+ghost use Rattle.text_reports.specs.TextKey.{IsWord, text_key, text_key_cmp, words_of};
 ghost use Rattle.text_reports.specs.Views.{key_view, IsFault, third_of, IsThirdFault};
 
 use crate::word::Word;
@@ -96,6 +96,7 @@ fn third_word(alloc: Global, words: u8, behind: &str) -> Result<Option<Word>, Ke
 }
 
 fn word_of(alloc: Global, text: &str) -> Result<Word, KeyFault>
+    requires { IsWord text.now }
     ensures word { IfOk result (λ word. word ≡ text.now) }
     ensures memory { IfErr result (λ fault. fault ≡ KeyFault.NoMemory) }
 {

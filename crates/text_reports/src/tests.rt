@@ -27,7 +27,12 @@ fn pirep_is_named_by_three_words(rt: HostRuntime) -> Result<(), Fail> {
 #[test]
 fn copies_are_equal(rt: HostRuntime) -> Result<(), Fail> {
     let key = key(rt.alloc(), "PIREP SEA 142213Z UA")?;
-    assert!(rt; key.kind.copy(rt.alloc())? == key.kind);
+    let third = key.third.as_ref().ok_or("no third word")?;
+    for word in [&key.kind, &key.place, third] {
+        let copy = word.copy(rt.alloc())?;
+        assert!(rt; copy == *word);
+        assert_eq!(rt; copy.all(), word.all());
+    }
     let copy = key.copy(rt.alloc())?;
     assert!(rt; copy == key);
     Ok(())

@@ -5,13 +5,14 @@ ghost use Rattle.std.specs.Cmp.{partial_order_from_own_ties};
 ghost use Rattle.std.specs.Ordering.{nat_cmp, as_partial_cmp};
 ghost use Rattle.std.specs.Str.{chars};
 ghost use Rattle.std.proofs.Common.{rules};
+ghost use Rattle.text_reports.specs.TextKey.{IsWord};
 ghost use Rattle.std.specs.Cmp.Rules.{comparing};
 
 use std::alloc::{AllocError, Global};
 use std::cmp::Ordering;
 use std::marker::Model;
 
-/// A word of a report: characters without a space or a newline.
+/// A word of a report: at least one character, and none of them a space or a newline.
 #[derive(Debug, Drop)]
 pub struct Word {
     text: String,
@@ -20,16 +21,20 @@ pub struct Word {
 impl Model for Word {
     ghost use Rattle.std.specs.Prelude.{List, ℕ};
     ghost use Rattle.std.specs.String.{string_bytes};
+    ghost use Rattle.text_reports.specs.TextKey.{IsWord};
 
     ghost Value = { List ℕ };
 
     ghost view = { λ w. string_bytes w.text };
+
+    ghost invariant = { λ w. IsWord (string_bytes w.text) };
 }
 
 impl Word {
     /// The number of characters.
     pub fn len(&self) -> usize
-        ensures { result ≡ length (chars self.now) }
+        ensures count { result ≡ length (chars self.now) }
+        ensures word { IsWord self.now }
     {
         self.text.as_str().chars().count()
     }
@@ -53,11 +58,12 @@ impl Word {
     pub fn copy(&self, alloc: Global) -> Result<Word, AllocError>
         ensures { IfOk result (λ copy. copy ≡ self.now) }
     {
-        Word::of(alloc, self.all())
+        Word::of(alloc, self.text.as_str())
     }
 
     /// A word of these characters.
     pub(crate) fn of(alloc: Global, text: &str) -> Result<Word, AllocError>
+        requires { IsWord text.now }
         ensures { IfOk result (λ word. word ≡ text.now) }
     {
         Ok(Word {
