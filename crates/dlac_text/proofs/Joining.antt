@@ -1,9 +1,31 @@
 -- How the reports of the codes that are left follow the text so far.
-use Rattle.std.proofs.Common.{◌≡◌, ◌≢◌, ◌≤◌, ◌<◌, get_or, ◌⊎◌, ℕ, false, eqb, List, [], ◌∷◌, ◌++◌, length, replicate, filter, inl, inr, suc, refl, sym, ap, ◌∙◌, append_assoc, append-nil, arith}
+use Rattle.std.proofs.Common.{◌≡◌, ◌≢◌, ◌≤◌, ◌<◌, get_or, ◌⊎◌, ℕ, false, eqb, List, [], ◌∷◌, ◌++◌, length, map, replicate, filter, inl, inr, suc, refl, sym, ap, ◌∙◌, append_assoc, append-nil, arith}
+use Rattle.std.specs.List.{flat_map, slice_split, onto_first}
 use Rattle.std.proofs.lemmas.Bool.Decides.{nat_tests}
 use Rattle.dlac_text.proofs.Cuts.{behind, first_one}
 use Rattle.dlac_text.specs.Alphabet.{character_of}
-use Rattle.dlac_text.specs.Reports.{Piece, symbol, end_of_report, piece_of, pieces_of, lengthened, texts_between, has_characters}
+use Rattle.dlac_text.specs.Pieces.{Piece, character, spaces, end_of_report, pieces_of}
+use Rattle.dlac_text.specs.Reports.{is_end, text_of, texts_between, has_characters}
+use Rattle.dlac_text.proofs.PieceLemmas.{pieces_of-other, piece_of-end, piece_of-character}
+
+-- the texts, the first one lengthened at its front
+abbrev pub lengthened : List ℕ → List (List ℕ) → List (List ℕ)
+lengthened front [] = front ∷ []
+lengthened front (text ∷ texts) = (front ++ text) ∷ texts
+
+-- a piece before the first part lengthens the text of that part
+texts-onto_first :
+    (piece : Piece) (parts : List (List Piece)) → map (flat_map text_of) (onto_first piece parts) ≡ lengthened (text_of piece) (map (flat_map text_of) parts)
+texts-onto_first piece [] = ap (λ t. t ∷ []) (append-nil (text_of piece))
+texts-onto_first piece (part ∷ parts) = refl
+
+texts_between-character :
+    (code : ℕ) (more : List Piece) → texts_between (character code ∷ more) ≡ lengthened (character_of code ∷ []) (texts_between more)
+texts_between-character code more = texts-onto_first (character code) (slice_split is_end more)
+
+texts_between-spaces :
+    (number : ℕ) (more : List Piece) → texts_between (spaces number ∷ more) ≡ lengthened (replicate number 32) (texts_between more)
+texts_between-spaces number more = texts-onto_first (spaces number) (slice_split is_end more)
 
 -- the reports of codes that follow a text
 abbrev pub reports_from : List ℕ → List ℕ → List (List ℕ)
@@ -31,38 +53,29 @@ pub from_nothing : (text codes : List ℕ) → length codes < 1 → reports_from
 from_nothing text [] h = ap (λ t. filter has_characters (t ∷ [])) (append-nil text)
 from_nothing text (code ∷ codes) h = absurd (omega arith)
 
-from_pieces_end :
-    (text : List ℕ) (pieces : List Piece) → filter has_characters (lengthened text (texts_between (end_of_report ∷ pieces))) ≡ filter has_characters (text ∷ []) ++ filter has_characters (lengthened [] (texts_between pieces))
-from_pieces_end text pieces =
+from_end :
+    (text : List ℕ) (code : ℕ) (pieces : List Piece) → filter has_characters (lengthened text (texts_between (end_of_report code ∷ pieces))) ≡ filter has_characters (text ∷ []) ++ filter has_characters (lengthened [] (texts_between pieces))
+from_end text code pieces =
     ap (λ t. filter has_characters (t ∷ texts_between pieces)) (append-nil text) ∙ filter-cons text (texts_between pieces) ∙ ap (λ ts. filter has_characters (text ∷ []) ++ ts) (sym (filter-lengthened-nil (texts_between pieces)))
 
-from_pieces_symbol :
-    (text more : List ℕ) (pieces : List Piece) → filter has_characters (lengthened text (texts_between (symbol more ∷ pieces))) ≡ filter has_characters (lengthened (text ++ more) (texts_between pieces))
-from_pieces_symbol text more pieces = ap (filter has_characters) (lengthened-lengthened text more (texts_between pieces))
-
--- a code other than a TAB is one piece
-pieces_of-other : (code : ℕ) (more : List ℕ) → code ≢ 28 → pieces_of (code ∷ more) ≡ piece_of code ∷ pieces_of more
-pieces_of-other code [] h = let no : eqb code 28 ≡ false = grind (arith, nat_tests) in rw no refl
-pieces_of-other code (n ∷ more) h = let no : eqb code 28 ≡ false = grind (arith, nat_tests) in rw no refl
+from_symbol :
+    (text more : List ℕ) (texts all : List (List ℕ)) → all ≡ lengthened more texts → filter has_characters (lengthened text all) ≡ filter has_characters (lengthened (text ++ more) texts)
+from_symbol text more texts all e = ap (λ ts. filter has_characters (lengthened text ts)) e ∙ ap (filter has_characters) (lengthened-lengthened text more texts)
 
 pub from_end_code :
     (text more : List ℕ) (code : ℕ) → (code ≡ 0) ⊎ (code ≡ 29) → reports_from text (code ∷ more) ≡ filter has_characters (text ∷ []) ++ reports_from [] more
 from_end_code text more code h =
-    let is_end : piece_of code ≡ end_of_report =
-    elim h [ inl zero ↦ rw zero refl | inr other ↦ rw other refl ] in
     let other : code ≢ 28 = elim h [ inl zero ↦ omega arith | inr other ↦ omega arith ] in
-    ap (λ ps. filter has_characters (lengthened text (texts_between ps))) (pieces_of-other code more other ∙ ap (λ p. p ∷ pieces_of more) is_end) ∙ from_pieces_end text (pieces_of more)
+    ap (λ ps. filter has_characters (lengthened text (texts_between ps))) (pieces_of-other code more other ∙ ap (λ p. p ∷ pieces_of more) (piece_of-end code h)) ∙ from_end text code (pieces_of more)
 
-pub from_tab : (text more : List ℕ) (spaces : ℕ) → reports_from text (28 ∷ spaces ∷ more) ≡ reports_from (text ++ replicate spaces 32) more
-from_tab text more spaces = from_pieces_symbol text (replicate spaces 32) (pieces_of more)
+pub from_tab : (text more : List ℕ) (number : ℕ) → reports_from text (28 ∷ number ∷ more) ≡ reports_from (text ++ replicate number 32) more
+from_tab text more number =
+    from_symbol text (replicate number 32) (texts_between (pieces_of more)) (texts_between (spaces number ∷ pieces_of more)) (texts_between-spaces number (pieces_of more))
 
 pub from_character :
     (text more : List ℕ) (code : ℕ) → code ≢ 0 → code ≢ 28 → code ≢ 29 → reports_from text (code ∷ more) ≡ reports_from (text ++ character_of code ∷ []) more
 from_character text more code h i j =
-    let piece : piece_of code ≡ symbol (character_of code ∷ []) = (let zero : eqb code 0 ≡ false = grind (arith, nat_tests) in
-    let other : eqb code 29 ≡ false = grind (arith, nat_tests) in
-    rw (zero, other) refl) in
-    ap (λ ps. filter has_characters (lengthened text (texts_between ps))) (pieces_of-other code more i ∙ ap (λ p. p ∷ pieces_of more) piece) ∙ from_pieces_symbol text (character_of code ∷ []) (pieces_of more)
+    ap (λ ps. filter has_characters (lengthened text (texts_between ps))) (pieces_of-other code more i ∙ ap (λ p. p ∷ pieces_of more) (piece_of-character code h j)) ∙ from_symbol text (character_of code ∷ []) (texts_between (pieces_of more)) (texts_between (character code ∷ pieces_of more)) (texts_between-character code (pieces_of more))
 
 -- the same steps, at the front of a list that is known by its elements
 
@@ -83,8 +96,8 @@ step_tab all found text new xs l m tab e f =
     e ∙ ap (λ rs. found ++ rs) front ∙ ap (λ t. found ++ reports_from t (behind 1 more)) (sym f)
 
 pub step_character :
-    (all found : List (List ℕ)) (text new xs : List ℕ) (character : ℕ) → 1 ≤ length xs → get_or xs 0 0 ≢ 0 → get_or xs 0 0 ≢ 28 → get_or xs 0 0 ≢ 29 → all ≡ found ++ reports_from text xs → character ≡ character_of (get_or xs 0 0) → new ≡ text ++ character ∷ [] → all ≡ found ++ reports_from new (behind 1 xs)
-step_character all found text new xs character l h i j e k f =
+    (all found : List (List ℕ)) (text new xs : List ℕ) (shown : ℕ) → 1 ≤ length xs → get_or xs 0 0 ≢ 0 → get_or xs 0 0 ≢ 28 → get_or xs 0 0 ≢ 29 → all ≡ found ++ reports_from text xs → shown ≡ character_of (get_or xs 0 0) → new ≡ text ++ shown ∷ [] → all ≡ found ++ reports_from new (behind 1 xs)
+step_character all found text new xs shown l h i j e k f =
     let more = behind 1 xs in
     let front = ap (reports_from text) (first_one xs l) ∙ from_character text more (get_or xs 0 0) h i j in
     let same = f ∙ ap (λ x. text ++ x ∷ []) k in

@@ -1,6 +1,7 @@
 pub mod Cuts
 pub mod SixBitsLemmas
 pub mod Characters
+pub mod PieceLemmas
 pub mod Joining
 pub mod RoundTrip
 pub mod PlainLemmas

@@ -1,6 +1,7 @@
 pub mod Alphabet
 pub mod SixBits
 pub mod Payload
+pub mod Pieces
 pub mod Reports
 pub mod Plain
 pub mod Refusal

@@ -1,40 +1,38 @@
--- How a payload is read: six-bit codes, what they stand for, and the texts between the ends.
-use Rattle.std.specs.Prelude.{ℕ, Bool, ◌||◌, ◌==◌, not, if◌then◌else◌, List, [], ◌∷◌, ◌++◌, replicate, filter, length}
+-- How a payload is read: the pieces that its six-bit codes spell, and the texts between the ends.
+use Rattle.std.specs.Prelude.{◌≡◌, ℕ, Bool, true, false, ◌==◌, not, List, [], ◌∷◌, map, replicate, filter, length}
+use Rattle.std.specs.List.{flat_map, slice_split}
 use Rattle.dlac_text.specs.Alphabet.{character_of}
 use Rattle.dlac_text.specs.SixBits.{six_bit_groups}
+use Rattle.dlac_text.specs.Pieces.{Piece, character, spaces, end_of_report, Spells, pieces_of}
 
--- what stands in a list of codes: a symbol, with the text that it stands for, or the end of a report
-pub data Piece : Type 0 where
-  symbol : List ℕ → Piece
-  end_of_report : Piece
+abbrev pub is_end : Piece → Bool
+is_end (character code) = false
+is_end (spaces number) = false
+is_end (end_of_report code) = true
 
--- a code other than the TAB 28: 0 and 29 end a report, any other stands for its character
-abbrev pub piece_of : ℕ → Piece
-piece_of code = if code == 0 || code == 29 then end_of_report else symbol (character_of code ∷ [])
-
--- the TAB 28 and the code behind it, whatever it is, stand for that number of spaces; a TAB that is the last code
--- stands for nothing
-abbrev pub pieces_of : List ℕ → List Piece
-pieces_of [] = []
-pieces_of (code ∷ []) = if code == 28 then [] else piece_of code ∷ []
-pieces_of (code ∷ next ∷ more) =
-    if code == 28 then symbol (replicate next 32) ∷ pieces_of more else piece_of code ∷ pieces_of (next ∷ more)
-
--- the texts, the first one lengthened at its front
-abbrev pub lengthened : List ℕ → List (List ℕ) → List (List ℕ)
-lengthened front [] = front ∷ []
-lengthened front (text ∷ texts) = (front ++ text) ∷ texts
+-- the text that a piece stands for; an end stands for none
+abbrev pub text_of : Piece → List ℕ
+text_of (character code) = character_of code ∷ []
+text_of (spaces number) = replicate number 32
+text_of (end_of_report code) = []
 
 -- the texts between the ends, the empty ones too
 abbrev pub texts_between : List Piece → List (List ℕ)
-texts_between [] = [] ∷ []
-texts_between (symbol text ∷ more) = lengthened text (texts_between more)
-texts_between (end_of_report ∷ more) = [] ∷ texts_between more
+texts_between pieces = map (flat_map text_of) (slice_split is_end pieces)
 
 -- whether a text is not empty
 abbrev pub has_characters : List ℕ → Bool
 has_characters text = not (length text == 0)
 
--- the reports of a payload: the texts between the ends, the empty ones left out
+-- the reports of some pieces: the texts between the ends, the empty ones left out
+abbrev pub reports_among : List Piece → List (List ℕ)
+reports_among pieces = filter has_characters (texts_between pieces)
+
+-- the reports of a payload are those of the pieces that its codes spell
 unfoldable pub reports_of : List ℕ → List (List ℕ)
-reports_of payload = filter has_characters (texts_between (pieces_of (six_bit_groups payload)))
+reports_of payload = reports_among (pieces_of (six_bit_groups payload))
+
+-- the same, in whatever way the pieces were found
+abbrev pub HasReportsOfItsPieces : List ℕ → Type 0
+HasReportsOfItsPieces payload =
+    (pieces : List Piece) → Spells (six_bit_groups payload) pieces → reports_of payload ≡ reports_among pieces

@@ -3,9 +3,17 @@ ghost use Rattle.std.specs.Prelude.{◌≡◌, ℕ, ◌+◌, ◌*◌, ◌/◌, �
 ghost use Rattle.std.specs.Str.{chars, IsUtf8};
 ghost use Rattle.dlac_text.specs.Alphabet.{IsDlac};
 ghost use Rattle.dlac_text.specs.Payload.{text_payload};
+ghost use Rattle.dlac_text.specs.Pieces.{IsCutInOneWay};
 ghost use Rattle.dlac_text.specs.Plain.{plain_text, unplained};
 ghost use Rattle.dlac_text.specs.Refusal.{IsSendable, text_refusal};
-ghost use Rattle.dlac_text.specs.Reports.{reports_of};
+ghost use Rattle.dlac_text.specs.Reports.{reports_of, HasReportsOfItsPieces};
+
+/// Every list of codes is cut into pieces in exactly one way, and the reports of a payload are the texts between the
+/// ends of its pieces, the empty ones left out.
+pub fn codes_are_pieces()
+    ensures one_way { (codes : List ℕ) → IsCutInOneWay codes }
+    ensures reports { (payload : List ℕ) → HasReportsOfItsPieces payload }
+{}
 
 /// Reading undoes writing: the reports of the payload of a text are that text alone.
 pub fn reading_undoes_writing()

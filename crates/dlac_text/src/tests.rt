@@ -1,5 +1,5 @@
 use crate::{
-    Report, TextFault, encode_text, payload_size, plain, plain_text_reads_back,
+    Report, TextFault, codes_are_pieces, encode_text, payload_size, plain, plain_text_reads_back,
     reading_undoes_writing, refused_texts, reports, shown_texts, unplain,
 };
 use std::alloc::{AllocError, Global};
@@ -32,6 +32,7 @@ fn payload_reads_back_as_its_text(rt: HostRuntime) -> Result<(), Fail> {
 
 #[test]
 fn ends_and_tabs_are_read(rt: HostRuntime) -> Result<(), Fail> {
+    codes_are_pieces();
     let two = reports(rt.alloc(), [0x05, 0xD0, 0x80].as_slice())?;
     assert_eq!(rt; two.len(), 2);
     assert_eq!(rt; two[0].all(), "A");
@@ -75,13 +76,15 @@ fn greatest_text_is_taken(rt: HostRuntime) -> Result<(), Fail> {
 fn report_is_shown_on_one_line(rt: HostRuntime) -> Result<(), Fail> {
     plain_text_reads_back();
     shown_texts();
-    let bytes = encode_text(rt.alloc(), "A\nB\u{1A}")?;
-    let found = reports(rt.alloc(), bytes.all())?;
-    assert_eq!(rt; found.len(), 1);
-    let shown = plain(rt.alloc(), &found[0])?;
-    assert_eq!(rt; shown.as_str(), "A\\nB\\z");
-    let back = unplain(rt.alloc(), shown.as_str())?.ok_or("not read")?;
-    assert_eq!(rt; back.as_str(), found[0].all());
+    for (text, line) in [("A\nB", "A\\nB"), ("A\nB\u{1A}", "A\\nB\\z")] {
+        let bytes = encode_text(rt.alloc(), text)?;
+        let found = reports(rt.alloc(), bytes.all())?;
+        assert_eq!(rt; found.len(), 1);
+        let shown = plain(rt.alloc(), &found[0])?;
+        assert_eq!(rt; shown.as_str(), line);
+        let back = unplain(rt.alloc(), shown.as_str())?.ok_or("not read")?;
+        assert_eq!(rt; back.as_str(), text);
+    }
     for wrong in ["A\\q", "A\\", "\\\\n"] {
         assert!(rt; unplain(rt.alloc(), wrong)?.is_none(), "{wrong}");
     }

@@ -1,6 +1,7 @@
 use Rattle.std.proofs.Common.{◌∙◌, List, ℕ, filter, sym, ap, rules, drop, All, ◌++◌}
 use Rattle.std.proofs.lemmas.List.Elements.{All-take, All-drop}
-use Rattle.dlac_text.specs.Reports.{reports_of, has_characters, texts_between, pieces_of}
+use Rattle.dlac_text.specs.Pieces.{pieces_of}
+use Rattle.dlac_text.specs.Reports.{reports_of, has_characters, texts_between}
 use Rattle.dlac_text.proofs.Cuts.{behind}
 use Rattle.dlac_text.proofs.SixBitsLemmas.{IsSixBits}
 use Rattle.dlac_text.proofs.Joining.{from_start, from_nothing, step_end, step_tab, step_character}
