@@ -1,12 +1,11 @@
 -- Each entry that a reception brings lives as long as its key.
-use Rattle.std.proofs.Common.{◌≡◌, ℕ, ◌⊎◌, List, [], ◌∷◌, ◌++◌, flat_map, Option, Some, None, Result, Ok, Err, IfOk, inl, inr, subst, sym}
+use Rattle.std.proofs.Common.{ℕ, ◌⊎◌, List, [], ◌∷◌, ◌++◌, flat_map, Option, Some, None, Result, Ok, Err, inl, inr}
 use Rattle.life_table.specs.LifeTable.{LifeTable}
 use Rattle.uplink_frame.specs.UplinkFrame.{InformationFrame}
 use Rattle.fisb_broadcast.specs.Entry.{Entry, Key}
 use Rattle.fisb_broadcast.specs.Membership.{IsIn}
 use Rattle.fisb_broadcast.specs.Receiver.{Reception, Arrival, Unread, Whole, arrival_of, frames_of, whole_entries}
 use Rattle.fisb_broadcast.specs.Shown.{HaveLife, life_of}
-use Rattle.receiver_core.specs.Kept.{Keeps}
 use Rattle.receiver_core.specs.Brought.{whole_of, entries_of, entries_by, frame_entries, brought}
 
 in_either : {A : Type 0} (x : A) (xs ys : List A) → IsIn x (xs ++ ys) → IsIn x xs ⊎ IsIn x ys
@@ -43,8 +42,3 @@ lives_frame wholes table moment frame = lives_by wholes table (arrival_of table 
 pub lives_brought : WholesLive → (table : LifeTable) (heard : Reception) → HaveLife (life_of table) (brought table heard)
 unfolding brought
 lives_brought wholes table heard = lives_flat (life_of table) (frame_entries table heard.moment) (lives_frame wholes table heard.moment) (frames_of heard)
-
-pub keeps_where : {T E : Type 0} (r : Result T E) (table : LifeTable) (contents kept now : List Entry)
-    → IfOk r (λ _. now ≡ kept) → Keeps table contents kept → IfOk r (λ _. Keeps table contents now)
-keeps_where (Ok x) table contents kept now is keeps = subst (Keeps table contents) (sym is) keeps
-keeps_where (Err e) table contents kept now is keeps = is

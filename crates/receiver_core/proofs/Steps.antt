@@ -1,26 +1,16 @@
--- One more of a list, in what is kept and in what is told.
+-- One more of a list, in what arrived and in what is told.
 use Rattle.std.proofs.Common.{◌≡◌, ℕ, zero, suc, ◌≤◌, Bool, true, false, cond, if◌then◌else◌, List, [], ◌∷◌, ◌++◌, length, take, drop, map, flat_map, refl, sym, ap, ◌∙◌, arith}
 use Rattle.std.proofs.lemmas.List.{map-append, append_assoc, append-nil, length-take, length-drop}
 use Rattle.uplink_frame.specs.UplinkFrame.{InformationFrame, header_in, ends_here, frame_at_front, behind_frame, frames_at_front, information_frames, length_at_front}
 use Rattle.life_table.specs.LifeTable.{LifeTable}
-use Rattle.fisb_broadcast.specs.Entry.{Entry}
 use Rattle.fisb_broadcast.specs.Receiver.{Reception, Unread}
-use Rattle.fisb_broadcast.specs.Shown.{put, put_all}
 use Rattle.fisb_broadcast.specs.Unread.{UnreadPart}
 use Rattle.receiver_core.specs.Brought.{frame_entries, frame_reasons, parts_of, brought, unread_brought}
 use Rattle.receiver_core.specs.Told.{told_part}
 
-put_joined : (xs ys kept : List Entry) → put_all (xs ++ ys) kept ≡ put_all ys (put_all xs kept)
-put_joined [] ys kept = refl
-put_joined (x ∷ xs) ys kept = put_joined xs ys (put x kept)
-
-pub one_more_put : {A : Type 0} (f : A → List Entry) (x : A) (rest : List A) (all before now : List Entry)
-    → all ≡ put_all (flat_map f (x ∷ rest)) before → now ≡ put_all (f x) before → all ≡ put_all (flat_map f rest) now
-one_more_put f x rest all before now same is = same ∙ put_joined (f x) (flat_map f rest) before ∙ ap (put_all (flat_map f rest)) (sym is)
-
-pub one_more_told : {A B : Type 0} (f : A → List B) (x : A) (rest : List A) (all before now : List B)
+pub one_more : {A B : Type 0} (f : A → List B) (x : A) (rest : List A) (all before now : List B)
     → all ≡ before ++ flat_map f (x ∷ rest) → now ≡ before ++ f x → all ≡ now ++ flat_map f rest
-one_more_told f x rest all before now same is = same ∙ sym (append_assoc before (f x) (flat_map f rest)) ∙ ap (λ bs. bs ++ flat_map f rest) (sym is)
+one_more f x rest all before now same is = same ∙ sym (append_assoc before (f x) (flat_map f rest)) ∙ ap (λ bs. bs ++ flat_map f rest) (sym is)
 
 -- what is told of each report of a frame is told of the frame
 pub told_each : {A : Type 0} (frame : InformationFrame) (f : A → List Unread) (xs : List A)
@@ -64,19 +54,16 @@ unfolding information_frames
 short_frames payload size = short_front 212 424 (drop 8 payload) (omega (arith, length-drop 8 payload))
 
 -- where nothing is left, all is there
-pub all_told : {A B : Type 0} (f : A → List B) (left : List A) (all now : List B) → left ≡ [] → all ≡ now ++ flat_map f left → now ≡ all
-all_told f left all now none same = sym (same ∙ ap (λ xs. now ++ flat_map f xs) none ∙ append-nil now)
-
-pub all_put : {A : Type 0} (f : A → List Entry) (left : List A) (all now : List Entry) → left ≡ [] → all ≡ put_all (flat_map f left) now → now ≡ all
-all_put f left all now none same = sym (same ∙ ap (λ xs. put_all (flat_map f xs) now) none)
+pub all_there : {A B : Type 0} (f : A → List B) (left : List A) (all now : List B) → left ≡ [] → all ≡ now ++ flat_map f left → now ≡ all
+all_there f left all now none same = sym (same ∙ ap (λ xs. now ++ flat_map f xs) none ∙ append-nil now)
 
 -- the frames of a reception, by its header
 frames_by : (valid : Bool) (frames : List InformationFrame) (b : Bool) → valid ≡ b → (if valid then frames else []) ≡ (if b then frames else [])
 frames_by valid frames b same = ap (λ v. if v then frames else []) same
 
-pub unheard_put : (table : LifeTable) (heard : Reception) → (header_in heard.payload).is_application_valid ≡ false → brought table heard ≡ []
+pub unheard_brought : (table : LifeTable) (heard : Reception) → (header_in heard.payload).is_application_valid ≡ false → brought table heard ≡ []
 unfolding brought
-unheard_put table heard off =
+unheard_brought table heard off =
     ap (flat_map (frame_entries table heard.moment)) (frames_by (header_in heard.payload).is_application_valid (information_frames heard.payload) false off)
 
 pub unheard_told : (table : LifeTable) (heard : Reception) → (header_in heard.payload).is_application_valid ≡ false → unread_brought table heard ≡ []
@@ -85,10 +72,10 @@ unheard_told table heard off =
     ap (flat_map (λ frame. parts_of frame (frame_reasons table heard.moment frame)))
     (frames_by (header_in heard.payload).is_application_valid (information_frames heard.payload) false off)
 
-pub heard_put : (table : LifeTable) (heard : Reception) → (header_in heard.payload).is_application_valid ≡ true
+pub heard_brought : (table : LifeTable) (heard : Reception) → (header_in heard.payload).is_application_valid ≡ true
     → brought table heard ≡ flat_map (frame_entries table heard.moment) (information_frames heard.payload)
 unfolding brought
-heard_put table heard on =
+heard_brought table heard on =
     ap (flat_map (frame_entries table heard.moment)) (frames_by (header_in heard.payload).is_application_valid (information_frames heard.payload) true on)
 
 pub heard_told : (table : LifeTable) (heard : Reception) → (header_in heard.payload).is_application_valid ≡ true

@@ -1,10 +1,9 @@
-//! What is kept of the frames of a payload, and what of them is passed on unread.
+//! What the frames of a payload bring, and what of them is passed on unread.
 ghost use Rattle.std.specs.Prelude.{◌≡◌, ℕ, ◌≤◌, ◌++◌, IfOk, length, map, flat_map};
 ghost use Rattle.dlac_text.specs.Reports.{reports_of};
 ghost use Rattle.text_reports.specs.TextKey.{text_key};
 ghost use Rattle.uplink_frame.specs.Views.{frame_view};
 ghost use Rattle.fisb_broadcast.specs.Receiver.{report_entries};
-ghost use Rattle.fisb_broadcast.specs.Shown.{put_all};
 ghost use Rattle.fisb_broadcast.specs.Unread.{unread_report};
 ghost use Rattle.receiver_core.specs.Brought.{brought, entries_by, frame_entries, frame_reasons, parts_of, reasons_by, unread_brought};
 ghost use Rattle.receiver_core.specs.Told.{told_part};
@@ -22,27 +21,27 @@ use uplink_frame::{InfoFrame, frames, read_header};
 /// The product of reports.
 const REPORTS: u16 = 413;
 
-/// Hears the frames of a payload, and answers what is passed on unread.
+/// The reports that the frames of a payload bring, and what of them is passed on unread.
 pub(crate) fn hear_frames(
     alloc: Global,
     table: &LifeTable,
     moment: Moment,
     payload: &[u8; 432],
-    kept: &mut Vec<ShownReport>,
-) -> Result<Vec<Unread>, AllocError>
-    ensures kept { IfOk result (λ _. map entry_view kept.new.items
-        ≡ put_all (brought table.now (record { moment = moment; payload = payload.now })) (map entry_view kept.old.items)) }
-    ensures unread { IfOk result (λ unread. map unread_view unread.items
+) -> Result<(Vec<ShownReport>, Vec<Unread>), AllocError>
+    ensures arrived { IfOk result (λ heard. map entry_view heard.0.items
+        ≡ brought table.now (record { moment = moment; payload = payload.now })) }
+    ensures unread { IfOk result (λ heard. map unread_view heard.1.items
         ≡ map told_part (unread_brought table.now (record { moment = moment; payload = payload.now }))) }
 {
+    let mut arrived = Vec::new(alloc);
     let mut unread = Vec::new(alloc);
     if !read_header(payload).app_valid {
-        return Ok(unread);
+        return Ok((arrived, unread));
     }
     for frame in frames(payload) {
-        hear_frame(alloc, table, moment, &frame, kept, &mut unread)?;
+        hear_frame(alloc, table, moment, &frame, &mut arrived, &mut unread)?;
     }
-    Ok(unread)
+    Ok((arrived, unread))
 }
 
 /// Hears an information frame.
@@ -51,17 +50,17 @@ fn hear_frame(
     table: &LifeTable,
     moment: Moment,
     frame: &InfoFrame<'_>,
-    kept: &mut Vec<ShownReport>,
+    arrived: &mut Vec<ShownReport>,
     unread: &mut Vec<Unread>,
 ) -> Result<(), AllocError>
     requires { length frame.now.body.now ≤ 424 }
-    ensures kept { IfOk result (λ _. map entry_view kept.new.items
-        ≡ put_all (frame_entries table.now moment (frame_view frame.now)) (map entry_view kept.old.items)) }
+    ensures arrived { IfOk result (λ _. map entry_view arrived.new.items
+        ≡ map entry_view arrived.old.items ++ frame_entries table.now moment (frame_view frame.now)) }
     ensures unread { IfOk result (λ _. map unread_view unread.new.items
         ≡ map unread_view unread.old.items ++ map told_part (parts_of (frame_view frame.now) (frame_reasons table.now moment (frame_view frame.now)))) }
 {
     match arrival_of(table, moment, frame) {
-        Ok(arrival) => take(alloc, table, frame, &arrival, kept, unread),
+        Ok(arrival) => take(alloc, table, frame, &arrival, arrived, unread),
         Err(reason) => Ok(unread.push(Unread::of(frame, reason))?),
     }
 }
@@ -72,12 +71,12 @@ fn take(
     table: &LifeTable,
     frame: &InfoFrame<'_>,
     arrival: &Arrival<'_>,
-    kept: &mut Vec<ShownReport>,
+    arrived: &mut Vec<ShownReport>,
     unread: &mut Vec<Unread>,
 ) -> Result<(), AllocError>
     requires { length frame.now.body.now ≤ 424 }
-    ensures kept { (moment : ℕ) → IfOk result (λ _. map entry_view kept.new.items
-        ≡ put_all (entries_by table.now (Ok (arrival_view moment arrival.now))) (map entry_view kept.old.items)) }
+    ensures arrived { (moment : ℕ) → IfOk result (λ _. map entry_view arrived.new.items
+        ≡ map entry_view arrived.old.items ++ entries_by table.now (Ok (arrival_view moment arrival.now))) }
     ensures unread { (moment : ℕ) → IfOk result (λ _. map unread_view unread.new.items
         ≡ map unread_view unread.old.items ++ map told_part (parts_of (frame_view frame.now) (reasons_by table.now (Ok (arrival_view moment arrival.now))))) }
 {
@@ -87,7 +86,7 @@ fn take(
     if arrival.product != REPORTS {
         return Ok(());
     }
-    take_reports(alloc, table, frame, arrival, kept, unread)
+    take_reports(alloc, table, frame, arrival, arrived, unread)
 }
 
 /// Takes the reports of an arrival's payload.
@@ -96,18 +95,18 @@ fn take_reports(
     table: &LifeTable,
     frame: &InfoFrame<'_>,
     arrival: &Arrival<'_>,
-    kept: &mut Vec<ShownReport>,
+    arrived: &mut Vec<ShownReport>,
     unread: &mut Vec<Unread>,
 ) -> Result<(), AllocError>
     requires { length frame.now.body.now ≤ 424 }
-    ensures kept { IfOk result (λ _. map entry_view kept.new.items
-        ≡ put_all (flat_map (report_entries table.now arrival.now.version) (reports_of arrival.now.payload.now)) (map entry_view kept.old.items)) }
+    ensures arrived { IfOk result (λ _. map entry_view arrived.new.items
+        ≡ map entry_view arrived.old.items ++ flat_map (report_entries table.now arrival.now.version) (reports_of arrival.now.payload.now)) }
     ensures unread { IfOk result (λ _. map unread_view unread.new.items
         ≡ map unread_view unread.old.items
         ++ map told_part (parts_of (frame_view frame.now) (flat_map (λ text. unread_report (text_key table.now text)) (reports_of arrival.now.payload.now)))) }
 {
     for report in reports(alloc, arrival.payload)? {
-        if let Some(reason) = take_report(alloc, table, arrival.version, report, kept)? {
+        if let Some(reason) = take_report(alloc, table, arrival.version, report, arrived)? {
             unread.push(Unread::of(frame, reason))?;
         }
     }

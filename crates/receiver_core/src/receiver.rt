@@ -1,5 +1,5 @@
 //! A receiver of weather texts.
-ghost use Rattle.std.specs.Prelude.{◌≡◌, List, [], ◌++◌, IfOk, map};
+ghost use Rattle.std.specs.Prelude.{◌≡◌, List, [], ◌++◌, IfOk, OnErr, map};
 ghost use Rattle.fisb_broadcast.specs.Entry.{Entry};
 ghost use Rattle.receiver_core.specs.Brought.{brought, unread_brought};
 ghost use Rattle.receiver_core.specs.Kept.{Keeps};
@@ -8,7 +8,7 @@ ghost use Rattle.receiver_core.specs.Views.{entry_view, unread_view};
 
 use crate::hearing::hear_frames;
 use crate::laws::{keeps_brought, keeps_nothing};
-use crate::shown::ShownReport;
+use crate::shown::{ShownReport, put_all};
 use crate::unread::Unread;
 use fisb_time::Moment;
 use life_table::LifeTable;
@@ -54,7 +54,7 @@ impl Receiver {
     ///
     /// # Errors
     ///
-    /// `AllocError` where memory runs out. The receiver then may keep some of what the payload brings.
+    /// `AllocError` where memory runs out. The receiver is then as it was before.
     pub fn hear_payload(
         &mut self,
         alloc: Global,
@@ -66,9 +66,13 @@ impl Receiver {
             Keeps self.old.table (contents ++ brought self.old.table (record { moment = moment; payload = payload.now })) self.new.kept) }
         ensures unread { IfOk result (λ unread. map unread_view unread.items
             ≡ map told_part (unread_brought self.old.table (record { moment = moment; payload = payload.now }))) }
+        ensures err { OnErr result (self.new ≡ self.old) }
     {
         keeps_brought();
-        hear_frames(alloc, &self.table, moment, payload, &mut self.kept)
+        let (arrived, unread) = hear_frames(alloc, &self.table, moment, payload)?;
+        self.kept.reserve(arrived.len())?;
+        put_all(arrived, &mut self.kept);
+        Ok(unread)
     }
 
     /// The newest version of each key that was heard, in the order of keys. One is shown before the second `until`.

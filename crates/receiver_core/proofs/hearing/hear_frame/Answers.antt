@@ -1,18 +1,17 @@
-use Rattle.std.proofs.Common.{◌≡◌, [], ◌∷◌, ◌++◌, map, IfOk, Result, ap, subst, ◌∙◌}
-use Rattle.std.proofs.lemmas.List.{map-append}
+use Rattle.std.proofs.Common.{◌≡◌, [], ◌∷◌, ◌++◌, map, IfOk, Result, sym, ap, subst, ◌∙◌}
+use Rattle.std.proofs.lemmas.List.{append-nil, map-append}
 use Rattle.uplink_frame.specs.Views.{frame_view}
 use Rattle.fisb_broadcast.specs.Receiver.{Arrival, Unread}
-use Rattle.fisb_broadcast.specs.Shown.{put_all}
 use Rattle.receiver_core.specs.Brought.{entries_by, frame_entries, frame_reasons, parts_of, reasons_by}
 use Rattle.receiver_core.specs.Told.{told_part}
 use Rattle.receiver_core.specs.Views.{entry_view, unread_view}
 use Rattle.receiver_core.proofs.hearing.hear_frame.Goals as goal
 
-pub returns-in-Ok-clause-kept : goal.returns-in-Ok-clause-kept
+pub returns-in-Ok-clause-arrived : goal.returns-in-Ok-clause-arrived
 unfolding frame_entries
-returns-in-Ok-clause-kept c =
-    let P : Result Arrival Unread → Type 0 = λ answer. IfOk c.take.result (λ _. map entry_view c.take.new.kept.items ≡ put_all (entries_by c.args.table.now answer) (map entry_view c.args.kept.now.items)) in
-    subst P c.in-Ok.ensures (c.take.ensures.kept c.args.moment)
+returns-in-Ok-clause-arrived c =
+    let P : Result Arrival Unread → Type 0 = λ answer. IfOk c.take.result (λ _. map entry_view c.take.new.arrived.items ≡ map entry_view c.args.arrived.now.items ++ entries_by c.args.table.now answer) in
+    subst P c.in-Ok.ensures (c.take.ensures.arrived c.args.moment)
 
 pub returns-in-Ok-clause-unread : goal.returns-in-Ok-clause-unread
 unfolding frame_reasons
@@ -21,10 +20,11 @@ returns-in-Ok-clause-unread c =
     ≡ map unread_view c.args.unread.now.items ++ map told_part (parts_of (frame_view c.args.frame.now) (reasons_by c.args.table.now answer))) in
     subst P c.in-Ok.ensures (c.take.ensures.unread c.args.moment)
 
-pub returns-in_ok-push-in-Err-clause-kept : goal.returns-in_ok-push-in-Err-clause-kept
+pub returns-in_ok-push-in-Err-clause-arrived : goal.returns-in_ok-push-in-Err-clause-arrived
 unfolding frame_entries
-returns-in_ok-push-in-Err-clause-kept c =
-    ap (λ answer. put_all (entries_by c.args.table.now answer) (map entry_view c.args.kept.now.items)) c.in-Err.ensures
+returns-in_ok-push-in-Err-clause-arrived c =
+    sym (append-nil (map entry_view c.args.arrived.now.items))
+    ∙ ap (λ answer. map entry_view c.args.arrived.now.items ++ entries_by c.args.table.now answer) c.in-Err.ensures
 
 pub returns-in_ok-push-in-Err-clause-unread : goal.returns-in_ok-push-in-Err-clause-unread
 unfolding frame_reasons

@@ -1,17 +1,16 @@
 use Rattle.std.proofs.Common.{◌≡◌, ◌++◌, map, flat_map}
 use Rattle.uplink_frame.specs.UplinkFrame.{information_frames}
-use Rattle.fisb_broadcast.specs.Shown.{put_all}
 use Rattle.receiver_core.specs.Brought.{frame_entries, frame_reasons, parts_of}
 use Rattle.receiver_core.specs.Told.{told_part}
 use Rattle.receiver_core.specs.Views.{entry_view, unread_view}
 use Rattle.receiver_core.proofs.Steps.{AreShort}
 use Rattle.receiver_core.proofs.hearing.hear_frames.Given as goal
 
--- what is kept and told so far, with the frames that are left, is that of all
+-- what arrived and is told so far, with that of the frames that are left, is that of all
 abbrev pub invariant-loop-frame : goal.invariant-loop-frame
 invariant-loop-frame l = record {
-  kept : put_all (flat_map (frame_entries l.table l.moment) (information_frames l.payload)) (map entry_view l.fn.kept.items)
-      ≡ put_all (flat_map (frame_entries l.table l.moment) l.frame-iterator) (map entry_view l.kept.items);
+  arrived : flat_map (frame_entries l.table l.moment) (information_frames l.payload)
+      ≡ map entry_view l.arrived.items ++ flat_map (frame_entries l.table l.moment) l.frame-iterator;
   told : flat_map (λ frame. map told_part (parts_of frame (frame_reasons l.table l.moment frame))) (information_frames l.payload)
       ≡ map unread_view l.unread.items ++ flat_map (λ frame. map told_part (parts_of frame (frame_reasons l.table l.moment frame))) l.frame-iterator;
   short : AreShort 424 l.frame-iterator;
