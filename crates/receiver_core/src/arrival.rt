@@ -52,7 +52,7 @@ pub(crate) fn arrival_of<'a>(
     let Some(version) = resolve(apdu.form, &apdu.time, moment) else {
         return Err(UnreadReason::Time);
     };
-    if moment.seconds() >= version.seconds().saturating_add(longest) {
+    if moment.seconds() >= version.seconds() + longest {
         return Err(UnreadReason::Stale);
     }
     Ok(Arrival {
