@@ -10,8 +10,7 @@ use Rattle.std.proofs.lemmas.List.Elements.{All-weaker}
 use Rattle.std.specs.List.{list_all, position_or_len}
 use Rattle.std.specs.Str.{chars, IsUtf8, IsAscii}
 use Rattle.dlac_text.specs.Alphabet.{is_in_alphabet, IsDlac}
-use Rattle.dlac_text.specs.Refusal.{first_bad, first_cause, longest_text, text_refusal}
-use Rattle.dlac_text.specs.declared.text_fault.TextFault.TheVariants.{BadCharacter, TooLong}
+use Rattle.dlac_text.specs.Refusal.{bad_character, too_long, first_bad, first_cause, longest_text, text_refusal}
 
 abbrev is_bad : ℕ → Bool
 is_bad character = not (is_in_alphabet character)
@@ -57,11 +56,11 @@ IsDlac-chars text u h = sym (encodes-IsAscii (chars text) (IsDlac-IsAscii (chars
 pub length-chars : (text : List ℕ) → IsUtf8 text → length (chars text) ≤ length text
 length-chars text u = let P : List ℕ → Type 0 = λ t. length (chars text) ≤ length t in subst P (encodes-chars text u) (length-le-encodes (chars text))
 
-pub text_refusal-bad : (text : List ℕ) (place : ℕ) → first_bad text ≡ Some place → text_refusal text ≡ Some (BadCharacter place)
+pub text_refusal-bad : (text : List ℕ) (place : ℕ) → first_bad text ≡ Some place → text_refusal text ≡ Some (bad_character place)
 unfolding text_refusal
 text_refusal-bad text place h = ap (λ bad. first_cause bad (ltb longest_text (length text))) h
 
-pub text_refusal-long : (text : List ℕ) → first_bad text ≡ None → longest_text < length text → text_refusal text ≡ Some TooLong
+pub text_refusal-long : (text : List ℕ) → first_bad text ≡ None → longest_text < length text → text_refusal text ≡ Some too_long
 unfolding text_refusal
 text_refusal-long text h l =
     let long : ltb longest_text (length text) ≡ true = grind (arith, nat_tests) in

@@ -17,18 +17,23 @@ longest_text = 16384
 abbrev pub IsSendable : List ℕ → Type 0
 IsSendable text = IsDlac text × (length text ≤ longest_text)
 
+-- why a text cannot be sent: the character at this place is outside the alphabet, or there are too many
+pub data TextRefusal : Type 0 where
+  bad_character : (place : ℕ) → TextRefusal
+  too_long : TextRefusal
+
 -- the cause by the place of a bad character, if there is one, and by whether the text is too long
-abbrev pub first_cause : Option ℕ → Bool → Option TextFault
-first_cause (Some place) too_long = Some (BadCharacter place)
-first_cause None true = Some TooLong
+abbrev pub first_cause : Option ℕ → Bool → Option TextRefusal
+first_cause (Some place) is_long = Some (bad_character place)
+first_cause None true = Some too_long
 first_cause None false = None
 
 -- why a text is refused, or None where it can be sent
-unfoldable pub text_refusal : List ℕ → Option TextFault
+unfoldable pub text_refusal : List ℕ → Option TextRefusal
 text_refusal text = first_cause (first_bad text) (nat_lt longest_text (length text))
 
 -- what a fault tells of the text: want of memory tells nothing
-abbrev pub told_of_text : TextFault → Option TextFault
-told_of_text (BadCharacter place) = Some (BadCharacter place)
-told_of_text TooLong = Some TooLong
+abbrev pub told_of_text : TextFault → Option TextRefusal
+told_of_text (BadCharacter place) = Some (bad_character place)
+told_of_text TooLong = Some too_long
 told_of_text NoMemory = None

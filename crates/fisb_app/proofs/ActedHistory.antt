@@ -1,8 +1,7 @@
 -- The lines acted on make a history of accepted updates, and hearings of it in time.
 use Rattle.std.proofs.Common.{◌≡◌, ℕ, ◌≤◌, List, [], ◌∷◌, length, Option, Some, None, option_map, refl, arith}
 use Rattle.std.specs.Str.{chars, IsUtf8}
-use Rattle.dlac_text.specs.Refusal.{text_refusal, IsSendable}
-use Rattle.dlac_text.specs.declared.text_fault.TextFault.{TextFault}
+use Rattle.dlac_text.specs.Refusal.{TextRefusal, text_refusal, IsSendable}
 use Rattle.life_table.specs.LifeTable.{LifeTable}
 use Rattle.fisb_broadcast.specs.Item.{Item}
 use Rattle.fisb_broadcast.specs.Station.{FitsStation}
@@ -59,9 +58,9 @@ acted-line laws setting past line (bytes, is) =
     record { size = length bytes; ranges = laws.ranges bytes line was.form; unopposed = unopposed setting past line was.refusal }
 
 -- a text that is not refused has no fault of its own
-refusal-none : (fault : Option TextFault) (later : Option GiveFault) → text_fault_refusal fault later ≡ None → fault ≡ None
+refusal-none : (cause : Option TextRefusal) (later : Option GiveFault) → text_fault_refusal cause later ≡ None → cause ≡ None
 refusal-none None later e = refl
-refusal-none (Some fault) later e = cc
+refusal-none (Some cause) later e = cc
 
 text-none : (table : LifeTable) (before : List Item) (moment version : ℕ) (chars_of : List ℕ) → give_refusal table before moment version chars_of ≡ None → text_refusal (chars chars_of) ≡ None
 unfolding give_refusal

@@ -1,6 +1,6 @@
 -- Small scenes, computed by the definitions alone: they show what the definitions say where several updates, frames and
 -- segments meet, which is in part more than the lines that are built can give, and what they say of whole scripts.
-use Rattle.std.proofs.Common.{◌≡◌, ℕ, true, false, List, [], ◌∷◌, ◌++◌, map, Some, None, Ok, Err, refl, codes, replicate}
+use Rattle.std.proofs.Common.{◌≡◌, ℕ, true, false, List, [], ◌∷◌, ◌++◌, map, Some, refl, codes, replicate}
 use Rattle.std.specs.Fmt.{digits}
 use Rattle.std.specs.Str.{is_utf8, chars}
 use Rattle.std.specs.Char.{encode_utf8}
@@ -8,9 +8,9 @@ use Rattle.dlac_text.specs.Payload.{text_payload}
 use Rattle.uplink_frame.specs.UplinkFrame.{payload_of}
 use Rattle.life_table.specs.LifeTable.{default_table}
 use Rattle.text_reports.specs.TextKey.{text_key}
-use Rattle.fisb_broadcast.specs.Ground.{Frame, used, frame_payload}
+use Rattle.fisb_broadcast.specs.Ground.{used, frame_payload}
 use Rattle.fisb_broadcast.specs.Station.{no_station, header_of}
-use Rattle.script_core.specs.Script.{Line, text, turn, hear, show}
+use Rattle.script_core.specs.Script.{Line, text, turn, hear}
 use Rattle.fisb_broadcast.specs.Update.{give_refusal}
 use Rattle.dlac_text.specs.Refusal.{text_refusal}
 use Rattle.fisb_app.specs.declared.party.Party.TheVariants.{Link, Ground}

@@ -2,8 +2,8 @@
 use Rattle.std.specs.Prelude.{ℕ, ◌+◌, Bool, true, false, ◌&&◌, not, nat_lt, if◌then◌else◌, List, length, Option, Some, None, option_map, Result, Ok, Err, slice_get}
 use Rattle.std.specs.Option.{option_or}
 use Rattle.std.specs.List.{list_all}
-use Rattle.dlac_text.specs.declared.text_fault.TextFault.{TextFault}
-use Rattle.dlac_text.specs.declared.text_fault.TextFault.TheVariants.{BadCharacter, TooLong, NoMemory}
+use Rattle.dlac_text.specs.Refusal.{TextRefusal}
+use Rattle.dlac_text.specs.Refusal as sent
 use Rattle.life_table.specs.LifeTable.{LifeTable}
 use Rattle.text_reports.specs.TextKey.{KeyFault, few_words, unlisted}
 use Rattle.fisb_broadcast.specs.Ground.{Frame, items}
@@ -62,11 +62,10 @@ abbrev pub hear_refusal : ℕ → ℕ → Option Frame → Option Reason
 hear_refusal allowed moment None = Some no_frame
 hear_refusal allowed moment (Some frame) = if nat_lt (frame.moment + allowed) moment then Some late else None
 
--- the reason of a refused update. Want of memory is no property of a text, and `text_refusal` never names it
-abbrev pub reason_of_text : TextFault → Reason
-reason_of_text (BadCharacter place) = bad_character place
-reason_of_text TooLong = text_long
-reason_of_text NoMemory = text_long
+-- the reason of a refused update
+abbrev pub reason_of_text : TextRefusal → Reason
+reason_of_text (sent.bad_character place) = bad_character place
+reason_of_text sent.too_long = text_long
 
 abbrev pub reason_of_key : KeyFault → Reason
 reason_of_key few_words = words_wanting

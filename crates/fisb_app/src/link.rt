@@ -7,8 +7,8 @@ ghost use Rattle.receiver_core.specs.Brought.{brought};
 ghost use Rattle.std.specs.Option.{option_or};
 ghost use Rattle.script_core.specs.Script.{Line as ScriptLine, station, text, turn, hear, show};
 ghost use Rattle.script_core.specs.LineView.{line_view, HasRanges};
-ghost use Rattle.fisb_broadcast.specs.Update.{GiveFault as GiftFault, bad_text};
-ghost use Rattle.ground_core.specs.Refusal.{IsTold, kept_told};
+ghost use Rattle.fisb_broadcast.specs.Update.{GiveFault as GiftFault};
+ghost use Rattle.ground_core.specs.Refusal.{IsTold, IsToldOfText, kept_told};
 ghost use Rattle.fisb_app.specs.Script.{Setting, not_here};
 ghost use Rattle.fisb_app.specs.Past.{moment_of};
 ghost use Rattle.fisb_app.specs.Reading.{party_refusal, is_heard_or_shown, is_unbuilt, is_station, is_empty};
@@ -384,7 +384,7 @@ fn stop_of(fault: GiveFault) -> Stop
 
 /// Why a text cannot be sent.
 fn stop_of_text(fault: TextFault) -> Stop
-    ensures { TellsRefusal (Some (bad_text fault)) result }
+    ensures { (refusal : Option GiftFault) → IsToldOfText refusal fault → TellsRefusal refusal result }
 {
     match fault {
         TextFault::BadCharacter { place } => Stop::Refused(Reason::BadCharacter { place }),

@@ -3,9 +3,8 @@ use Rattle.std.proofs.Common.{◌≡◌, ℕ, ◌+◌, ◌<◌, ◌≤◌, Bool,
 use Rattle.std.proofs.lemmas.Bool.{ltb-false, leb-false, not-false}
 use Rattle.fisb_time.specs.Moment.{IsMoment}
 use Rattle.fisb_time.specs.TimeForm.{shows}
-use Rattle.dlac_text.specs.declared.text_fault.TextFault.{TextFault}
 use Rattle.dlac_text.specs.Payload.{text_payload}
-use Rattle.dlac_text.specs.Refusal.{IsSendable, text_refusal}
+use Rattle.dlac_text.specs.Refusal.{TextRefusal, IsSendable, text_refusal}
 use Rattle.std.specs.Str.{chars}
 use Rattle.life_table.specs.LifeTable.{LifeTable, TextRow, text_row, greatest_of}
 use Rattle.text_reports.specs.TextKey.{TextKey, KeyFault, text_key}
@@ -47,9 +46,9 @@ pub record IsText (table : LifeTable) (moment : ℕ) (g : Gift) : Type 0 where
   pub lead : g.version ≤ moment + 60
 
 -- what is not refused passed each test
-not_refused_by_text : (fault : Option TextFault) (later : Option GiveFault) → text_fault_refusal fault later ≡ None → later ≡ None
+not_refused_by_text : (cause : Option TextRefusal) (later : Option GiveFault) → text_fault_refusal cause later ≡ None → later ≡ None
 not_refused_by_text None later e = e
-not_refused_by_text (Some fault) later e = absurd (cc)
+not_refused_by_text (Some cause) later e = absurd (cc)
 
 not_refused_by_key : (table : LifeTable) (before : List Item) (moment version : ℕ) (text : List ℕ) (found : Result TextKey KeyFault)
     → key_refusal table before moment version text found ≡ None

@@ -6,7 +6,6 @@ use Rattle.std.proofs.lemmas.Bool.{cases_Bool, and_parts, and_from, ltb-false}
 use Rattle.std.proofs.lemmas.Bool.Decides.{nat_tests}
 use Rattle.std.proofs.lemmas.Str.{chars_from_encodes}
 use Rattle.std.proofs.lemmas.Str.Ascii.{IsAscii-nil, IsAscii-cons, encodes-IsAscii}
-use Rattle.dlac_text.specs.declared.text_fault.TextFault.{TextFault}
 use Rattle.dlac_text.specs.Alphabet.{is_in_alphabet}
 use Rattle.life_table.specs.LifeTable.{LifeTable}
 use Rattle.text_reports.specs.TextKey.{text_key}
@@ -14,7 +13,7 @@ use Rattle.fisb_broadcast.specs.Item.{Item}
 use Rattle.fisb_broadcast.specs.Ground.{items}
 use Rattle.fisb_broadcast.specs.Update.{GiveFault, give_refusal, text_fault_refusal, key_refusal}
 use Rattle.fisb_broadcast.specs.LongerHistories.{AcceptedIsEvent}
-use Rattle.dlac_text.specs.Refusal.{IsSendable, first_bad, first_cause, longest_text, text_refusal}
+use Rattle.dlac_text.specs.Refusal.{TextRefusal, IsSendable, first_bad, first_cause, longest_text, text_refusal}
 
 -- no character fails exactly where all pass
 all_from_prefix : (test : ℕ → Bool) (text : List ℕ) → length text ≤ prefix_len (λ c. not (not (test c))) text → list_all test text ≡ true
@@ -69,9 +68,9 @@ sendable-accepted text utf8 e =
     let known = no_refusal (chars text) e in
     subst IsSendable (same_chars text utf8 (text-ascii (chars text) known.0)) known
 
-no_fault : (fault : Option TextFault) (later : Option GiveFault) → text_fault_refusal fault later ≡ None → fault ≡ None
+no_fault : (cause : Option TextRefusal) (later : Option GiveFault) → text_fault_refusal cause later ≡ None → cause ≡ None
 no_fault None later e = refl
-no_fault (Some fault) later e = absurd (cc)
+no_fault (Some cause) later e = absurd (cc)
 
 not_refused : (table : LifeTable) (before : List Item) (moment version : ℕ) (text : List ℕ) → give_refusal table before moment version text ≡ None
     → text_refusal (chars text) ≡ None

@@ -2,9 +2,8 @@
 use Rattle.std.specs.Prelude.{ℕ, ◌+◌, not, nat_lt, nat_le, if◌then◌else◌, List, [], ◌∷◌, length, map, filter, Option, Some, None, Result, Ok, Err}
 use Rattle.std.specs.Str.{chars}
 use Rattle.fisb_time.specs.TimeForm.{shows}
-use Rattle.dlac_text.specs.declared.text_fault.TextFault.{TextFault}
 use Rattle.dlac_text.specs.Payload.{text_payload}
-use Rattle.dlac_text.specs.Refusal.{text_refusal}
+use Rattle.dlac_text.specs.Refusal.{TextRefusal, text_refusal}
 use Rattle.life_table.specs.LifeTable.{LifeTable, TextRow, text_row, greatest_of}
 use Rattle.text_reports.specs.TextKey.{TextKey, KeyFault, unlisted, text_key}
 use Rattle.fisb_broadcast.specs.Entry.{Entry, Key, text_report}
@@ -26,7 +25,7 @@ gifts_of table version text = gift_by_key table version text (text_key table tex
 
 -- why an update is refused
 pub data GiveFault : Type 0 where
-  bad_text : (fault : TextFault) → GiveFault
+  bad_text : (cause : TextRefusal) → GiveFault
   no_key : (fault : KeyFault) → GiveFault
   coarse : GiveFault
   ahead : GiveFault
@@ -62,8 +61,8 @@ abbrev pub key_refusal : LifeTable → List Item → ℕ → ℕ → List ℕ �
 key_refusal table before moment version text (Err fault) = Some (no_key fault)
 key_refusal table before moment version text (Ok key) = row_refusal before moment version text key (text_row table key.kind)
 
-abbrev pub text_fault_refusal : Option TextFault → Option GiveFault → Option GiveFault
-text_fault_refusal (Some fault) later = Some (bad_text fault)
+abbrev pub text_fault_refusal : Option TextRefusal → Option GiveFault → Option GiveFault
+text_fault_refusal (Some cause) later = Some (bad_text cause)
 text_fault_refusal None later = later
 
 -- the first reason against a text of this version at this moment, behind the items that were given before

@@ -5,9 +5,8 @@ use Rattle.std.specs.List.{list_any, range_with_len}
 use Rattle.std.specs.Str.{chars}
 use Rattle.fisb_time.specs.TimeForm.{shows}
 use Rattle.fisb_time.specs.Moment.{IsMoment}
-use Rattle.dlac_text.specs.declared.text_fault.TextFault.{TextFault}
 use Rattle.dlac_text.specs.Payload.{text_payload}
-use Rattle.dlac_text.specs.Refusal.{text_refusal, IsSendable}
+use Rattle.dlac_text.specs.Refusal.{TextRefusal, text_refusal, IsSendable}
 use Rattle.life_table.specs.LifeTable.{LifeTable, TextRow, text_row}
 use Rattle.text_reports.specs.TextKey.{TextKey, KeyFault, text_key, same_text_key}
 use Rattle.fisb_broadcast.specs.Entry.{text_report, report, same_key}
@@ -88,9 +87,9 @@ given_by_key : (table : LifeTable) (before : List Item) (moment version : ℕ) (
 given_by_key table before moment version text (Err fault) ek h = absurd (cc)
 given_by_key table before moment version text (Ok key) ek h = given_by_listed table before moment version text key (text_row table key.kind) ek refl h
 
-given_by_text : (table : LifeTable) (before : List Item) (moment version : ℕ) (text : List ℕ) (fault : Option TextFault)
-    → text_fault_refusal fault (key_refusal table before moment version text (text_key table text)) ≡ None → Given table before moment version text
-given_by_text table before moment version text (Some fault) h = absurd (cc)
+given_by_text : (table : LifeTable) (before : List Item) (moment version : ℕ) (text : List ℕ) (cause : Option TextRefusal)
+    → text_fault_refusal cause (key_refusal table before moment version text (text_key table text)) ≡ None → Given table before moment version text
+given_by_text table before moment version text (Some cause) h = absurd (cc)
 given_by_text table before moment version text None h = given_by_key table before moment version text (text_key table text) refl h
 
 pub given : (table : LifeTable) (before : List Item) (moment version : ℕ) (text : List ℕ)

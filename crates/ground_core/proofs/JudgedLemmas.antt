@@ -3,8 +3,7 @@ use Rattle.std.proofs.Common.{◌≡◌, ℕ, ◌≤◌, List, Option, Some, Non
 use Rattle.std.specs.Str.{chars}
 use Rattle.fisb_time.specs.declared.form.TimeForm.{TimeForm}
 use Rattle.fisb_time.specs.declared.form.TimeForm.TheVariants.{Minute, Second, DayMinute, DaySecond}
-use Rattle.dlac_text.specs.declared.text_fault.TextFault.{TextFault}
-use Rattle.dlac_text.specs.Refusal.{text_refusal}
+use Rattle.dlac_text.specs.Refusal.{TextRefusal, text_refusal}
 use Rattle.life_table.specs.LifeTable.{LifeTable, TextRow, text_row}
 use Rattle.life_table.specs.Rules.{IsTable, IsWithinForm}
 use Rattle.text_reports.specs.TextKey.{TextKey, text_key}
@@ -24,7 +23,7 @@ pub life_within : (table : LifeTable) (word : List ℕ) (row : TextRow) → IsTa
 life_within table word row h e = life_by_form table.late row.form row.life (h.texts word row e).within
 
 -- a text that can be sent is refused for what follows
-pub told_behind : (refusal : Option TextFault) (later : Option GiveFault) (fault : Told) → refusal ≡ None → IsTold later fault → IsTold (text_fault_refusal refusal later) fault
+pub told_behind : (refusal : Option TextRefusal) (later : Option GiveFault) (fault : Told) → refusal ≡ None → IsTold later fault → IsTold (text_fault_refusal refusal later) fault
 told_behind None later fault e h = h
 told_behind (Some bad) later fault e h = absurd (cc)
 

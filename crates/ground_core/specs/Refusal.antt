@@ -1,7 +1,9 @@
 -- Which fault a refusal is told by.
 use Rattle.std.specs.Prelude.{◌≡◌, ℕ, nat_lt, if◌then◌else◌, List, [], ◌∷◌, Option, Some, None, Result, Ok, Err, ⊤}
 use Rattle.std.specs.Str.{chars}
-use Rattle.dlac_text.specs.Refusal.{text_refusal}
+use Rattle.dlac_text.specs.declared.text_fault.TextFault.{TextFault}
+use Rattle.dlac_text.specs.declared.text_fault.TextFault.TheVariants.{BadCharacter, TooLong, NoMemory as NoMemoryForText}
+use Rattle.dlac_text.specs.Refusal.{bad_character, too_long, text_refusal}
 use Rattle.life_table.specs.LifeTable.{LifeTable, TextRow, text_row}
 use Rattle.text_reports.specs.TextKey.{TextKey, KeyFault, few_words, unlisted, text_key}
 use Rattle.fisb_broadcast.specs.Update.{GiveFault, bad_text, no_key, coarse, ahead, expired, not_newer, not_whole, text_fault_refusal, version_refusal, size_refusal}
@@ -37,10 +39,16 @@ abbrev pub early : Option ℕ → ℕ → Option ℕ
 early None moment = None
 early (Some last) moment = if nat_lt moment last then Some last else None
 
+-- the fault is the one of this refusal, by its text; want of memory is told as the fault of the call
+abbrev pub IsToldOfText : Option GiveFault → TextFault → Type 0
+IsToldOfText refusal (BadCharacter place) = refusal ≡ Some (bad_text (bad_character place))
+IsToldOfText refusal TooLong = refusal ≡ Some (bad_text too_long)
+IsToldOfText refusal NoMemoryForText = ⊥
+
 -- the fault is the one of this refusal; want of memory may come at any
 abbrev pub IsTold : Option GiveFault → Told → Type 0
 IsTold refusal (Clock kept) = ⊥
-IsTold refusal (BadText fault) = refusal ≡ Some (bad_text fault)
+IsTold refusal (BadText fault) = IsToldOfText refusal fault
 IsTold refusal FewWords = refusal ≡ Some (no_key few_words)
 IsTold refusal Unlisted = refusal ≡ Some (no_key unlisted)
 IsTold refusal Coarse = refusal ≡ Some coarse
