@@ -3,7 +3,7 @@ use Rattle.std.proofs.Common.{◌≡◌, ℕ, Bool, List, [], ◌∷◌, ◌++�
 use Rattle.life_table.specs.LifeTable.{LifeTable, default_table}
 use Rattle.life_table.specs.Rules.{IsTable}
 use Rattle.life_table.specs.TableIn.{table_in}
-use Rattle.life_table.specs.declared.fault.TableFault.{TableFault}
+use Rattle.life_table.specs.Fault.{Fault as TableFault}
 use Rattle.script_core.specs.Script.{Line, empty, station, text, turn, hear, show, unbuilt}
 use Rattle.fisb_app.specs.declared.party.Party.{Party}
 use Rattle.fisb_app.specs.Script.{Setting, Reason}

@@ -1,12 +1,9 @@
 -- From how an input starts to the first fault and to what its lines give.
-use Rattle.std.proofs.Common.{◌≡◌, ◌≢◌, ℕ, Bool, List, [], length, take, Option, Some, None, Result, Err, refl, sym, ap, subst, ◌∙◌}
+use Rattle.std.proofs.Common.{◌≡◌, ℕ, Bool, List, [], length, take, Option, Some, None, Result, Err, refl, sym, ap, subst, ◌∙◌}
 use Rattle.std.specs.Io.KnownBytes.{Appends}
 use Rattle.std.proofs.KnownBytes.{Appends-nil}
 use Rattle.life_table.specs.LifeTable.{LifeTable}
-use Rattle.life_table.specs.declared.fault.RowFault.{RowFault}
-use Rattle.life_table.specs.declared.fault.TableFault.{TableFault}
-use Rattle.life_table.specs.declared.fault.TableFault.TheVariants.{NotToml, BadRow}
-use Rattle.life_table.specs.declared.fault.TableFault.TheVariants as faults
+use Rattle.life_table.specs.Fault.{Fault as TableFault}
 use Rattle.fisb_app.specs.declared.party.Party.{Party}
 use Rattle.fisb_app.specs.declared.started.Started.{Started}
 use Rattle.fisb_app.specs.declared.status.Status.{Status}
@@ -29,13 +26,6 @@ start-opened party ended text o read is table = ap (start_at party ended text) i
 pub start-unopened : (party : Party) (ended : Bool) (text : List ℕ) → opening_at 0 1 (lines_in ended text) ≡ None → start party ended text ≡ Err (unopened ended (length text))
 unfolding start
 start-unopened party ended text is = ap (start_at party ended text) is
-
--- no fault of a document is want of memory
-pub not_toml-memory : NotToml ≢ faults.NoMemory
-not_toml-memory e = cc
-
-pub bad_row-memory : (row : ℕ) (why : RowFault) → BadRow row why ≢ faults.NoMemory
-bad_row-memory row why e = cc
 
 -- the table of the bytes before the end of a table
 pub opened-table : (text : List ℕ) (size : ℕ) (found : List ℕ) (read : Result LifeTable TableFault) → found ≡ take size text → opening_table found ≡ read → opening_table (take size text) ≡ read

@@ -4,8 +4,7 @@ use Rattle.std.specs.List.{slice_split}
 use Rattle.std.specs.Str.{bytes_eq}
 use Rattle.life_table.specs.LifeTable.{LifeTable, default_table}
 use Rattle.life_table.specs.TableIn.{table_in}
-use Rattle.life_table.specs.declared.fault.TableFault.{TableFault}
-use Rattle.life_table.specs.declared.fault.TableFault.TheVariants.{NotToml, BadRow, NoMemory}
+use Rattle.life_table.specs.Fault as table_fault
 use Rattle.fisb_app.specs.declared.party.Party.{Party}
 use Rattle.fisb_app.specs.Script.{Reason, table_long, no_table, not_toml, bad_row, Fault, Setting}
 
@@ -54,15 +53,13 @@ opening_at place number (line ∷ later) = if nat_lt table_limit place then None
     else opening_at (place + (length line + 1)) (number + 1) later)
 
 -- no bytes stand for the default table
-abbrev pub opening_table : List ℕ → Result LifeTable TableFault
+abbrev pub opening_table : List ℕ → Result LifeTable table_fault.Fault
 opening_table [] = Ok default_table
 opening_table (b ∷ bytes) = table_in (b ∷ bytes)
 
--- Want of memory is no property of a text, and no definition names it
-abbrev pub reason_of_table : TableFault → Reason
-reason_of_table NotToml = not_toml
-reason_of_table (BadRow row why) = bad_row row why
-reason_of_table NoMemory = not_toml
+abbrev pub reason_of_table : table_fault.Fault → Reason
+reason_of_table table_fault.not_toml = not_toml
+reason_of_table (table_fault.bad_row row why) = bad_row row why
 
 -- the lines to act on, from this number on, and the setting in which they are; or the fault, if there is one, that keeps from it
 pub record Start : Type 0 where
@@ -70,7 +67,7 @@ pub record Start : Type 0 where
   pub number : ℕ
   pub lines : List (List ℕ)
 
-abbrev pub start_with : Party → Opening → Result LifeTable TableFault → Result Start (Option Fault)
+abbrev pub start_with : Party → Opening → Result LifeTable table_fault.Fault → Result Start (Option Fault)
 start_with party o (Ok table) = Ok (record { setting = record { party = party; table = table }; number = o.number + 1; lines = o.later })
 start_with party o (Err fault) = Err (Some (record { line = o.number; reason = reason_of_table fault }))
 

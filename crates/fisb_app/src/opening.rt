@@ -1,5 +1,6 @@
 //! How an input opens: a life table, and a line `---` behind it.
-ghost use Rattle.std.specs.Prelude.{◌≡◌, ◌≢◌, ◌+◌, ◌≤◌, List, ℕ, Option, Some, None, Ok, Err, length, take, IfOk, IfErr, MatchOption};
+ghost use Rattle.std.specs.Prelude.{◌≡◌, ◌+◌, ◌≤◌, List, ℕ, Option, Some, None, Ok, Err, length, take, IfOk, IfErr, MatchOption};
+ghost use Rattle.life_table.specs.Views.{IsFault};
 ghost use Rattle.fisb_app.specs.declared.party.Party.{Party};
 ghost use Rattle.fisb_app.specs.Opening.{is_table_end, opening_table, opening_at, unopened, start, lines_in, part_line};
 ghost use Rattle.fisb_app.specs.Started.{IsStarted, IsUnstarted, IsOpening, TellsUnopened};
@@ -98,7 +99,7 @@ fn unopened(length: usize, ended: bool) -> Unstarted
 /// The table of some bytes: no bytes stand for the default one.
 fn table_in(alloc: Global, bytes: &[u8]) -> Result<LifeTable, TableFault>
     ensures table { IfOk result (λ table. opening_table bytes.now ≡ Ok table) }
-    ensures fault { IfErr result (λ fault. fault ≢ TableFault.NoMemory → opening_table bytes.now ≡ Err fault) }
+    ensures fault { IfErr result (λ fault. IsFault fault (opening_table bytes.now)) }
 {
     if !bytes.is_empty() {
         return LifeTable::read(alloc, bytes);

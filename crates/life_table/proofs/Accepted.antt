@@ -15,7 +15,7 @@ use Rattle.life_table.specs.Document.{or_fault, member_count, integer_at, text_a
 use Rattle.life_table.specs.RowsOf.{followed, numbered, own_row, own_text, alike_row, alike_text, text_entry, radar_entry, text_rows, radar_rows}
 use Rattle.life_table.specs.declared.fault.RowFault.{RowFault}
 use Rattle.life_table.specs.declared.fault.RowFault.TheVariants.{Shape, Word, Twice, As, Words, Form, Life, Product}
-use Rattle.life_table.specs.declared.fault.TableFault.{TableFault}
+use Rattle.life_table.specs.Fault.{Fault}
 use Rattle.life_table.proofs.Behind.{AllBehind, AllBehind-nil, AllBehind-push, each_placed}
 use Rattle.life_table.proofs.Finding.{found_word, found_each}
 use Rattle.life_table.proofs.Ruled.{IsSound, IsNew, IsNewRadar, table_keeps}
@@ -29,7 +29,7 @@ pub had : {A B : Type 0} (e : RowFault) (o : Option A) (go : A → Result B RowF
 had e None go y h = absurd (cc)
 had e (Some x) go y h = (x, refl, h)
 
-pub went_on : {A B : Type 0} (o : Result A TableFault) (go : A → Result B TableFault) (y : B) → followed go o ≡ Ok y → (x : A) × (o ≡ Ok x) × (go x ≡ Ok y)
+pub went_on : {A B : Type 0} (o : Result A Fault) (go : A → Result B Fault) (y : B) → followed go o ≡ Ok y → (x : A) × (o ≡ Ok x) × (go x ≡ Ok y)
 went_on (Ok x) go y h = (x, refl, h)
 went_on (Err e) go y h = absurd (cc)
 

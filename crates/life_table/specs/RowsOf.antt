@@ -6,8 +6,7 @@ use Rattle.life_table.specs.LifeTable.{TextRow, RadarRow, row, radar}
 use Rattle.life_table.specs.Document.{or_fault, member_count, integer_at, text_at, is_word, key_words, form_of, radar_product, life_in}
 use Rattle.life_table.specs.declared.fault.RowFault.{RowFault}
 use Rattle.life_table.specs.declared.fault.RowFault.TheVariants.{Shape, Word, Twice, As, Words, Form, Life, Product}
-use Rattle.life_table.specs.declared.fault.TableFault.{TableFault}
-use Rattle.life_table.specs.declared.fault.TableFault.TheVariants.{BadRow}
+use Rattle.life_table.specs.Fault.{Fault, bad_row}
 
 -- an answer, its value seen by a function
 abbrev pub mapped : {A B E : Type 0} → (A → B) → Result A E → Result B E
@@ -20,9 +19,9 @@ followed go (Ok x) = go x
 followed go (Err e) = Err e
 
 -- a fault of a row, with the row's number
-abbrev pub numbered : {A : Type 0} → ℕ → Result A RowFault → Result A TableFault
+abbrev pub numbered : {A : Type 0} → ℕ → Result A RowFault → Result A Fault
 numbered number (Ok x) = Ok x
-numbered number (Err reason) = Err (BadRow number reason)
+numbered number (Err reason) = Err (bad_row number reason)
 
 abbrev pub own_row : ℕ → List TextRow → List ℕ → ℤ → ℤ → ℤ → Result TextRow RowFault
 own_row late rows word words life form =
@@ -67,11 +66,11 @@ radar_entry late rows value =
     or_fault Shape (integer_at (codes "form") value) (λ form. radar_row_of late rows product life form)))
 
 -- the rows of reports, behind those that are read; the document is row 0
-abbrev pub text_rows : ℕ → List TextRow → Items → Result (List TextRow) TableFault
+abbrev pub text_rows : ℕ → List TextRow → Items → Result (List TextRow) Fault
 text_rows late rows no_items = Ok rows
 text_rows late rows (item value more) = followed (λ r. text_rows late (rows ++ r ∷ []) more) (numbered (length rows + 1) (text_entry late rows value))
 
 -- the rows of radar, behind so many rows of reports
-abbrev pub radar_rows : ℕ → ℕ → List RadarRow → Items → Result (List RadarRow) TableFault
+abbrev pub radar_rows : ℕ → ℕ → List RadarRow → Items → Result (List RadarRow) Fault
 radar_rows late before rows no_items = Ok rows
 radar_rows late before rows (item value more) = followed (λ r. radar_rows late before (rows ++ r ∷ []) more) (numbered (before + length rows + 1) (radar_entry late rows value))

@@ -18,7 +18,7 @@ IsWithinForm late DaySecond life = life ≤ 2592000
 abbrev pub own : TextRow → TextRow
 own r = row r.kind r.kind r.words r.life r.form
 
--- a row of reports: it is the row that its word finds, so that no type stands twice, and the type that it names finds its own
+-- a row of reports: its word finds it, so that no type stands twice, and the type that it names finds the row that it is kept as
 pub record IsTextRow (table : LifeTable) (row : TextRow) : Type 0 where
   pub word : IsTrue (is_word row.word)
   pub kind : IsTrue (is_word row.kind)
@@ -28,7 +28,7 @@ pub record IsTextRow (table : LifeTable) (row : TextRow) : Type 0 where
   pub found : text_row table row.word ≡ Some row
   pub named : text_row table row.kind ≡ Some (own row)
 
--- a row of radar: it is the row that its product finds, so that no product stands twice
+-- a row of radar: its product finds it, so that no product stands twice
 pub record IsRadarRow (table : LifeTable) (row : RadarRow) : Type 0 where
   pub product : (row.product ≡ 63) ⊎ (row.product ≡ 64)
   pub lives : 1 ≤ row.life
@@ -43,6 +43,6 @@ pub record IsTable (table : LifeTable) : Type 0 where
   pub all_radars : All (IsRadarRow table) table.radars
   -- a row with `as` stands behind the row without `as` that it is kept as
   pub earlier : (before after : List TextRow) (row : TextRow) → table.texts ≡ before ++ row ∷ after → (row.kind ≡ row.word) ⊎ Contains before (own row)
-  -- so do the rows that a look-up finds keep the rules
+  -- the rows that a look-up finds keep the rules too
   pub texts : (word : List ℕ) (row : TextRow) → text_row table word ≡ Some row → IsTextRow table row
   pub radars : (product : ℕ) (row : RadarRow) → radar_row table product ≡ Some row → IsRadarRow table row

@@ -1,9 +1,9 @@
 //! The table that a document writes.
-ghost use Rattle.std.specs.Prelude.{◌≡◌, ◌≢◌, ◌≤◌, Ok, Err, IfOk, IfErr, option_map, option_and_then, [], map, length};
+ghost use Rattle.std.specs.Prelude.{◌≡◌, ◌≢◌, ◌≤◌, Ok, IfOk, IfErr, option_map, option_and_then, [], map, length};
 ghost use Rattle.toml.specs.Data.{as_array};
 ghost use Rattle.toml.specs.View.{view, items_view};
 ghost use Rattle.std.specs.List.{list_all};
-ghost use Rattle.life_table.specs.Views.{text_view, radar_view, head_view};
+ghost use Rattle.life_table.specs.Views.{text_view, radar_view, head_view, IsFault};
 ghost use Rattle.life_table.specs.Document as document;
 ghost use Rattle.life_table.specs.RowsOf as rows_of;
 ghost use Rattle.life_table.specs.TableIn as table_in;
@@ -38,7 +38,7 @@ impl LifeTable {
     /// memory runs out.
     pub fn read(alloc: Global, text: &[u8]) -> Result<LifeTable, TableFault>
         ensures table { IfOk result (λ table. table_in.table_in text.now ≡ Ok table) }
-        ensures fault { IfErr result (λ fault. fault ≢ TableFault.NoMemory → table_in.table_in text.now ≡ Err fault) }
+        ensures fault { IfErr result (λ fault. IsFault fault (table_in.table_in text.now)) }
     {
         match toml::table_from_slice(alloc, text) {
             Ok(tree) => table_of_tree(alloc, &Value::Table(tree)),
@@ -55,7 +55,7 @@ impl LifeTable {
 /// The table of a document's tree, or its first faulty row.
 fn table_of_tree(alloc: Global, tree: &Value) -> Result<LifeTable, TableFault>
     ensures table { IfOk result (λ table. table_in.table_of_tree (view tree.now) ≡ Ok table) }
-    ensures fault { IfErr result (λ fault. fault ≢ TableFault.NoMemory → table_in.table_of_tree (view tree.now) ≡ Err fault) }
+    ensures fault { IfErr result (λ fault. fault ≢ TableFault.NoMemory → IsFault fault (table_in.table_of_tree (view tree.now))) }
 {
     let head = match head_of(tree) {
         Ok(head) => head,
@@ -159,7 +159,7 @@ fn text_rows(alloc: Global, late: u64, rows: &[Value]) -> Result<Vec<KeptText>, 
     requires few_rows { length rows.now ≤ 64 }
     ensures few { IfOk result (λ texts. length texts.items ≤ 64) }
     ensures rows { IfOk result (λ texts. rows_of.text_rows late [] (items_view rows.now) ≡ Ok (map text_view texts.items)) }
-    ensures fault { IfErr result (λ fault. fault ≢ TableFault.NoMemory → rows_of.text_rows late [] (items_view rows.now) ≡ Err fault) }
+    ensures fault { IfErr result (λ fault. fault ≢ TableFault.NoMemory → IsFault fault (rows_of.text_rows late [] (items_view rows.now))) }
 {
     let mut texts = Vec::with_capacity(alloc, rows.len()).map_err(|_| TableFault::NoMemory)?;
     let mut rest = rows;
@@ -192,7 +192,7 @@ fn radar_rows(
     requires few_rows { length rows.now ≤ 2 }
     ensures few { IfOk result (λ radars. length radars.items ≤ 2) }
     ensures rows { IfOk result (λ radars. rows_of.radar_rows late before [] (items_view rows.now) ≡ Ok (map radar_view radars.items)) }
-    ensures fault { IfErr result (λ fault. fault ≢ TableFault.NoMemory → rows_of.radar_rows late before [] (items_view rows.now) ≡ Err fault) }
+    ensures fault { IfErr result (λ fault. fault ≢ TableFault.NoMemory → IsFault fault (rows_of.radar_rows late before [] (items_view rows.now))) }
 {
     let mut radars = Vec::with_capacity(alloc, rows.len()).map_err(|_| TableFault::NoMemory)?;
     let mut rest = rows;

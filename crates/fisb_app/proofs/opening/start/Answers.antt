@@ -1,5 +1,5 @@
 use Rattle.fisb_app.specs.Opening.{unopened}
-use Rattle.fisb_app.proofs.ScriptStart.{start-opened, start-unopened, tells-unstarted, opened-table, not_toml-memory, bad_row-memory}
+use Rattle.fisb_app.proofs.ScriptStart.{start-opened, start-unopened, tells-unstarted, opened-table}
 use Rattle.fisb_app.proofs.opening.start.Goals as goal
 
 pub returns-in_default-clause-unstarted : goal.returns-in_default-clause-unstarted
@@ -14,8 +14,8 @@ returns-in-Ok-clause-started c = λ party. let o = c.in-Some.ensures in record {
 
 pub returns-in-Err-NotToml-clause-unstarted : goal.returns-in-Err-NotToml-clause-unstarted
 returns-in-Err-NotToml-clause-unstarted c = λ party. let o = c.in-Some.ensures in
-    start-opened party c.args.ended c.args.text.now _ _ o.opened (opened-table c.args.text.now o.size _ _ o.table (let fault = rw c.in-Err-NotToml.field-0-is at c.in-Err-NotToml.ensures.fault in fault not_toml-memory))
+    start-opened party c.args.ended c.args.text.now _ _ o.opened (opened-table c.args.text.now o.size _ _ o.table (rw c.in-Err-NotToml.field-0-is at c.in-Err-NotToml.ensures.fault))
 
 pub returns-in-Err-BadRow-clause-unstarted : goal.returns-in-Err-BadRow-clause-unstarted
 returns-in-Err-BadRow-clause-unstarted c = λ party. let o = c.in-Some.ensures in
-    start-opened party c.args.ended c.args.text.now _ _ o.opened (opened-table c.args.text.now o.size _ _ o.table (let fault = rw c.in-Err-BadRow.field-0-is at c.in-Err-BadRow.ensures.fault in fault (bad_row-memory c.in-Err-BadRow.row c.in-Err-BadRow.reason)))
+    start-opened party c.args.ended c.args.text.now _ _ o.opened (opened-table c.args.text.now o.size _ _ o.table (rw c.in-Err-BadRow.field-0-is at c.in-Err-BadRow.ensures.fault))
