@@ -1,19 +1,9 @@
 -- Keys are compared by what they are.
 use Rattle.std.proofs.Common.{◌≡◌, ℕ, Bool, true, false, ◌&&◌, List, Option, Some, None, refl, ap, sym, ◌∙◌, subst}
 use Rattle.std.specs.Str.{bytes_eq}
+use Rattle.std.proofs.lemmas.Bool.{and_parts, and_from}
 use Rattle.std.proofs.lemmas.Slice.Eq.{bytes_eq-Decides}
 use Rattle.text_reports.specs.TextKey.{TextKey, same_third, same_text_key}
-
-and_left : (a b : Bool) → (a && b) ≡ true → a ≡ true
-and_left true b h = refl
-and_left false b h = h
-
-and_right : (a b : Bool) → (a && b) ≡ true → b ≡ true
-and_right true b h = h
-and_right false b h = cc
-
-and_true : (a b : Bool) → a ≡ true → b ≡ true → (a && b) ≡ true
-and_true a b h k = cc
 
 third_is : (a b : Option (List ℕ)) → same_third a b ≡ true → a ≡ b
 third_is None None h = refl
@@ -32,14 +22,13 @@ same_parts a b k p t =
 
 pub text_key_is : (a b : TextKey) → same_text_key a b ≡ true → a ≡ b
 text_key_is a b h =
-    let front = and_left (bytes_eq a.kind b.kind && bytes_eq a.place b.place) (same_third a.third b.third) h in
-    same_parts a b ((bytes_eq-Decides a.kind b.kind).0 (and_left (bytes_eq a.kind b.kind) (bytes_eq a.place b.place) front))
-    ((bytes_eq-Decides a.place b.place).0 (and_right (bytes_eq a.kind b.kind) (bytes_eq a.place b.place) front))
-    (third_is a.third b.third (and_right (bytes_eq a.kind b.kind && bytes_eq a.place b.place) (same_third a.third b.third) h))
+    let all = and_parts (bytes_eq a.kind b.kind && bytes_eq a.place b.place) (same_third a.third b.third) h in
+    let front = and_parts (bytes_eq a.kind b.kind) (bytes_eq a.place b.place) all.0 in
+    same_parts a b ((bytes_eq-Decides a.kind b.kind).0 front.0) ((bytes_eq-Decides a.place b.place).0 front.1) (third_is a.third b.third all.1)
 
 pub text_key_itself : (a : TextKey) → same_text_key a a ≡ true
-text_key_itself a = and_true (bytes_eq a.kind a.kind && bytes_eq a.place a.place) (same_third a.third a.third)
-    (and_true (bytes_eq a.kind a.kind) (bytes_eq a.place a.place) ((bytes_eq-Decides a.kind a.kind).1 refl) ((bytes_eq-Decides a.place a.place).1 refl))
+text_key_itself a = and_from (bytes_eq a.kind a.kind && bytes_eq a.place a.place) (same_third a.third a.third)
+    (and_from (bytes_eq a.kind a.kind) (bytes_eq a.place a.place) ((bytes_eq-Decides a.kind a.kind).1 refl) ((bytes_eq-Decides a.place a.place).1 refl))
     (third_itself a.third)
 
 -- two tests that say the same one way and the other
