@@ -39,7 +39,7 @@ abbrev pub early : Option ℕ → ℕ → Option ℕ
 early None moment = None
 early (Some last) moment = if nat_lt moment last then Some last else None
 
--- the fault is the one of this refusal, by its text; want of memory is told as the fault of the call
+-- the fault of a text is the one of this refusal; want of memory is never told as a fault of the text
 abbrev pub IsToldOfText : Option GiveFault → TextFault → Type 0
 IsToldOfText refusal (BadCharacter place) = refusal ≡ Some (bad_text (bad_character place))
 IsToldOfText refusal TooLong = refusal ≡ Some (bad_text too_long)
