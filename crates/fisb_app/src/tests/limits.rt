@@ -39,26 +39,24 @@ fn a_run_sends_at_most_65536_frames(rt: HostRuntime) -> Result<(), Fail> {
 
 #[test]
 fn each_form_has_its_longest_report(rt: HostRuntime) -> Result<(), Fail> {
-    // The table is seven lines, and the words before the letters are 11 characters.
+    // With the eleven characters before the letters: 556, 555, 555 and 553, and one more of each. The table is seven lines.
     let alloc = rt.alloc();
-    for (form, longest) in [(0, 556), (1, 555), (2, 555), (3, 553)] {
-        for (count, output, status) in [
-            (longest, "", Status::Done),
-            (
-                longest + 1,
-                "refused 9 notbuilt\n",
-                refusal(9, Reason::NotBuilt),
-            ),
-        ] {
-            let tail = letters(alloc, count - 11)?;
-            let table = format!(in alloc;
-                "version = 1\nlate = 600\n[[text]]\ntype = \"METAR\"\nwords = 2\nlife = 3600\nform = {form}\n---\n"
-            )?;
-            let script = format!(in alloc;
-                "{table}text 1700000000 1699999980 METAR KSEA {tail}\n"
-            )?;
-            check_link(&rt, alloc, script.as_str(), output, status)?;
-        }
+    for (form, count, output, status) in [
+        (0, 545, "", Status::Done),
+        (0, 546, "refused 9 notbuilt\n", refusal(9, Reason::NotBuilt)),
+        (1, 544, "", Status::Done),
+        (1, 545, "refused 9 notbuilt\n", refusal(9, Reason::NotBuilt)),
+        (2, 544, "", Status::Done),
+        (2, 545, "refused 9 notbuilt\n", refusal(9, Reason::NotBuilt)),
+        (3, 542, "", Status::Done),
+        (3, 543, "refused 9 notbuilt\n", refusal(9, Reason::NotBuilt)),
+    ] {
+        let table = format!(in alloc;
+            "version = 1\nlate = 600\n[[text]]\ntype = \"METAR\"\nwords = 2\nlife = 3600\nform = {form}\n---\n"
+        )?;
+        let tail = letters(alloc, count)?;
+        let script = format!(in alloc; "{table}text 1700000000 1699999980 METAR KSEA {tail}\n")?;
+        check_link(&rt, alloc, script.as_str(), output, status)?;
     }
     Ok(())
 }

@@ -1,9 +1,7 @@
-use Rattle.std.proofs.Common.{◌≡◌, ◌<◌, ◌≤◌, ◌++◌, length, flat_map, map, take, string_bytes, ◌∙◌, ap, sym, arith}
+use Rattle.std.proofs.Common.{◌<◌, ◌≤◌, ◌++◌, flat_map, string_bytes, ◌∙◌, ap, sym, arith}
 use Rattle.std.proofs.lemmas.Bool.Decides.{nat_tests}
 use Rattle.std.specs.Prelude.{List}
 use Rattle.fisb_broadcast.specs.Entry.{Entry}
-use Rattle.fisb_broadcast.specs.Shown.{alive}
-use Rattle.receiver_core.specs.Views.{entry_view}
 use Rattle.fisb_app.specs.Output.{shown_entry, picture_head}
 use Rattle.fisb_app.proofs.PrintLists.{alive_same, picture_more, picture_whole}
 use Rattle.fisb_app.proofs.printing.print_picture.Goals as goal
