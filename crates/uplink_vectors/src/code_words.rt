@@ -24,6 +24,15 @@ fn product(first: &Poly<32>, second: &Poly<32>) -> Option<Poly<32>> {
 }
 
 #[test]
+fn zeros_are_a_code_word_with_nothing_to_correct(rt: HostRuntime) {
+    let code = UplinkCode::new();
+    let mut word = [0; 92];
+    assert!(rt; code.is_codeword(&word));
+    assert_eq!(rt; code.correct(&mut word), Ok(0));
+    assert!(rt; word == [0; 92]);
+}
+
+#[test]
 fn the_product_of_nineteen_roots_is_no_code_word(rt: HostRuntime) {
     let mut polynomial = Poly::<32>::of(&[1]);
     for j in 120..139 {
