@@ -78,6 +78,8 @@ fn the_code_of_a_basic_adsb_block_has_the_parity_of_its_definition(rt: HostRunti
     assert!(rt; word == wanted);
     assert!(rt; code.is_codeword(&word));
     assert_eq!(rt; code.correct(&mut word), Ok(0));
+    word[29] = 0xfe;
+    assert!(rt; !code.is_codeword(&word));
 }
 
 #[test]
