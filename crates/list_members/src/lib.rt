@@ -1,0 +1,3 @@
+//! What stands in a list, as a word for definitions by recursion on the list, and lemmas of it: no code that runs. Its
+//! lemmas are its surface, as those of the standard library are: proofs of the crates above cite them.
+#![tactic(auto)]
