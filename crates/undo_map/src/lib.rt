@@ -1,0 +1,11 @@
+//! A map in the order of its keys that can be taken back to a mark, without memory.
+#![tactic(auto)]
+
+mod duplicate;
+mod map;
+mod step;
+#[cfg(test)]
+mod tests;
+
+pub use duplicate::Duplicate;
+pub use map::UndoMap;

@@ -1,0 +1,164 @@
+//! The map and its calls.
+ghost use Rattle.std.specs.Prelude.{◌≡◌, IsSome, IfOk, OnOk, OnErr, Some, None, length, []};
+ghost use Rattle.std.specs.BTreeMap.{insert_entry, is_at};
+ghost use Rattle.std.specs.List.Sorted.{IsStrictlySortedBy};
+ghost use Rattle.std.specs.Map.{keys_of, lookup};
+ghost use Rattle.std.specs.Map.Calls.{CallableOnEachPair, CalledAtPair, RetainsPairs, TakesPair};
+ghost use Rattle.std.specs.Map.Iter.{ShowsInOrder, deref_pair};
+ghost use Rattle.std.specs.Option.{option_copied};
+ghost use Rattle.undo_map.specs.Marked.{with_all};
+
+use crate::duplicate::Duplicate;
+use crate::step::{Step, take_all_back, write_all_steps, write_step};
+use std::alloc::{AllocError, Global};
+use std::collections::BTreeMap;
+use std::collections::btree_map::Iter;
+use std::marker::Model;
+
+/// Values under keys, in the order of the keys, and the mark to which they can be taken back.
+#[derive(Drop)]
+pub struct UndoMap<K: Duplicate, V> {
+    alloc: Global,
+    entries: BTreeMap<K, V>,
+    steps: Option<Vec<Step<K, V>>>,
+}
+
+impl<K: Duplicate, V> Model for UndoMap<K, V> {
+    ghost use Rattle.std.specs.BTreeMap.{IsOrdered};
+    ghost use Rattle.std.specs.Option.{option_map};
+    ghost use Rattle.undo_map.specs.Marked.{Marked};
+    ghost use Rattle.undo_map.specs.declared.step.Step.{Step};
+
+    ghost Value = { Marked K V };
+
+    ghost use Rattle.undo_map.specs.Steps.{before_all};
+
+    ghost view = { λ m. record {
+      entries = m.entries.entries;
+      mark = option_map (λ steps. before_all K.cmp steps.items m.entries.entries) m.steps;
+    } };
+
+    ghost invariant = { λ m. IsOrdered K.cmp m.entries };
+}
+
+impl<K: Duplicate, V: Drop> UndoMap<K, V> {
+    /// An empty map without a mark.
+    pub fn new(alloc: Global) -> UndoMap<K, V>
+        ensures { result ≡ record { entries = []; mark = None } }
+    {
+        UndoMap {
+            alloc,
+            entries: BTreeMap::new(alloc),
+            steps: None,
+        }
+    }
+
+    /// How many keys have a value.
+    pub fn len(&self) -> usize
+        ensures len { result ≡ length self.now.entries }
+        ensures ordered { IsStrictlySortedBy K.cmp (keys_of self.now.entries) }
+    {
+        self.entries.len()
+    }
+
+    /// The value under a key.
+    pub fn get(&self, key: &K) -> Option<&V>
+        ensures value { option_copied result
+            ≡ lookup (is_at (K.cmp key.now)) self.now.entries }
+        ensures ordered { IsStrictlySortedBy K.cmp (keys_of self.now.entries) }
+    {
+        self.entries.get(key)
+    }
+
+    /// Writes a value under a key; with a mark, what stood there can be taken back.
+    ///
+    /// # Errors
+    ///
+    /// Where memory runs out; then all is as it was.
+    pub fn write(&mut self, key: K, value: V) -> Result<(), AllocError>
+        ensures ok { OnOk result
+            (self.new.entries ≡ insert_entry K.cmp self.old.entries key value) }
+        ensures mark { self.new.mark ≡ self.old.mark }
+        ensures err { OnErr result (self.new ≡ self.old) }
+        ensures ordered { IsStrictlySortedBy K.cmp (keys_of self.new.entries) }
+    {
+        match &mut self.steps {
+            Some(steps) => write_step(self.alloc, &mut self.entries, steps, key, value),
+            None => {
+                self.entries.insert(key, value)?;
+                Ok(())
+            }
+        }
+    }
+
+    /// Writes values under keys in turn, all of them or none.
+    ///
+    /// # Errors
+    ///
+    /// Where memory runs out; then all is as it was.
+    pub fn write_all(&mut self, pairs: Vec<(K, V)>) -> Result<(), AllocError>
+        ensures ok { OnOk result
+            (self.new.entries ≡ with_all K.cmp self.old.entries pairs.items) }
+        ensures mark { self.new.mark ≡ self.old.mark }
+        ensures err { OnErr result (self.new ≡ self.old) }
+        ensures ordered { IsStrictlySortedBy K.cmp (keys_of self.new.entries) }
+    {
+        match &mut self.steps {
+            Some(steps) => write_all_steps(self.alloc, &mut self.entries, steps, pairs),
+            None => {
+                let mut steps = Vec::new(self.alloc);
+                write_all_steps(self.alloc, &mut self.entries, &mut steps, pairs)
+            },
+        }
+    }
+
+    /// Keeps the entries for which the test holds.
+    pub fn retain<F: FnMut(&K, &mut V) -> bool>(&mut self, test: F)
+        requires unmarked { self.old.mark ≡ None }
+        requires callable { CallableOnEachPair (CalledAtPair F.FnMut) (TakesPair F.FnMut)
+            test self.old.entries }
+        ensures filtered { RetainsPairs (CalledAtPair F.FnMut)
+            test self.old.entries self.new.entries }
+        ensures mark { self.new.mark ≡ None }
+        ensures ordered { IsStrictlySortedBy K.cmp (keys_of self.new.entries) }
+    {
+        self.entries.retain(test);
+    }
+
+    /// The entries, in the order of their keys.
+    pub fn iter(&self) -> Iter<'_, K, V>
+        ensures rest { result ≡ self.now.entries }
+        ensures runs { ShowsInOrder (deref_pair {K = K} {X = V}) }
+        ensures ordered { IsStrictlySortedBy K.cmp (keys_of self.now.entries) }
+    {
+        self.entries.iter()
+    }
+
+    /// Sets a mark at the entries as they are.
+    pub fn mark(&mut self)
+        requires { self.old.mark ≡ None }
+        ensures { self.new ≡ record self.old { mark = Some self.old.entries } }
+    {
+        self.steps = Some(Vec::new(self.alloc));
+    }
+
+    /// Takes the entries back to the mark, which goes.
+    pub fn undo(&mut self)
+        requires { IsSome self.old.mark }
+        ensures entries { self.old.mark ≡ Some self.new.entries }
+        ensures mark { self.new.mark ≡ None }
+        ensures ordered { IsStrictlySortedBy K.cmp (keys_of self.new.entries) }
+    {
+        if let Some(steps) = self.steps.take() {
+            take_all_back(&mut self.entries, steps);
+        }
+    }
+
+    /// Lets the mark go and keeps the entries.
+    pub fn settle(&mut self)
+        requires { IsSome self.old.mark }
+        ensures { self.new ≡ record self.old { mark = None } }
+    {
+        self.steps = None;
+    }
+}
