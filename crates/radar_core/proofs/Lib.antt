@@ -1,0 +1,12 @@
+pub mod RunCells
+pub mod RankLemmas
+pub mod FrontLemmas
+pub mod MarkLemmas
+pub mod RunsLemmas
+pub mod GroupLemmas
+pub mod ReadBack
+pub mod BlankBack
+pub mod FewestRuns
+pub mod Partition
+pub mod Spelled
+pub mod SpelledFit

@@ -1,0 +1,11 @@
+pub mod Keys
+pub mod Cells
+pub mod Runs
+pub mod Blanks
+pub mod Radar
+pub mod Views
+pub mod Ranks
+pub mod Marks
+pub mod Groups
+pub mod Laws
+pub mod Spelling

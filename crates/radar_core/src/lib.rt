@@ -1,0 +1,25 @@
+//! Radar blocks of FIS-B, products 63 and 64 (RTCA DO-358): run records and empty records.
+#![tactic(auto)]
+
+mod bitmap;
+mod blanks;
+mod cells;
+mod fault;
+mod groups;
+mod key;
+pub mod laws;
+mod part;
+mod reading;
+mod run;
+mod runs;
+#[cfg(test)]
+mod tests;
+
+pub use blanks::write_blank;
+pub use cells::Cells;
+pub use fault::RadarFault;
+pub use groups::{Groups, group_blanks};
+pub use key::{BlockKey, order_of_block_keys};
+pub use part::RadarPart;
+pub use reading::read_radar;
+pub use runs::write_runs;

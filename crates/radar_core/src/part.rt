@@ -1,0 +1,99 @@
+//! The blocks of a payload, lent out of it.
+ghost use Rattle.std.specs.Prelude.{◌≡◌, ◌+◌, ◌<◌, ◌≤◌, length, replicate, take, drop, slice_get, ◌++◌};
+ghost use Rattle.radar_core.specs.Radar.{blank_block};
+ghost use Rattle.radar_core.specs.Runs.{cells_in};
+
+use crate::bitmap::{count_offsets, offset_at};
+use crate::cells::{CELLS, Cells};
+use crate::key::BlockKey;
+use std::marker::Model;
+
+/// How many blocks a ring has.
+pub(crate) const RING: u32 = 450;
+
+/// The bytes after the front of a record.
+#[derive(Clone, Copy, Debug)]
+pub(crate) enum Body<'a> {
+    /// The runs of one block.
+    Runs(&'a [u8]),
+    /// The bitmap of the blocks that are named beside the base.
+    Bitmap(&'a [u8]),
+}
+
+/// The blocks of a payload. It lends the payload: to read a block takes no memory. A contract sees the list of the blocks.
+#[derive(Debug, Drop)]
+pub struct RadarPart<'a> {
+    pub(crate) key: BlockKey,
+    pub(crate) body: Body<'a>,
+}
+
+impl<'a> Model for RadarPart<'a> {
+    ghost use Rattle.std.specs.Prelude.{List};
+    ghost use Rattle.radar_core.specs.Radar.{Block};
+
+    ghost Value = { List Block };
+
+    ghost use Rattle.radar_core.specs.Views.{part_blocks, IsBody};
+
+    ghost view = { λ part. part_blocks part.key part.body };
+
+    ghost invariant = { λ part. IsBody part.key part.body };
+}
+
+impl<'a> RadarPart<'a> {
+    /// How many blocks there are.
+    pub fn count(&self) -> u32
+        ensures { result ≡ length self.now }
+    {
+        match self.body {
+            Body::Runs(_) => 1,
+            Body::Bitmap(bitmap) => count_offsets(bitmap),
+        }
+    }
+
+    /// The block at a place, counted from 0: by rising offset from the base of an empty record.
+    pub fn block(&self, place: u32) -> (BlockKey, Cells)
+        requires { place < length self.now }
+        ensures { slice_get self.now place ≡ Some result }
+    {
+        match self.body {
+            Body::Runs(runs) => (self.key, cells_of(runs)),
+            Body::Bitmap(bitmap) => blank_block(self.key, offset_at(bitmap, place)),
+        }
+    }
+}
+
+/// The block at an offset from the base of an empty record.
+fn blank_block(base: BlockKey, offset: u32) -> (BlockKey, Cells)
+    requires number { base.number < 405000 }
+    requires offset { offset < 117 }
+    ensures { result ≡ blank_block base offset }
+{
+    let place = base.number % RING;
+    let start = base.number - place;
+    let number = start + (place + offset) % RING;
+    (BlockKey { number, ..base }, Cells::blank())
+}
+
+/// The cells that runs spell.
+fn cells_of(runs: &[u8]) -> Cells
+    requires { length (cells_in runs.now) ≡ 128 }
+    ensures { result ≡ cells_in runs.now }
+{
+    let mut cells = [0; CELLS];
+    let mut used = 0;
+    for run in runs {
+        let length = usize::from(*run / 8) + 1;
+        put_run(&mut cells, used, length, *run % 8);
+        used += length;
+    }
+    Cells::of(cells)
+}
+
+/// Writes one intensity over so many cells from a place on.
+fn put_run(cells: &mut [u8; 128], place: usize, length: usize, cell: u8)
+    requires { place + length ≤ 128 }
+    ensures { cells.new ≡ take place cells.old ++ (replicate length cell ++ drop (place + length) cells.old) }
+{
+    cells[place..place + length].fill(cell);
+}
