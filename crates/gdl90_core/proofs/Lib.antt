@@ -1,0 +1,11 @@
+pub mod Sums
+pub mod LongDivision
+pub mod RemainderRows
+pub mod Streams
+pub mod Steps
+pub mod Keeping
+pub mod Frames
+pub mod Cuts
+pub mod Answering
+pub mod Escapes
+pub mod Readings
