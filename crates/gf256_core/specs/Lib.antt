@@ -1,3 +1,4 @@
 pub mod Field
 pub mod Tables
 pub mod UatLaws
+pub mod Laws

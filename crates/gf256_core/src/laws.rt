@@ -1,4 +1,5 @@
 ghost use Rattle.gf256_core.specs.Field.{IsField};
+ghost use Rattle.gf256_core.specs.Laws.{HasOneRemainder};
 
 use crate::tables::FieldTables;
 
@@ -6,4 +7,10 @@ use crate::tables::FieldTables;
 #[inline]
 pub fn field_laws<T: FieldTables>()
     ensures { IsField T.POLY }
+{}
+
+/// The law that a number has one remainder by the modulus, of degree below 8.
+#[inline]
+pub fn one_remainder<T: FieldTables>()
+    ensures { HasOneRemainder T.POLY }
 {}

@@ -6,5 +6,5 @@ mod laws;
 mod tables;
 
 pub use element::{Gf, Uat};
-pub use laws::field_laws;
+pub use laws::{field_laws, one_remainder};
 pub use tables::{FieldTables, UatTables};

@@ -14,9 +14,9 @@ pub(crate) fn add_list(room: &mut [u8], list: &[u8])
     }
 }
 
-// Adds `factor` times x^place times the polynomial `list` to the one in `room`.
+/// Adds `factor` times x^place times the polynomial `list` to the one in `room`.
 #[inline]
-pub(crate) fn add_multiple(room: &mut [u8], place: usize, factor: Uat, list: &[u8])
+pub fn add_multiple(room: &mut [u8], place: usize, factor: Uat, list: &[u8])
     requires { place + length list.now ≤ length room.old }
     ensures { room.new ≡ sum_of room.old (raised place (scaled factor list.now)) }
 {
@@ -92,9 +92,9 @@ pub(crate) fn divide(rest: &mut [u8], quotient: &mut [u8], len: usize, divisor: 
     }
 }
 
-// The value of the polynomial `list` at an element: the coefficients are taken from the last to the first.
+/// The value of the polynomial `list` at an element: the coefficients are taken from the last to the first.
 #[inline]
-pub(crate) fn value_of(list: &[u8], at: Uat) -> Uat
+pub fn value_of(list: &[u8], at: Uat) -> Uat
     ensures value { result ≡ value_at list.now at }
     ensures fits { result < 256 }
 {

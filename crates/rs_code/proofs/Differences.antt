@@ -1,5 +1,5 @@
 -- What a first byte adds to the number of places in which two words differ, and words that differ in no place.
-use Rattle.std.proofs.Common.{◌≡◌, ℕ, suc, ◌≤◌, List, [], ◌∷◌, cond, Bool, refl, ◌∙◌, ap, ap₂, arith, inl, inr, eqb, eq-eqb}
+use Rattle.std.proofs.Common.{◌≡◌, ℕ, zero, suc, ◌+◌, ◌<◌, ◌≤◌, ◌⊎◌, List, [], ◌∷◌, length, get_or, cond, Bool, refl, ◌∙◌, ap, ap₂, arith, inl, inr, eqb, eq-eqb}
 use Rattle.std.proofs.lemmas.Bool.{cases_Bool, cases_eq, eqb-true}
 use Rattle.rs_code.specs.CodeWord.{differences}
 
@@ -38,3 +38,32 @@ same_from_no_differences (x ∷ xs) (y ∷ ys) h = elim (cases_eq x y) [
       ap₂ (λ (z : ℕ) (zs : List ℕ). z ∷ zs) e (same_from_no_differences xs ys (omega arith))
   | inr n ↦ let d = differences-cons_apart x y xs ys n in absurd (omega arith)
 ]
+
+-- words that are the same outside some consecutive places differ in no more places than these
+pub differences-window :
+    (first many : ℕ) (xs ys : List ℕ) → length xs ≡ length ys
+    → ((k : ℕ) → k < length xs → (k < first) ⊎ (first + many ≤ k) → get_or xs k 0 ≡ get_or ys k 0)
+    → differences xs ys ≤ many
+differences-window first many [] [] l same = omega arith
+differences-window first many [] (y ∷ ys) l same = absurd (omega arith)
+differences-window first many (x ∷ xs) [] l same = absurd (omega arith)
+differences-window (suc first) many (x ∷ xs) (y ∷ ys) l same =
+    let rest = differences-window first many xs ys (omega arith) (λ k h outside. same (suc k) (omega arith) (elim outside [
+      | inl before ↦ inl (omega arith)
+      | inr behind ↦ inr (omega arith)
+    ])) in
+    let head : x ≡ y = same 0 (omega arith) (inl (omega arith)) in
+    let d = differences-cons_same x y xs ys head in
+    omega arith
+differences-window zero (suc many) (x ∷ xs) (y ∷ ys) l same =
+    let rest = differences-window zero many xs ys (omega arith) (λ k h outside. same (suc k) (omega arith) (elim outside [
+      | inl before ↦ inl (absurd (omega arith))
+      | inr behind ↦ inr (omega arith)
+    ])) in
+    let most = (differences-cons_bounds x y xs ys).1 in
+    omega arith
+differences-window zero zero (x ∷ xs) (y ∷ ys) l same =
+    let rest = differences-window zero zero xs ys (omega arith) (λ k h outside. same (suc k) (omega arith) (inr (omega arith))) in
+    let head : x ≡ y = same 0 (omega arith) (inr (omega arith)) in
+    let d = differences-cons_same x y xs ys head in
+    omega arith

@@ -14,15 +14,21 @@ use Rattle.rs_code.proofs.Powers.{power-add, power-fits, power-not_zero, power-i
 use Rattle.rs_code.proofs.PowerSums.{power_sum-cons, power_sum-empty, power_sum-cons_zero, power_sum-zeros, power_sum-sum}
 
 -- how many bytes are not 0
-pub weight : List ℕ → ℕ
+unfoldable pub weight : List ℕ → ℕ
 weight [] = 0
 weight (zero ∷ bs) = weight bs
 weight (suc b ∷ bs) = suc (weight bs)
 
-weight-cons : (b : ℕ) (bs : List ℕ) → weight (b ∷ bs) ≤ suc (weight bs)
+pub weight-cons : (b : ℕ) (bs : List ℕ) → weight (b ∷ bs) ≤ suc (weight bs)
 unfolding weight
 weight-cons zero bs = omega arith
 weight-cons (suc b) bs = omega arith
+
+pub weight-length : (bs : List ℕ) → weight bs ≤ length bs
+unfolding weight
+weight-length [] = omega arith
+weight-length (zero ∷ bs) = let rest = weight-length bs in omega arith
+weight-length (suc b ∷ bs) = let rest = weight-length bs in omega arith
 
 weighed : ℕ → List ℕ → List ℕ
 weighed y [] = []
@@ -152,7 +158,7 @@ zero_from_sums F (suc count) (suc b ∷ bs) (suc n) from l short bytes few sums 
     ]
 
 -- the difference of two words
-pub difference : List ℕ → List ℕ → List ℕ
+unfoldable pub difference : List ℕ → List ℕ → List ℕ
 difference [] ys = []
 difference (x ∷ xs) [] = []
 difference (x ∷ xs) (y ∷ ys) = bit_xor x y ∷ difference xs ys
@@ -173,7 +179,7 @@ get_or-difference (x ∷ xs) [] l k = absurd (omega arith)
 get_or-difference (x ∷ xs) (y ∷ ys) l zero = refl
 get_or-difference (x ∷ xs) (y ∷ ys) l (suc k) = get_or-difference xs ys (omega arith) k
 
-weight-difference : (xs ys : List ℕ) → weight (difference xs ys) ≤ differences xs ys
+pub weight-difference : (xs ys : List ℕ) → weight (difference xs ys) ≤ differences xs ys
 unfolding weight difference
 weight-difference [] ys = omega arith
 weight-difference (x ∷ xs) [] = omega arith
@@ -192,7 +198,7 @@ weight-difference (x ∷ xs) (y ∷ ys) =
           omega arith
     ]
 
-same_from_places : (xs ys : List ℕ) → length xs ≡ length ys → ((k : ℕ) → get_or xs k 0 ≡ get_or ys k 0) → xs ≡ ys
+pub same_from_places : (xs ys : List ℕ) → length xs ≡ length ys → ((k : ℕ) → get_or xs k 0 ≡ get_or ys k 0) → xs ≡ ys
 same_from_places [] [] l e = refl
 same_from_places [] (y ∷ ys) l e = absurd (omega arith)
 same_from_places (x ∷ xs) [] l e = absurd (omega arith)

@@ -7,11 +7,11 @@ use Rattle.std.proofs.lemmas.Nat.{xor_comm, shl_below}
 use Rattle.gf256_core.specs.Field.{IsField}
 use Rattle.poly256.specs.Polynomial.{element_product, element_power, scaled}
 use Rattle.rs_code.specs.CodeWord.{power_sum}
-use Rattle.rs_code.specs.Rows.{IsRow, AreRowsAt}
 use Rattle.rs_code.proofs.Xors.{xor-cancel, product-zero_right}
+use Rattle.rs_code.proofs.Powers.{power-zero, product-one}
 use Rattle.rs_code.proofs.Distance.{difference, length-difference, get_or-difference}
 use Rattle.rs_code.proofs.Places.{get_or-push_zero, get_or-front, get_or-zeros}
-use Rattle.rs_code.proofs.PowerSums.{power_sum-empty, power_sum-cons_zero, power_sum-zeros, power_sum-sum, power_sum-multiple, power_sum-append}
+use Rattle.rs_code.proofs.PowerSums.{power_sum-cons, power_sum-empty, power_sum-cons_zero, power_sum-zeros, power_sum-sum, power_sum-multiple, power_sum-append}
 
 -- a word with 0 behind it
 pub power_sum-push_zero :
@@ -23,6 +23,19 @@ power_sum-push_zero F ws j =
     (ap (λ (n : ℕ). element_product (element_power 2 n) (power_sum ws j)) (let e : j * 1 ≡ j = omega arith in e))
     (power_sum-cons_zero F [] j ∙ power_sum-empty j)
     ∙ xor_zero_r (element_product (element_power 2 j) (power_sum ws j))
+
+-- a word with another byte behind it
+pub power_sum-push :
+    (F : IsField 391) (ws : List ℕ) (b j : ℕ) → b < 256
+    → power_sum (ws ++ b ∷ []) j ≡ bit_xor (element_product (element_power 2 j) (power_sum ws j)) b
+power_sum-push F ws b j fits =
+    power_sum-append F ws (b ∷ []) j
+    ∙ ap₂ bit_xor
+    (ap (λ (n : ℕ). element_product (element_power 2 n) (power_sum ws j)) (let e : j * 1 ≡ j = omega arith in e))
+    (power_sum-cons b [] j
+    ∙ ap₂ bit_xor (ap (λ (n : ℕ). element_product b (element_power 2 n)) (let e : j * 0 ≡ 0 = omega arith in e)
+    ∙ ap (element_product b) (power-zero 2) ∙ product-one F b fits) (power_sum-empty j)
+    ∙ xor_zero_r b)
 
 pub length-scaled : (a : ℕ) (ws : List ℕ) → length (scaled a ws) ≡ length ws
 unfolding scaled
@@ -124,6 +137,11 @@ multiple_places :
 multiple_places F byte row product h e zero = sym (F.product_comm byte 1 ∙ F.product_one byte h)
 multiple_places F byte row product h e (suc k) = e k
 
+-- a row, behind its byte, makes a word that is 0 at 2 raised to j
+pub record IsRow (roots j byte : ℕ) (row : List ℕ) : Type 0 where
+  pub long : length row ≡ roots
+  pub zero : power_sum (byte ∷ row) j ≡ 0
+
 -- a row times an element is a row
 pub IsRow-multiple :
     (F : IsField 391) (roots j byte : ℕ) (row product : List ℕ) → byte < 256 → length row ≡ roots → length product ≡ roots
@@ -137,111 +155,6 @@ IsRow-multiple F roots j byte row product h l l' e zero_sum = record {
       ∙ ap (element_product byte) zero_sum
       ∙ product-zero_right F byte;
 }
-
-sum_places :
-    (byte other both : ℕ) (row behind sum : List ℕ) → both ≡ bit_xor byte other
-    → ((k : ℕ) → get_or sum k 0 ≡ bit_xor (get_or row k 0) (get_or behind k 0)) → (k : ℕ)
-    → get_or (both ∷ sum) k 0 ≡ bit_xor (get_or (byte ∷ row) k 0) (get_or (other ∷ behind) k 0)
-sum_places byte other both row behind sum e places zero = e
-sum_places byte other both row behind sum e places (suc k) = places k
-
--- the sum of two rows is a row
-pub IsRow-sum :
-    (F : IsField 391) (roots j byte other both : ℕ) (row behind sum : List ℕ) → both ≡ bit_xor byte other
-    → length sum ≡ roots → ((k : ℕ) → get_or sum k 0 ≡ bit_xor (get_or row k 0) (get_or behind k 0))
-    → IsRow roots j byte row → IsRow roots j other behind → IsRow roots j both sum
-IsRow-sum F roots j byte other both row behind sum e l places r r' = record {
-  long = l;
-  zero =
-      power_sum-sum F (both ∷ sum) (byte ∷ row) (other ∷ behind)
-      (let m = r.long in let n : suc (length row) ≡ suc (length sum) = omega arith in n)
-      (let m = r'.long in let n : suc (length behind) ≡ suc (length sum) = omega arith in n)
-      (sum_places byte other both row behind sum e places) j
-      ∙ ap₂ bit_xor r.zero r'.zero
-      ∙ xor_zero_r 0;
-}
-
-pow_sum : (a b : ℕ) → 2 ^ (a + b) ≡ 2 ^ a * 2 ^ b
-pow_sum a zero =
-    ap (λ (k : ℕ). 2 ^ k) (let e : a + 0 ≡ a = omega arith in e)
-    ∙ (let e : 2 ^ a ≡ 2 ^ a * 2 ^ 0 = omega arith in e)
-pow_sum a (suc b) =
-    ap (λ (k : ℕ). 2 ^ k) (let e : a + suc b ≡ suc (a + b) = omega arith in e)
-    ∙ (let e : 2 ^ suc (a + b) ≡ 2 * 2 ^ (a + b) = omega arith in e)
-    ∙ ap (λ (n : ℕ). 2 * n) (pow_sum a b)
-    ∙ (let e : 2 * (2 ^ a * 2 ^ b) ≡ 2 ^ a * (2 * 2 ^ b) = omega arith in e)
-    ∙ ap (λ (n : ℕ). 2 ^ a * n) (let e : 2 * 2 ^ b ≡ 2 ^ suc b = omega arith in e)
-
-pow_one_more : (n : ℕ) → 2 ^ (n + 1) ≡ 2 * 2 ^ n
-pow_one_more n =
-    ap (λ (k : ℕ). 2 ^ k) (let e : n + 1 ≡ suc n = omega arith in e)
-    ∙ (let e : 2 ^ suc n ≡ 2 * 2 ^ n = omega arith in e)
-
--- one more row, from the first of its half and the one as far into the rows as it is into the half
-pub AreRowsAt-more :
-    (F : IsField 391) (roots j bit place low : ℕ) (rows : List (List ℕ)) (row sum : List ℕ) → low < 2 ^ bit
-    → 2 ^ bit + low < length rows → length sum ≡ roots
-    → ((k : ℕ) → get_or sum k 0 ≡ bit_xor (get_or row k 0) (get_or (get_or rows low []) k 0))
-    → IsRow roots j (2 ^ (bit + place)) row → AreRowsAt roots j place (2 ^ bit + low) rows
-    → AreRowsAt roots j place (2 ^ bit + (low + 1)) (set rows (2 ^ bit + low) sum)
-AreRowsAt-more F roots j bit place low rows row sum h room l places first before digit h' = elim (cases_eq digit (2 ^ bit + low)) [
-  | inl same ↦
-      let fits : low * 2 ^ place < 2 ^ (bit + place) = shl_below low bit place h in
-      let power : 2 ^ (bit + place) ≡ 2 ^ bit * 2 ^ place = pow_sum bit place in
-      let both : (2 ^ bit + low) * 2 ^ place ≡ bit_xor (2 ^ (bit + place)) (low * 2 ^ place) =
-      sym (ap (λ (n : ℕ). bit_xor n (low * 2 ^ place)) (let e : 2 ^ (bit + place) ≡ 1 * 2 ^ (bit + place) = omega arith in e)
-      ∙ xor_shifted 1 (bit + place) (low * 2 ^ place) fits
-      ∙ (let e : 1 * 2 ^ (bit + place) + low * 2 ^ place ≡ 2 ^ bit * 2 ^ place + low * 2 ^ place = omega arith in e)
-      ∙ (let e : 2 ^ bit * 2 ^ place + low * 2 ^ place ≡ (2 ^ bit + low) * 2 ^ place = omega arith in e)) in
-      let here : IsRow roots j ((2 ^ bit + low) * 2 ^ place) sum =
-      IsRow-sum F roots j (2 ^ (bit + place)) (low * 2 ^ place) ((2 ^ bit + low) * 2 ^ place) row (get_or rows low []) sum both l places first
-      (before low (omega arith)) in
-      subst (λ (n : ℕ). IsRow roots j (n * 2 ^ place) (get_or (set rows (2 ^ bit + low) sum) n [])) (sym same)
-      (subst (λ (r : List ℕ). IsRow roots j ((2 ^ bit + low) * 2 ^ place) r) (sym (get_or-set_same rows (2 ^ bit + low) sum [] room)) here)
-  | inr apart ↦
-      subst (λ (r : List ℕ). IsRow roots j (digit * 2 ^ place) r) (sym (get_or-set_other rows (2 ^ bit + low) digit sum [] apart))
-      (before digit (omega arith))
-]
-
-IsRow-zeros : (F : IsField 391) (roots j : ℕ) → IsRow roots j 0 (replicate roots 0)
-IsRow-zeros F roots j = record {
-  long = length-replicate roots 0;
-  zero = power_sum-cons_zero F (replicate roots 0) j ∙ power_sum-zeros F (replicate roots 0) (get_or-zeros roots) j;
-}
-
--- zeros are the row of 0
-pub AreRowsAt-zeros :
-    (F : IsField 391) (roots j place : ℕ) → AreRowsAt roots j place 1 (replicate 16 (replicate roots 0))
-AreRowsAt-zeros F roots j place zero h =
-    subst (λ (r : List ℕ). IsRow roots j (0 * 2 ^ place) r) (sym (get_or-replicate 16 0 (replicate roots 0) [] (lit< tt)))
-    (subst (λ (n : ℕ). IsRow roots j n (replicate roots 0)) (let e : 0 ≡ 0 * 2 ^ place = omega arith in e) (IsRow-zeros F roots j))
-AreRowsAt-zeros F roots j place (suc digit) h = absurd (omega arith)
-
--- twice as many rows as a power of 2
-pub AreRowsAt-doubled :
-    (roots j bit place low : ℕ) (rows : List (List ℕ)) → 2 ^ bit ≤ low → AreRowsAt roots j place (2 ^ bit + low) rows
-    → AreRowsAt roots j place (2 ^ (bit + 1)) rows
-AreRowsAt-doubled roots j bit place low rows h made digit h' =
-    let twice : 2 ^ (bit + 1) ≡ 2 * 2 ^ bit = pow_one_more bit in
-    made digit (omega arith)
-
--- the row of a byte, from those of its high and its low four bits
-pub IsRow-byte :
-    (F : IsField 391) (roots j byte : ℕ) (low high : List (List ℕ)) → byte < 256 → AreRowsAt roots j 0 16 low
-    → AreRowsAt roots j 4 16 high
-    → IsRow roots j byte (difference (get_or high (byte / 16) []) (get_or low (byte % 16) []))
-IsRow-byte F roots j byte low high h low_rows high_rows =
-    let above : IsRow roots j (byte / 16 * 16) (get_or high (byte / 16) []) = high_rows (byte / 16) (omega arith) in
-    let below : IsRow roots j (byte % 16) (get_or low (byte % 16) []) =
-    subst (λ (n : ℕ). IsRow roots j n (get_or low (byte % 16) [])) (let e : byte % 16 * 1 ≡ byte % 16 = omega arith in e)
-    (low_rows (byte % 16) (omega arith)) in
-    let both : byte ≡ bit_xor (byte / 16 * 16) (byte % 16) =
-    (let e : byte ≡ byte / 16 * 16 + byte % 16 = omega arith in e) ∙ sym (xor_shifted (byte / 16) 4 (byte % 16) (omega arith)) in
-    let same : length (get_or high (byte / 16) []) ≡ length (get_or low (byte % 16) []) = above.long ∙ sym below.long in
-    IsRow-sum F roots j (byte / 16 * 16) (byte % 16) byte (get_or high (byte / 16) []) (get_or low (byte % 16) [])
-    (difference (get_or high (byte / 16) []) (get_or low (byte % 16) [])) both
-    (length-difference (get_or high (byte / 16) []) (get_or low (byte % 16) []) same ∙ above.long)
-    (get_or-difference (get_or high (byte / 16) []) (get_or low (byte % 16) []) same) above below
 
 step_places :
     (b byte : ℕ) (rest next row : List ℕ) → byte ≡ bit_xor b (get_or rest 0 0)

@@ -5,6 +5,16 @@ pub mod Differences
 pub mod Distance
 pub mod Places
 pub mod Kernels
+pub mod Pairing
+pub mod Locators
+pub mod Weighing
+pub mod ZeroPlaces
+pub mod Solving
+pub mod Mending
+pub mod Mended
+pub mod UplinkTable
+pub mod ProductTables
+pub mod Dividing
 pub mod Words
 pub mod Nearest
 pub mod Existence

@@ -1,7 +1,7 @@
 -- The bytes of a list by their places.
 use Rattle.std.proofs.Common.{◌≡◌, ℕ, zero, suc, ◌+◌, ◌<◌, ◌≤◌, List, [], ◌∷◌, ◌++◌, length, get_or, set, take, replicate, lit<, refl, sym, ◌∙◌, ap, arith, inl, inr}
 use Rattle.std.proofs.lemmas.Bool.{cases_lt, cases_eq}
-use Rattle.std.proofs.lemmas.List.{get_or-set_same, get_or-set_other, get_or_past, get_or-take, get_or-replicate, length-replicate, length-take-le}
+use Rattle.std.proofs.lemmas.List.{get_or-set_same, get_or-set_other, get_or_past, get_or-take, get_or-replicate, length-replicate, length-take-le, ext_get_or}
 
 -- one more byte is written
 pub set_grows :
@@ -59,3 +59,15 @@ pub bytes-front :
 bytes-front [] ys h k = lit< tt
 bytes-front (x ∷ xs) ys h zero = h 0
 bytes-front (x ∷ xs) ys h (suc k) = bytes-front xs ys (λ i. h (suc i)) k
+
+-- lists with the same bytes in front have one front
+pub same_front :
+    (n : ℕ) (xs ys : List ℕ) → n ≤ length xs → length xs ≡ length ys
+    → ((k : ℕ) → k < n → get_or xs k 0 ≡ get_or ys k 0) → take n xs ≡ take n ys
+same_front n xs ys long same bytes =
+    let l : length (take n xs) ≡ n = length-take-le n xs long in
+    let l' : length (take n ys) ≡ n = length-take-le n ys (omega arith) in
+    ext_get_or 0 (take n xs) (take n ys) (l ∙ sym l')
+    (λ k h.
+    let inside : k < n = omega arith in
+    get_or-take n xs k 0 inside ∙ bytes k inside ∙ sym (get_or-take n ys k 0 inside))

@@ -1,7 +1,7 @@
 -- Reed-Solomon code words over the field of the uplink. A code has words of `count` bytes, and `roots` elements at which
 -- each code word is 0: the powers of 2, which is x, from `first` on. The first byte of a word is the coefficient of the
 -- highest power.
-use Rattle.std.specs.Prelude.{◌≡◌, ℕ, suc, ◌+◌, ◌*◌, ◌%◌, ◌<◌, ◌≤◌, ◌==◌, nat_le, Bool, IsTrue, List, [], ◌∷◌, cond, length, slice_index, bit_xor}
+use Rattle.std.specs.Prelude.{◌≡◌, ℕ, suc, ◌+◌, ◌*◌, ◌/◌, ◌%◌, ◌<◌, ◌≤◌, ◌==◌, nat_le, Bool, IsTrue, List, [], ◌∷◌, cond, length, slice_index, bit_xor}
 use Rattle.poly256.specs.Polynomial.{element_product, element_power}
 
 -- the numbers that make a code
@@ -30,7 +30,7 @@ differences (x ∷ xs) (y ∷ ys) = cond (x == y) (differences xs ys) (suc (diff
 
 -- in how many places a code word may differ from a word that it is taken for
 abbrev pub bound : ℕ → ℕ
-bound roots = 0
+bound roots = roots / 2
 
 -- whether two words differ in no more places than that
 abbrev pub are_near : ℕ → List ℕ → List ℕ → Bool

@@ -1,4 +1,5 @@
 pub mod CodeWord
 pub mod Functions
 pub mod Laws
-pub mod Rows
+pub mod Mending
+pub mod UplinkRows

@@ -1,23 +1,21 @@
 //! Codes, and what they do with words.
-ghost use Rattle.std.specs.Prelude.{◌≡◌, ◌+◌, ◌-◌, ℕ, List, take, length, is_ok, IsTrue, Some, None, IfOk, OnOk, OnErr, ◌↔◌};
+ghost use Rattle.std.specs.Prelude.{◌≡◌, ◌+◌, ◌-◌, ℕ, List, take, length, is_ok, IsTrue, Some, None, IfOk, MatchOption, OnOk, OnErr, ◌↔◌};
 ghost use Rattle.rs_code.specs.CodeWord.{IsInstance, IsCodeWord, IsNear, IsCorrectable, differences};
 ghost use Rattle.rs_code.specs.Functions.{encoded, corrected};
-ghost use Rattle.rs_code.specs.Rows.{AreRows};
 
-use crate::generator::generator;
 use crate::laws::{corrected_is_nearest, one_encoded};
-use crate::rows::{parity, rows_of};
+use crate::locator::byte_law;
+use crate::mend::{count_differences, mend, sums_of};
+use crate::remainder::{all_zero, clear, remainder};
 use gf256_core::{UatTables, field_laws};
 
 /// A code whose words have `N` bytes, of which the last `ROOTS` are parity. The first byte of a word is the coefficient of
 /// the highest power, and a code word is 0 at 2 raised to `FIRST` and to the `ROOTS - 1` numbers after it.
 #[derive(Drop)]
 pub struct Rs<const N: usize, const ROOTS: usize, const FIRST: usize> {
-    // the parity of each byte that has no high four bits, and of each that has no low four bits
-    low: [[u8; ROOTS]; 16],
-    high: [[u8; ROOTS]; 16],
+    // so that only `new` makes one
+    private: (),
     ghost instance: { IsInstance N ROOTS FIRST },
-    ghost made: { AreRows ROOTS FIRST low high },
 }
 
 /// The code of the blocks of an uplink frame.
@@ -32,13 +30,8 @@ impl<const N: usize, const ROOTS: usize, const FIRST: usize> Rs<N, ROOTS, FIRST>
     /// is a code word.
     pub fn new() -> Self
         requires { IsInstance N ROOTS FIRST }
-        ensures { IsInstance N ROOTS FIRST }
     {
-        let generator = generator::<ROOTS>(FIRST);
-        Rs {
-            low: rows_of(&generator, 0),
-            high: rows_of(&generator, 4),
-        }
+        Rs { private: () }
     }
 
     /// Sets the last `ROOTS` bytes of a word so that it is a code word, the only one that begins so.
@@ -50,20 +43,18 @@ impl<const N: usize, const ROOTS: usize, const FIRST: usize> Rs<N, ROOTS, FIRST>
     {
         one_encoded();
         field_laws::<UatTables>();
-        let (message, back) = word.split_at_mut(N - ROOTS);
-        let made = parity(&self.low, &self.high, message);
-        back.copy_from_slice(&made);
+        clear(word, N - ROOTS);
+        let rest = remainder::<N, ROOTS, FIRST>(word);
+        let (front, back) = word.split_at_mut(N - ROOTS);
+        byte_law(front);
+        back.copy_from_slice(&rest);
     }
 
     /// Whether a word is a code word.
     pub fn is_codeword(&self, word: &[u8; N]) -> bool
         ensures { IsTrue result ↔ IsCodeWord N ROOTS FIRST word.now }
     {
-        field_laws::<UatTables>();
-        let (message, back) = word.split_at(N - ROOTS);
-        let made = parity(&self.low, &self.high, message);
-        let wanted: &[u8] = &made;
-        back == wanted
+        all_zero(&remainder::<N, ROOTS, FIRST>(word))
     }
 
     /// Puts the code word near a word in its place, and gives the number of places that changed. Where none is near the
@@ -76,10 +67,34 @@ impl<const N: usize, const ROOTS: usize, const FIRST: usize> Rs<N, ROOTS, FIRST>
         ensures none { OnErr result (corrected N ROOTS FIRST word.old ≡ None) }
     {
         corrected_is_nearest();
-        if self.is_codeword(word) {
-            Ok(0)
+        let rest = remainder::<N, ROOTS, FIRST>(word);
+        if all_zero(&rest) {
+            return Ok(0);
+        }
+        let sums = sums_of::<ROOTS>(&rest, FIRST);
+        let mut mended = *word;
+        mend::<N, ROOTS, FIRST>(&mut mended, &sums);
+        match self.near_count(word, &mended) {
+            Some(changed) => {
+                *word = mended;
+                Ok(changed)
+            }
+            None => Err(Uncorrectable),
+        }
+    }
+
+    // In how many places a word differs from another, where that one is a code word near it.
+    fn near_count(&self, word: &[u8; N], mended: &[u8; N]) -> Option<u8>
+        ensures { MatchOption result (IsNear N ROOTS FIRST word.now mended.now → ⊥) (λ changed. IsNear N ROOTS FIRST word.now mended.now × (changed ≡ differences word.now mended.now)) }
+    {
+        let changed = count_differences(word, mended);
+        if changed > ROOTS / 2 {
+            return None;
+        }
+        if self.is_codeword(mended) {
+            Some(changed as u8)
         } else {
-            Err(Uncorrectable)
+            None
         }
     }
 }

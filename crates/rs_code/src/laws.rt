@@ -1,5 +1,5 @@
 //! Laws of the definitions, for the crates above: each is the contract of a function that does nothing.
-ghost use Rattle.rs_code.specs.Laws.{HasCodeWordTest, HasMinimumDistance, HasOneEncoded, HasOneNearest, IsCorrected};
+ghost use Rattle.rs_code.specs.Laws.{CountsDifferences, HasCodeWordTest, HasMinimumDistance, HasOneEncoded, HasOneNearest, HaveDistances, IsCorrected};
 
 use gf256_core::{UatTables, field_laws};
 
@@ -10,6 +10,21 @@ pub fn minimum_distance()
 {
     field_laws::<UatTables>()
 }
+
+/// The same law at the codes of UAT: in how many places two code words of an uplink block, of a basic and of a long ADS-B
+/// message differ at least.
+#[inline]
+pub fn distances()
+    ensures { HaveDistances }
+{
+    minimum_distance()
+}
+
+/// The laws of the number of places in which words differ: of one word, and of words that are the same outside a window.
+#[inline]
+pub fn differences_laws()
+    ensures { CountsDifferences }
+{}
 
 /// The law that at most one code word is near a word.
 #[inline]

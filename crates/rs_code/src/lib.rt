@@ -4,9 +4,18 @@
 mod code;
 mod generator;
 mod laws;
-mod rows;
+mod locator;
+mod mend;
+mod product;
+mod remainder;
 #[cfg(test)]
 mod tests;
+mod uplink_rows;
+mod values;
+mod wrong_places;
 
 pub use code::{Rs, Uncorrectable, UplinkCode};
-pub use laws::{code_word_test, corrected_is_nearest, minimum_distance, one_encoded, one_nearest};
+pub use laws::{
+    code_word_test, corrected_is_nearest, differences_laws, distances, minimum_distance,
+    one_encoded, one_nearest,
+};

@@ -1,6 +1,6 @@
 use crate::{
-    Rs, Uncorrectable, UplinkCode, code_word_test, corrected_is_nearest, minimum_distance,
-    one_encoded, one_nearest,
+    Rs, UplinkCode, code_word_test, corrected_is_nearest, differences_laws, distances,
+    minimum_distance, one_encoded, one_nearest,
 };
 
 // The parity in these tests was worked out by solving the power sums for it.
@@ -15,15 +15,17 @@ fn zeros_are_a_code_word(rt: HostRuntime) {
 }
 
 #[test]
-fn a_word_that_is_no_code_word_stays(rt: HostRuntime) {
+fn ten_wrong_bytes_are_mended(rt: HostRuntime) {
     let code = UplinkCode::new();
     let mut word = [0; 92];
     for i in 0..10 {
         word[i] = 0xff;
     }
-    let before = word;
-    assert_eq!(rt; code.correct(&mut word), Err(Uncorrectable));
-    assert!(rt; word == before);
+    assert_eq!(rt; code.correct(&mut word), Ok(10));
+    assert!(rt; word == [0; 92]);
+    word[91] = 1;
+    assert_eq!(rt; code.correct(&mut word), Ok(1));
+    assert!(rt; word == [0; 92]);
 }
 
 #[test]
@@ -69,6 +71,8 @@ fn a_code_with_two_roots_has_its_own_parity(rt: HostRuntime) {
 #[test]
 fn the_laws_may_be_called(_rt: HostRuntime) {
     minimum_distance();
+    distances();
+    differences_laws();
     one_nearest();
     code_word_test();
     one_encoded();

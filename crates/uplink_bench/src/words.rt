@@ -28,8 +28,8 @@ impl Row {
     }
 }
 
-// A word with a pseudo-random message, and the parity of it.
-fn next_word(code: &UplinkCode, row: &mut Row) -> [u8; 92] {
+/// A word with a pseudo-random message, and the parity of it.
+pub fn next_word(code: &UplinkCode, row: &mut Row) -> [u8; 92] {
     let mut word = [0; 92];
     for place in 0..72 {
         word[place] = row.byte();

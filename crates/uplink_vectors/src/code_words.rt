@@ -33,6 +33,20 @@ fn zeros_are_a_code_word_with_nothing_to_correct(rt: HostRuntime) {
 }
 
 #[test]
+fn wrong_bytes_become_right_and_are_counted(rt: HostRuntime) {
+    let code = UplinkCode::new();
+    let mut word = [0; 92];
+    for i in 0..10 {
+        word[i] = 0xff;
+    }
+    assert_eq!(rt; code.correct(&mut word), Ok(10));
+    assert!(rt; word == [0; 92]);
+    word[91] = 1;
+    assert_eq!(rt; code.correct(&mut word), Ok(1));
+    assert!(rt; word == [0; 92]);
+}
+
+#[test]
 fn the_product_of_nineteen_roots_is_no_code_word(rt: HostRuntime) {
     let mut polynomial = Poly::<32>::of(&[1]);
     for j in 120..139 {
@@ -80,6 +94,11 @@ fn the_code_of_a_basic_adsb_block_has_the_parity_of_its_definition(rt: HostRunti
     assert_eq!(rt; code.correct(&mut word), Ok(0));
     word[29] = 0xfe;
     assert!(rt; !code.is_codeword(&word));
+    for i in 0..5 {
+        word[i] = 0xff;
+    }
+    assert_eq!(rt; code.correct(&mut word), Ok(6));
+    assert!(rt; word == wanted);
 }
 
 #[test]

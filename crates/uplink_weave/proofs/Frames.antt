@@ -1,13 +1,13 @@
 -- Woven frames, payloads and counts.
-use Rattle.std.proofs.Common.{◌≡◌, ℕ, ◌+◌, ◌*◌, ◌-◌, ◌/◌, ◌%◌, ◌<◌, List, IsTrue, get_or, refl, sym, ◌∙◌, ap, arith, inl, inr}
+use Rattle.std.proofs.Common.{◌≡◌, ℕ, ◌+◌, ◌*◌, ◌-◌, ◌/◌, ◌%◌, ◌<◌, List, IsTrue, get_or, map, refl, sym, ◌∙◌, ap, arith, inl, inr}
 use Rattle.std.proofs.lemmas.Bool.{cases_lt, le-leb}
 use Rattle.std.proofs.lemmas.List.{ext_get_or, length-replicate, get_or-replicate}
 use Rattle.rs_code.specs.CodeWord.{IsInstance, are_near, bound, differences}
-use Rattle.rs_code.specs.Laws.{HasOneNearest}
-use Rattle.uplink_weave.specs.Woven.{block}
+use Rattle.rs_code.specs.Laws.{CountsDifferences, HasOneNearest}
+use Rattle.std.specs.List.{range_with_len}
+use Rattle.std.proofs.lemmas.List.FromFn.{length-map-range_with_len, get_or-map-range_with_len}
+use Rattle.uplink_weave.specs.Woven.{block, block_roots, IsWoven, HasCounts}
 use Rattle.uplink_weave.specs.Laws.{WovenGivesPayload, NearGivesPayload, IsUnique, BurstIsSpread}
-use Rattle.rs_code.proofs.Differences.{differences-same}
-use Rattle.uplink_weave.proofs.Differences.{differences-window}
 use Rattle.uplink_weave.proofs.Places.{length-block, get_or-block}
 
 pub near_gives_payload : NearGivesPayload
@@ -16,20 +16,20 @@ near_gives_payload payload woven air is near = record {
   parts = λ r h. (block r woven, record { code = is.code r h; near = near r h }, is.parts r h);
 }
 
-near_itself : (word : List ℕ) → IsTrue (are_near 20 word word)
-near_itself word =
-    let none = differences-same word in
+near_itself : (D : CountsDifferences) (word : List ℕ) → IsTrue (are_near 20 word word)
+near_itself D word =
+    let none = D.none word in
     le-leb (differences word word) (bound 20) (omega arith)
 
-pub woven_gives_payload : WovenGivesPayload
-woven_gives_payload payload air is = (
-  near_gives_payload payload air air is (λ r h. near_itself (block r air)),
+pub woven_gives_payload : CountsDifferences → WovenGivesPayload
+woven_gives_payload D payload air is = (
+  near_gives_payload payload air air is (λ r h. near_itself D (block r air)),
   record {
     six = length-replicate {A = ℕ} 6 0;
     each = λ r h.
-        let none = differences-same (block r air) in (
+        let none = D.none (block r air) in (
           block r air,
-          record { code = is.code r h; near = near_itself (block r air) },
+          record { code = is.code r h; near = near_itself D (block r air) },
           get_or-replicate {A = ℕ} 6 r 0 0 h ∙ sym none,
         );
   },
@@ -80,11 +80,11 @@ unique O = record {
   ];
 }
 
-pub burst_is_spread : BurstIsSpread
-burst_is_spread first air other long long' same r below =
+pub burst_is_spread : CountsDifferences → BurstIsSpread
+burst_is_spread D first air other long long' same r below =
     let l = length-block r air in
     let l' = length-block r other in
-    differences-window ((first + 5 - r) / 6) 10 (block r air) (block r other) (l ∙ sym l')
+    D.window ((first + 5 - r) / 6) 10 (block r air) (block r other) (l ∙ sym l')
     (λ k h outside.
     let inside : k < 92 = omega arith in
     get_or-block r air k inside
@@ -93,3 +93,17 @@ burst_is_spread first air other long long' same r below =
       | inr behind ↦ inr (omega arith)
     ])
     ∙ sym (get_or-block r other k inside))
+
+-- the counts of a frame whose blocks are near those of another
+pub near_counts :
+    (payload woven air : List ℕ) → IsWoven payload woven
+    → ((r : ℕ) → r < 6 → IsTrue (are_near block_roots (block r air) (block r woven)))
+    → HasCounts air (map (λ r. differences (block r air) (block r woven)) (range_with_len 0 6))
+near_counts payload woven air is near = record {
+  six = length-map-range_with_len (λ (r : ℕ). differences (block r air) (block r woven)) 0 6;
+  each = λ r h. (
+    block r woven,
+    record { code = is.code r h; near = near r h },
+    get_or-map-range_with_len (λ (i : ℕ). differences (block i air) (block i woven)) 0 6 r r 0 h (omega arith),
+  );
+}

@@ -1,17 +1,17 @@
 -- The functions of frames against what they are to give.
 use Rattle.std.proofs.Common.{◌≡◌, ◌↔◌, ℕ, zero, suc, ◌+◌, ◌*◌, ◌/◌, ◌%◌, ◌<◌, List, [], ◌∷◌, length, get_or, take, drop, replicate, Option, Some, None, lit<, refl, sym, ◌∙◌, ap, subst, arith, inl, inr}
 use Rattle.std.specs.Option.{is_none, unwrap_or}
-use Rattle.std.proofs.lemmas.Bool.{cases_lt}
+use Rattle.std.proofs.lemmas.Bool.{cases_lt, le-leb}
 use Rattle.std.proofs.lemmas.List.{ext_get_or, get_or-drop, get_or_past}
 use Rattle.std.proofs.lemmas.List.FromFn.{length-map-range_with_len, get_or-map-range_with_len}
-use Rattle.rs_code.specs.CodeWord.{IsCodeWord, IsNear, IsCorrectable, differences}
+use Rattle.rs_code.specs.CodeWord.{IsCodeWord, IsNear, IsCorrectable, differences, bound}
 use Rattle.rs_code.specs.Functions.{encoded}
 use Rattle.rs_code.specs.Laws.{HasOneEncoded, IsCorrected}
 use Rattle.uplink_weave.specs.Woven.{block, IsWoven, AllCorrectable, HasPayload, HasCounts, IsLostBlock}
 use Rattle.uplink_weave.specs.Functions.{part, woven, corrected_block, payload_in, counts_in, lost_block_in}
-use Rattle.uplink_weave.specs.Laws.{IsTheFrame, GivesPayload, FrameGivesPayload}
+use Rattle.uplink_weave.specs.Laws.{IsTheFrame, GivesPayload, FrameGivesPayload, WovenGivesPayload, NearFrameGivesPayload, BurstIsSpread, BurstGivesPayload}
 use Rattle.uplink_weave.proofs.Places.{length-block, is_block, same_frame}
-use Rattle.uplink_weave.proofs.Frames.{uplink, woven_gives_payload}
+use Rattle.uplink_weave.proofs.Frames.{uplink, near_gives_payload, near_counts}
 use Rattle.uplink_weave.proofs.Parts.{length-part, part_from, part_to, joined_to, joined_from, first_from, first_to, none_from, none_to, word_there, no_word, cases_option, joined_none}
 
 -- frames that are woven
@@ -252,12 +252,28 @@ gives_payload C = record {
   none_lost = λ air. (none_lost_from C air, none_lost_to C air);
 }
 
-pub frame_gives_payload : IsTheFrame → GivesPayload → FrameGivesPayload
-frame_gives_payload T G payload full bytes =
+pub frame_gives_payload : WovenGivesPayload → IsTheFrame → GivesPayload → FrameGivesPayload
+frame_gives_payload W T G payload full bytes =
     let made = T.made payload full bytes in
-    let gives = woven_gives_payload payload (woven payload) made.0 in
+    let gives = W payload (woven payload) made.0 in
     let all : AllCorrectable (woven payload) = λ r h. let some = gives.0.parts r h in (some.0, some.1) in (
       (G.payload (woven payload) payload).1 gives.0,
       sym ((G.counts (woven payload) (replicate 6 0) all).1 gives.1),
       (G.none_lost (woven payload)).1 all,
     )
+
+pub near_frame_gives_payload : IsTheFrame → GivesPayload → NearFrameGivesPayload
+near_frame_gives_payload T G payload air full bytes near =
+    let made = T.made payload full bytes in
+    let gives = near_gives_payload payload (woven payload) air made.0 near in
+    let all : AllCorrectable air = λ r h. let some = gives.parts r h in (some.0, some.1) in (
+      (G.payload air payload).1 gives,
+      sym ((G.counts air _ all).1 (near_counts payload (woven payload) air made.0 near)),
+      (G.none_lost air).1 all,
+    )
+
+pub burst_gives_payload : IsTheFrame → BurstIsSpread → NearFrameGivesPayload → BurstGivesPayload
+burst_gives_payload T B N payload air first full bytes long same =
+    let spread = B first air (woven payload) long (T.long payload) same in
+    (N payload air full bytes
+    (λ r h. le-leb (differences (block r air) (block r (woven payload))) (bound 20) (let few = spread r h in omega arith))).0

@@ -1,5 +1,4 @@
 pub mod Places
-pub mod Differences
 pub mod Frames
 pub mod Parts
 pub mod Functions

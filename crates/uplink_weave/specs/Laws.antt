@@ -1,5 +1,6 @@
 -- The laws of woven frames.
-use Rattle.std.specs.Prelude.{◌≡◌, ◌↔◌, ℕ, ◌+◌, ◌<◌, ◌≤◌, ◌⊎◌, List, length, slice_index, replicate, IsTrue, Some, None}
+use Rattle.std.specs.Prelude.{◌≡◌, ◌↔◌, ℕ, ◌+◌, ◌<◌, ◌≤◌, ◌⊎◌, List, length, slice_index, replicate, map, IsTrue, Some, None}
+use Rattle.std.specs.List.{range_with_len}
 use Rattle.rs_code.specs.CodeWord.{are_near, differences}
 use Rattle.uplink_weave.specs.Woven.{block, block_roots, IsWoven, AllCorrectable, HasPayload, HasCounts, IsLostBlock}
 use Rattle.uplink_weave.specs.Functions.{woven, payload_in, counts_in, lost_block_in}
@@ -49,3 +50,20 @@ FrameGivesPayload =
     (payload : List ℕ) → length payload ≡ 432 → ((i : ℕ) → slice_index payload i < 256)
     → (payload_in (woven payload) ≡ Some payload) × (counts_in (woven payload) ≡ replicate 6 0)
     × (lost_block_in (woven payload) ≡ None)
+
+-- a frame whose blocks are near those of the frame of a payload has that payload, and each count is the number of places in
+-- which its block differs
+abbrev pub NearFrameGivesPayload : Type 0
+NearFrameGivesPayload =
+    (payload air : List ℕ) → length payload ≡ 432 → ((i : ℕ) → slice_index payload i < 256)
+    → ((r : ℕ) → r < 6 → IsTrue (are_near block_roots (block r air) (block r (woven payload))))
+    → (payload_in air ≡ Some payload)
+    × (counts_in air ≡ map (λ r. differences (block r air) (block r (woven payload))) (range_with_len 0 6))
+    × (lost_block_in air ≡ None)
+
+-- a frame that differs from the frame of a payload only inside 60 consecutive places has that payload
+abbrev pub BurstGivesPayload : Type 0
+BurstGivesPayload =
+    (payload air : List ℕ) (first : ℕ) → length payload ≡ 432 → ((i : ℕ) → slice_index payload i < 256) → length air ≡ 552
+    → ((place : ℕ) → (place < first) ⊎ (first + 60 ≤ place) → slice_index air place ≡ slice_index (woven payload) place)
+    → payload_in air ≡ Some payload

@@ -1,14 +1,16 @@
 //! Laws of the definitions, for the crates above: each is the contract of a function that does nothing.
-ghost use Rattle.uplink_weave.specs.Laws.{BurstIsSpread, FrameGivesPayload, GivesPayload, IsTheFrame};
-ghost use Rattle.uplink_weave.specs.Laws.{IsUnique, NearGivesPayload, WovenGivesPayload};
+ghost use Rattle.uplink_weave.specs.Laws.{BurstGivesPayload, BurstIsSpread, FrameGivesPayload, GivesPayload, IsTheFrame};
+ghost use Rattle.uplink_weave.specs.Laws.{IsUnique, NearFrameGivesPayload, NearGivesPayload, WovenGivesPayload};
 
-use rs_code::{corrected_is_nearest, one_encoded, one_nearest};
+use rs_code::{corrected_is_nearest, differences_laws, one_encoded, one_nearest};
 
 /// The law that a woven frame has the payload that it is woven of, with no byte to be changed.
 #[inline]
 pub fn woven_gives_payload()
     ensures { WovenGivesPayload }
-{}
+{
+    differences_laws()
+}
 
 /// The law that a frame whose blocks are near those of a woven frame has the payload of that frame.
 #[inline]
@@ -28,7 +30,9 @@ pub fn unique_payload()
 #[inline]
 pub fn burst_is_spread()
     ensures { BurstIsSpread }
-{}
+{
+    differences_laws()
+}
 
 /// The law that the definition `woven` gives the frame that is woven of a payload, and that there is no other.
 #[inline]
@@ -52,6 +56,27 @@ pub fn functions_of_a_frame()
 pub fn frame_gives_payload()
     ensures { FrameGivesPayload }
 {
+    woven_gives_payload();
     woven_is_the_frame();
     functions_of_a_frame()
+}
+
+/// The law that a frame whose blocks are near those of the frame of a payload has that payload, and that each of its counts
+/// is the number of places in which its block differs.
+#[inline]
+pub fn near_frame_gives_payload()
+    ensures { NearFrameGivesPayload }
+{
+    woven_is_the_frame();
+    functions_of_a_frame()
+}
+
+/// The law that a frame which differs from the frame of a payload only inside 60 consecutive places has that payload.
+#[inline]
+pub fn burst_gives_payload()
+    ensures { BurstGivesPayload }
+{
+    woven_is_the_frame();
+    burst_is_spread();
+    near_frame_gives_payload()
 }

@@ -9,6 +9,7 @@ mod tests;
 
 pub use frame::{Lost, unweave, weave};
 pub use laws::{
-    burst_is_spread, frame_gives_payload, functions_of_a_frame, near_gives_payload, unique_payload,
-    woven_gives_payload, woven_is_the_frame,
+    burst_gives_payload, burst_is_spread, frame_gives_payload, functions_of_a_frame,
+    near_frame_gives_payload, near_gives_payload, unique_payload, woven_gives_payload,
+    woven_is_the_frame,
 };

@@ -1,7 +1,7 @@
-use crate::blocks::read_block;
 use crate::{
-    Lost, burst_is_spread, frame_gives_payload, functions_of_a_frame, near_gives_payload,
-    unique_payload, unweave, weave, woven_gives_payload, woven_is_the_frame,
+    Lost, burst_gives_payload, burst_is_spread, frame_gives_payload, functions_of_a_frame,
+    near_frame_gives_payload, near_gives_payload, unique_payload, unweave, weave,
+    woven_gives_payload, woven_is_the_frame,
 };
 
 // A header without a position and one information frame, and zeros behind them.
@@ -15,23 +15,6 @@ fn one_report() -> [u8; 432] {
         payload[i] = front[i];
     }
     payload
-}
-
-// In how many bytes each block of a frame differs from that of another.
-fn changed_bytes(air: &[u8; 552], other: &[u8; 552]) -> [usize; 6] {
-    let mut changed = [0; 6];
-    for number in 0..6 {
-        let mut word = [0; 92];
-        let mut other_word = [0; 92];
-        read_block(air, number, &mut word);
-        read_block(other, number, &mut other_word);
-        changed[number] = word
-            .iter()
-            .zip(other_word.iter())
-            .filter(|(byte, other)| byte != other)
-            .count();
-    }
-    changed
 }
 
 #[test]
@@ -59,22 +42,28 @@ fn a_woven_report_gives_its_payload_back(rt: HostRuntime) {
 }
 
 #[test]
-fn a_burst_of_sixty_touches_ten_bytes_of_each_block(rt: HostRuntime) {
+fn a_burst_of_sixty_is_mended_with_ten_bytes_of_each_block(rt: HostRuntime) {
     burst_is_spread();
-    let mut sent = [0; 552];
-    weave(&one_report(), &mut sent);
-    let mut heard = sent;
+    burst_gives_payload();
+    near_frame_gives_payload();
+    let payload = one_report();
+    let mut air = [0; 552];
+    weave(&payload, &mut air);
     for place in 100..160 {
-        heard[place] ^= 0xff;
+        air[place] ^= 0xff;
     }
-    assert_eq!(rt; changed_bytes(&sent, &heard), [10; 6]);
+    let mut back = [0xff; 432];
+    assert_eq!(rt; unweave(&air, &mut back), Ok([10; 6]));
+    assert!(rt; back == payload);
 }
 
 #[test]
-fn a_wrong_byte_loses_its_block_and_the_payload_stays(rt: HostRuntime) {
+fn eleven_wrong_bytes_lose_their_block_and_the_payload_stays(rt: HostRuntime) {
     let mut air = [0; 552];
     weave(&one_report(), &mut air);
-    air[6 * 40 + 2] ^= 0x10;
+    for k in 0..11 {
+        air[6 * k + 2] ^= 0x10;
+    }
     let mut payload = [7; 432];
     assert_eq!(rt; unweave(&air, &mut payload), Err(Lost { block: 2 }));
     assert!(rt; payload == [7; 432]);
@@ -83,9 +72,24 @@ fn a_wrong_byte_loses_its_block_and_the_payload_stays(rt: HostRuntime) {
 #[test]
 fn of_two_lost_blocks_the_first_is_named(rt: HostRuntime) {
     let mut air = [0; 552];
-    air[6 * 91 + 5] = 1;
-    air[3] = 1;
+    for k in 0..11 {
+        air[6 * k + 5] = 1;
+        air[6 * k + 3] = 1;
+    }
     let mut payload = [7; 432];
     assert_eq!(rt; unweave(&air, &mut payload), Err(Lost { block: 3 }));
     assert!(rt; payload == [7; 432]);
+}
+
+#[test]
+fn the_counts_are_those_of_their_blocks(rt: HostRuntime) {
+    let mut air = [0; 552];
+    for number in 0..6 {
+        for k in 0..number + 1 {
+            air[6 * (80 + k) + number] = 1;
+        }
+    }
+    let mut payload = [7; 432];
+    assert_eq!(rt; unweave(&air, &mut payload), Ok([1, 2, 3, 4, 5, 6]));
+    assert!(rt; payload == [0; 432]);
 }

@@ -1,0 +1,94 @@
+-- A multiple of a generator is taken away from a word: the power sums at its roots stay.
+use Rattle.std.proofs.Common.{◌≡◌, ℕ, zero, suc, ◌+◌, ◌-◌, ◌*◌, ◌<◌, ◌≤◌, List, [], ◌∷◌, ◌++◌, length, get_or, take, drop, replicate, refl, sym, ◌∙◌, ap, ap₂, subst, arith, drop-cons, add-one, length-append, length-drop}
+use Rattle.std.specs.Int.Bits.{bit_xor, xor_zero_r, xor_self}
+use Rattle.std.proofs.lemmas.List.{drop_at, length-take-le, length-replicate}
+use Rattle.gf256_core.specs.Field.{IsField}
+use Rattle.poly256.specs.Polynomial.{element_product, element_power, sum_of, scaled, raised}
+use Rattle.rs_code.specs.CodeWord.{power_sum}
+use Rattle.rs_code.proofs.Xors.{product-zero_right}
+use Rattle.rs_code.proofs.Places.{get_or-zeros}
+use Rattle.rs_code.proofs.PowerSums.{power_sum-cons_zero, power_sum-zeros, power_sum-sum, power_sum-append}
+use Rattle.rs_code.proofs.Kernels.{IsRow, IsRow-multiple, length-scaled, get_or-scaled}
+use Rattle.rs_code.proofs.Pairing.{get_or-sum}
+
+pub raised-zero : (xs : List ℕ) → raised 0 xs ≡ xs
+unfolding raised
+raised-zero xs = refl
+
+pub length-sum : (xs ys : List ℕ) → length ys ≤ length xs → length (sum_of xs ys) ≡ length xs
+unfolding sum_of
+length-sum [] [] h = refl
+length-sum [] (y ∷ ys) h = absurd (omega arith)
+length-sum (x ∷ xs) [] h = refl
+length-sum (x ∷ xs) (y ∷ ys) h = ap suc (length-sum xs ys (omega arith))
+
+get_or-zeros_behind : (xs : List ℕ) (n k : ℕ) → get_or (xs ++ replicate n 0) k 0 ≡ get_or xs k 0
+get_or-zeros_behind [] n k = get_or-zeros n k
+get_or-zeros_behind (x ∷ xs) n zero = refl
+get_or-zeros_behind (x ∷ xs) n (suc k) = get_or-zeros_behind xs n k
+
+-- the multiple of the generator that begins with an element is 0 at the roots
+pub multiple-zero :
+    (F : IsField 391) (byte j : ℕ) (row : List ℕ) → byte < 256 → power_sum (1 ∷ row) j ≡ 0
+    → power_sum (byte ∷ scaled byte row) j ≡ 0
+multiple-zero F byte j row fits root =
+    let is : IsRow (length row) j byte (scaled byte row) =
+    IsRow-multiple F (length row) j byte row (scaled byte row) fits refl (length-scaled byte row) (get_or-scaled F byte row) root in
+    is.zero
+
+taken-places :
+    (b : ℕ) (back row : List ℕ) (n k : ℕ)
+    → get_or (0 ∷ sum_of back row) k 0 ≡ bit_xor (get_or (b ∷ back) k 0) (get_or ((b ∷ row) ++ replicate n 0) k 0)
+taken-places b back row n zero = sym (xor_self b)
+taken-places b back row n (suc k) =
+    get_or-sum back row k ∙ ap (bit_xor (get_or back k 0)) (sym (get_or-zeros_behind row n k))
+
+-- a row that is 0 with its byte is taken from what stands behind the byte, and the byte goes
+pub taken_away :
+    (F : IsField 391) (b j : ℕ) (back row : List ℕ) → length row ≤ length back → power_sum (b ∷ row) j ≡ 0
+    → power_sum (sum_of back row) j ≡ power_sum (b ∷ back) j
+taken_away F b j back row h root =
+    let l : length (b ∷ back) ≡ length (0 ∷ sum_of back row) = let m = length-sum back row h in omega arith in
+    let l' : length ((b ∷ row) ++ replicate (length back - length row) 0) ≡ length (0 ∷ sum_of back row) =
+    let m = length-sum back row h in
+    let p = length-append (b ∷ row) (replicate (length back - length row) 0) in
+    let q = length-replicate {A = ℕ} (length back - length row) 0 in omega arith in
+    sym (power_sum-cons_zero F (sum_of back row) j)
+    ∙ power_sum-sum F (0 ∷ sum_of back row) (b ∷ back) ((b ∷ row) ++ replicate (length back - length row) 0) l l'
+    (taken-places b back row (length back - length row)) j
+    ∙ ap (bit_xor (power_sum (b ∷ back) j))
+    (power_sum-append F (b ∷ row) (replicate (length back - length row) 0) j
+    ∙ ap₂ bit_xor
+    (ap (element_product (element_power 2 (j * length {A = ℕ} (replicate (length back - length row) 0)))) root
+    ∙ product-zero_right F (element_power 2 (j * length {A = ℕ} (replicate (length back - length row) 0))))
+    (power_sum-zeros F (replicate (length back - length row) 0) (get_or-zeros (length back - length row)) j)
+    ∙ xor_zero_r 0)
+    ∙ xor_zero_r (power_sum (b ∷ back) j)
+
+-- one step of a division
+pub division-step :
+    (F : IsField 391) (word front row : List ℕ) (place j : ℕ) → place + length row < length word
+    → front ≡ take (place + 1) word → power_sum (get_or word place 0 ∷ row) j ≡ 0
+    → power_sum (drop (place + 1) (front ++ sum_of (drop (place + 1) word) row)) j ≡ power_sum (drop place word) j
+division-step F word front row place j h is_front root =
+    let inside : place < length word = omega arith in
+    let long : length front ≡ place + 1 = ap length is_front ∙ length-take-le (place + 1) word (omega arith) in
+    ap (λ (w : List ℕ). power_sum w j) (drop_at front (sum_of (drop (place + 1) word) row) (place + 1) long)
+    ∙ taken_away F (get_or word place 0) j (drop (place + 1) word) row
+    (let l = length-drop (place + 1) word in omega arith) root
+    ∙ ap (λ (w : List ℕ). power_sum w j)
+    (ap (λ (n : ℕ). get_or word place 0 ∷ drop n word) (add-one place) ∙ sym (drop-cons word place 0 inside))
+
+-- a front with the remainder of the front and zeros behind it
+pub encoded-zero :
+    (F : IsField 391) (front zeros rest : List ℕ) (j : ℕ) → length zeros ≡ length rest → ((k : ℕ) → get_or zeros k 0 ≡ 0)
+    → power_sum rest j ≡ power_sum (front ++ zeros) j → power_sum (front ++ rest) j ≡ 0
+encoded-zero F front zeros rest j l none same =
+    power_sum-append F front rest j
+    ∙ ap₂ bit_xor
+    (ap (λ (n : ℕ). element_product (element_power 2 (j * n)) (power_sum front j)) (sym l))
+    (same
+    ∙ power_sum-append F front zeros j
+    ∙ ap (bit_xor (element_product (element_power 2 (j * length zeros)) (power_sum front j))) (power_sum-zeros F zeros none j)
+    ∙ xor_zero_r (element_product (element_power 2 (j * length zeros)) (power_sum front j)))
+    ∙ xor_self (element_product (element_power 2 (j * length zeros)) (power_sum front j))

@@ -1,0 +1,38 @@
+use Rattle.std.proofs.Common.{◌≡◌, ◌<◌, ◌≤◌, ◌+◌, ◌-◌, ◌∷◌, ◌++◌, ℕ, List, length, get_or, take, drop, arith, ap, ap₂, sym, ◌∙◌, subst, length-append}
+use Rattle.std.proofs.lemmas.List.{get_or-take, take_at}
+use Rattle.poly256.specs.Polynomial.{element_product, sum_of, scaled, raised}
+use Rattle.rs_code.specs.CodeWord.{power_sum}
+use Rattle.rs_code.proofs.Kernels.{length-scaled}
+use Rattle.rs_code.proofs.Dividing.{division-step, multiple-zero, raised-zero}
+use Rattle.rs_code.proofs.remainder.divide_by.Goals as goal
+
+pub loop-place-preserved : goal.loop-place-preserved
+loop-place-preserved c =
+    let inside = c.loop-place-test.true in
+    let long = c.loop-place.invariant.long in
+    let byte : get_or c.split_at_mut-front.result.0.now c.loop-place.place 0 ≡ get_or c.loop-place.word c.loop-place.place 0 =
+    ap (λ (w : List ℕ). get_or w c.loop-place.place 0) c.split_at_mut-front.ensures.front
+    ∙ get_or-take (c.loop-place.place + 1) c.loop-place.word c.loop-place.place 0 (omega arith) in
+    record {
+      long =
+          length-append c.split_at_mut-front.result.0.now c.add_multiple.new.room
+          ∙ (let a = c.split_at_mut-front.ensures.front_len in let b = c.split_at_mut-front.ensures.back_len in
+          let d = c.add_multiple.auto.room in omega arith);
+      sums = λ j root.
+          ap (λ (w : List ℕ). power_sum (drop (c.loop-place.place + 1) (c.split_at_mut-front.result.0.now ++ w)) j)
+          (c.add_multiple.ensures ∙ ap (sum_of c.split_at_mut-front.result.1.now) (raised-zero (scaled c.of.result c.args.generator.now)) ∙ ap₂ (λ (xs : List ℕ) (b : ℕ). sum_of xs (scaled b c.args.generator.now)) c.split_at_mut-front.ensures.back (c.of.ensures.value ∙ byte))
+          ∙ division-step c.field_laws.ensures c.loop-place.word c.split_at_mut-front.result.0.now
+          (scaled (get_or c.loop-place.word c.loop-place.place 0) c.args.generator.now) c.loop-place.place j
+          (let l = length-scaled (get_or c.loop-place.word c.loop-place.place 0) c.args.generator.now in omega arith) c.split_at_mut-front.ensures.front
+          (multiple-zero c.field_laws.ensures (get_or c.loop-place.word c.loop-place.place 0) j c.args.generator.now
+          (subst (λ (x : ℕ). x < 256) (c.of.ensures.value ∙ byte) c.of.ensures.fits) root)
+          ∙ c.loop-place.invariant.sums j root;
+    }
+
+pub returns : goal.returns
+returns c = λ j root.
+    let low_place = c.loop-place-test.false in
+    let high_place = c.loop-place.auto.place-end in
+    ap (λ (n : ℕ). power_sum (drop n c.loop-place.word) j)
+    (let e : length c.args.word.now - length c.args.generator.now ≡ c.loop-place.place = omega arith in e)
+    ∙ c.loop-place.invariant.sums j root

@@ -1,0 +1,77 @@
+//! A damaged word, mended.
+ghost use Rattle.std.specs.Prelude.{◌≡◌, ◌+◌, ◌<◌, ◌≤◌, ℕ, List, length, slice_index};
+ghost use Rattle.rs_code.specs.CodeWord.{IsInstance, IsNear, differences, power_sum};
+
+use crate::locator::{byte_law, find_locator};
+use crate::product::times;
+use crate::values::{add_errors, solve};
+use crate::wrong_places::{find_places, write_points};
+use gf256_core::{Uat, UatTables, field_laws};
+use poly256::{few_roots, value_laws};
+
+// The value of a word at 2 raised to `power`.
+#[inline]
+fn sum_of_word(word: &[u8], power: usize) -> Uat
+    requires { power < 255 }
+    ensures value { result ≡ power_sum word.now power }
+    ensures fits { result < 256 }
+{
+    field_laws::<UatTables>();
+    let point = Uat::pow_alpha(power as u32);
+    let mut sum = Uat::of(0);
+    for byte in word {
+        sum = times(point, sum).add(Uat::of(*byte));
+    }
+    sum
+}
+
+// The values of a word at `ROOTS` powers of 2, from `first` on.
+pub(crate) fn sums_of<const ROOTS: usize>(word: &[u8], first: usize) -> [u8; ROOTS]
+    requires { first + ROOTS ≤ 255 }
+    ensures long { length result ≡ ROOTS }
+    ensures sums { (k : ℕ) → k < ROOTS → slice_index result k ≡ power_sum word.now (first + k) }
+{
+    let mut sums = [0; ROOTS];
+    for k in 0..ROOTS {
+        sums[k] = sum_of_word(word, first + k).byte();
+    }
+    sums
+}
+
+// In how many places two words of one length differ.
+pub(crate) fn count_differences(word: &[u8], other: &[u8]) -> usize
+    requires { length word.now ≡ length other.now }
+    ensures { result ≡ differences word.now other.now }
+{
+    let mut count = 0;
+    for (i, byte) in word.iter().enumerate() {
+        if *byte != other[i] {
+            count += 1;
+        }
+    }
+    count
+}
+
+// Makes a word the code word that is near it, if there is one. The sums are those of the word at the roots.
+pub(crate) fn mend<const N: usize, const ROOTS: usize, const FIRST: usize>(
+    word: &mut [u8; N],
+    sums: &[u8; ROOTS],
+)
+    requires instance { IsInstance N ROOTS FIRST }
+    requires sums { (k : ℕ) → k < ROOTS → slice_index sums.now k ≡ power_sum word.old (FIRST + k) }
+    ensures { (other : List ℕ) → IsNear N ROOTS FIRST word.old other → word.new ≡ other }
+{
+    field_laws::<UatTables>();
+    few_roots();
+    value_laws();
+    byte_law(word);
+    let mut locator = [0; N];
+    let degree = find_locator(sums, &mut locator);
+    let mut places = [0; N];
+    let found = find_places(&locator[..degree + 1], &mut places);
+    let mut points = [0; N];
+    write_points(&places[..found], &mut points);
+    let mut values = *sums;
+    solve(&points[..found], &mut values[..found]);
+    add_errors(word, &places[..found], &values[..found], FIRST);
+}
