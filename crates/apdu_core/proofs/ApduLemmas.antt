@@ -10,7 +10,10 @@ use Rattle.fisb_time.specs.declared.form.TimeForm.{TimeForm}
 use Rattle.fisb_time.specs.declared.form.TimeForm.TheVariants.{Minute, Second, DayMinute, DaySecond}
 use Rattle.fisb_time.specs.declared.form.TimeFields.{TimeFields}
 use Rattle.bit_fields.specs.Bits.{Field, joined, number_of, field_at}
-use Rattle.apdu_core.specs.Apdu.{Apdu, ApduFault, short, flagged, bad_segment, Segmentation, form_number, form_of, time_fields, segment_fields, time_width, header_width, header_length, header_fields, header_with, fill_width, time_in, segmentation_in, form_in, is_segmented_in, is_bad, read_header, apdu_of}
+use Rattle.apdu_core.specs.declared.unit.Seg.{Seg}
+use Rattle.apdu_core.specs.declared.fault.ApduFault.{ApduFault}
+use Rattle.apdu_core.specs.declared.fault.ApduFault.TheVariants.{Short, Flagged, BadSegment}
+use Rattle.apdu_core.specs.Apdu.{Apdu, form_number, form_of, time_fields, segment_fields, time_width, header_width, header_length, header_fields, header_with, fill_width, time_in, segmentation_in, form_in, is_segmented_in, is_bad, apdu_of_header, apdu_of}
 use Rattle.apdu_core.specs.Spelling.{FitsTime, FitsSegment, FitsSegmentation, FitsApdu, AreBytes, SpellsApdu, IsReadingOf}
 use Rattle.apdu_core.proofs.ByteLemmas.{number_of-append, number_of-fits, length-bytes_high_first, bytes_high_first-bytes}
 use Rattle.apdu_core.proofs.FieldLemmas.{AreWithin, AreAt, bytes-from_at, at-from_bytes}
@@ -71,18 +74,18 @@ form_back DayMinute = refl
 form_back DaySecond = refl
 
 -- what the tests of a reader let through
-passed : (a b c : Bool) (r : Result Apdu ApduFault) (v : Apdu) → (if a then Err short else (if b then Err flagged else (if c then Err short else r))) ≡ Ok v
+passed : (a b c : Bool) (r : Result Apdu ApduFault) (v : Apdu) → (if a then Err Short else (if b then Err Flagged else (if c then Err Short else r))) ≡ Ok v
     → (a ≡ false) × (b ≡ false) × (c ≡ false) × (r ≡ Ok v)
 passed true b c r v e = absurd (cc)
 passed false true c r v e = absurd (cc)
 passed false false true r v e = absurd (cc)
 passed false false false r v e = (refl, refl, refl, e)
 
-pass : (a b c : Bool) (r : Result Apdu ApduFault) → a ≡ false → b ≡ false → c ≡ false → (if a then Err short else (if b then Err flagged else (if c then Err short else r))) ≡ r
+pass : (a b c : Bool) (r : Result Apdu ApduFault) → a ≡ false → b ≡ false → c ≡ false → (if a then Err Short else (if b then Err Flagged else (if c then Err Short else r))) ≡ r
 pass a b c r p q s = rw (p, q, s) refl
 
 -- a segment that fits is not bad
-good : (s : Segmentation) → FitsSegment s → is_bad s ≡ false
+good : (s : Seg) → FitsSegment s → is_bad s ≡ false
 good s h =
     let first = h.first in
     let last = h.last in
@@ -97,10 +100,10 @@ record IsHeaderOf (a : Apdu) (header : List ℕ) : Type 0 where
   time : a.time ≡ time_in a.form header
   segmentation : a.segmentation ≡ (if is_some a.segmentation then Some (segmentation_in a.form header) else None)
 
-same_segmentation : (form : TimeForm) (s : Option Segmentation) (header : List ℕ) (rest : List Field) → AreAt header (17 + time_width form) (segment_fields s ++ rest)
+same_segmentation : (form : TimeForm) (s : Option Seg) (header : List ℕ) (rest : List Field) → AreAt header (17 + time_width form) (segment_fields s ++ rest)
     → s ≡ (if is_some s then Some (segmentation_in form header) else None)
 same_segmentation form None header rest h = refl
-same_segmentation form (Some s) header rest h = ap (λ (x : Segmentation). Some x) (segment-from_at form s header rest h)
+same_segmentation form (Some s) header rest h = ap (λ (x : Seg). Some x) (segment-from_at form s header rest h)
 
 header-from_at : (fill : ℕ) (a : Apdu) (header : List ℕ) → FitsApdu a → AreAt header 0 (fields_with fill a) → IsHeaderOf a header
 header-from_at fill a header fits h =
@@ -117,7 +120,7 @@ header-from_at fill a header fits h =
       segmentation = same_segmentation a.form a.segmentation header last time.1;
     }
 
-same_apdu : (a : Apdu) (product : ℕ) (form : TimeForm) (time : TimeFields) (segmentation : Option Segmentation) (payload : List ℕ)
+same_apdu : (a : Apdu) (product : ℕ) (form : TimeForm) (time : TimeFields) (segmentation : Option Seg) (payload : List ℕ)
     → a.product ≡ product → a.form ≡ form → a.time ≡ time → a.segmentation ≡ segmentation → a.payload ≡ payload
     → a ≡ record { product = product; form = form; time = time; segmentation = segmentation; payload = payload }
 same_apdu a product form time segmentation payload p q r u v =
@@ -125,12 +128,12 @@ same_apdu a product form time segmentation payload p q r u v =
     let same : made ≡ record { product = product; form = form; time = time; segmentation = segmentation; payload = payload } = cc in
     same
 
-not_bad : (o : Option Segmentation) (s : Segmentation) → FitsSegmentation o → o ≡ (if is_some o then Some s else None) → (is_some o && is_bad s) ≡ false
+not_bad : (o : Option Seg) (s : Seg) → FitsSegmentation o → o ≡ (if is_some o then Some s else None) → (is_some o && is_bad s) ≡ false
 not_bad None s fits e = refl
-not_bad (Some t) s fits e = let same : t ≡ s = cc in subst (λ (x : Segmentation). is_bad x ≡ false) same (good t fits)
+not_bad (Some t) s fits e = let same : t ≡ s = cc in subst (λ (x : Seg). is_bad x ≡ false) same (good t fits)
 
 -- what is read of a header that has these values
-read-from_header : (a : Apdu) (header : List ℕ) → IsHeaderOf a header → FitsSegmentation a.segmentation → read_header a.form (is_some a.segmentation) header a.payload ≡ Ok a
+read-from_header : (a : Apdu) (header : List ℕ) → IsHeaderOf a header → FitsSegmentation a.segmentation → apdu_of_header a.form (is_some a.segmentation) header a.payload ≡ Ok a
 read-from_header a header h fits =
     let value : Apdu = record {
       product = field_at header 3 11;
@@ -140,10 +143,10 @@ read-from_header a header h fits =
       payload = a.payload;
     } in
     let same : a ≡ value = same_apdu a _ _ _ _ _ h.product refl h.time h.segmentation refl in
-    cond-false (is_some a.segmentation && is_bad (segmentation_in a.form header)) (Err bad_segment) (Ok value) (not_bad a.segmentation (segmentation_in a.form header) fits h.segmentation)
+    cond-false (is_some a.segmentation && is_bad (segmentation_in a.form header)) (Err BadSegment) (Ok value) (not_bad a.segmentation (segmentation_in a.form header) fits h.segmentation)
     ∙ ap (λ (x : Apdu). Ok x) (sym same)
 
-bit_back : (s : Option Segmentation) → ((if is_some s then 1 else 0) == 1) ≡ is_some s
+bit_back : (s : Option Seg) → ((if is_some s then 1 else 0) == 1) ≡ is_some s
 bit_back None = refl
 bit_back (Some s) = refl
 
@@ -153,7 +156,7 @@ apdu_of-header : (a : Apdu) (header : List ℕ) → AreBytes header → length h
 unfolding apdu_of
 apdu_of-header a header b size h fits =
     let body = header ++ a.payload in
-    let step : TimeForm → Bool → Result Apdu ApduFault = λ f s. read_header f s (take (header_length f s) body) (drop (header_length f s) body) in
+    let step : TimeForm → Bool → Result Apdu ApduFault = λ f s. apdu_of_header f s (take (header_length f s) body) (drop (header_length f s) body) in
     let least = header_least a.form (is_some a.segmentation) in
     let enough : 4 ≤ length header = omega arith in
     let lengths = length-append header a.payload in
@@ -171,8 +174,8 @@ apdu_of-header a header b size h fits =
     (step (form_in body) (is_segmented_in body)) there no_flags there_whole
     ∙ ap (λ (f : TimeForm). step f (is_segmented_in body)) form
     ∙ ap (step a.form) segmented
-    ∙ ap (λ (bytes : List ℕ). read_header a.form (is_some a.segmentation) bytes (drop (header_length a.form (is_some a.segmentation)) body)) (take_at header a.payload _ size)
-    ∙ ap (λ (bytes : List ℕ). read_header a.form (is_some a.segmentation) header bytes) (drop_at header a.payload _ size)
+    ∙ ap (λ (bytes : List ℕ). apdu_of_header a.form (is_some a.segmentation) bytes (drop (header_length a.form (is_some a.segmentation)) body)) (take_at header a.payload _ size)
+    ∙ ap (λ (bytes : List ℕ). apdu_of_header a.form (is_some a.segmentation) header bytes) (drop_at header a.payload _ size)
     ∙ read-from_header a header h fits
 
 -- a body that spells an APDU is read as that APDU
@@ -186,7 +189,7 @@ read-from_spelled body a (fill, h) =
     ap apdu_of h.bits ∙ apdu_of-header a header (bytes_high_first-bytes n number) size (header-from_at fill a header h.fits there) h.fits.segmentation
 
 -- the other way round: the fields of what is read stand in the header
-at-from_fill : (form : TimeForm) (s : Option Segmentation) (header : List ℕ) (width : ℕ) → s ≡ (if is_some s then Some (segmentation_in form header) else None)
+at-from_fill : (form : TimeForm) (s : Option Seg) (header : List ℕ) (width : ℕ) → s ≡ (if is_some s then Some (segmentation_in form header) else None)
     → AreAt header (17 + time_width form) (segment_fields s ++ record { width = width; number = field_at header (header_width form (is_some s)) width } ∷ [])
 at-from_fill form None header width e =
     let place : 17 + time_width form + 0 ≡ 17 + time_width form = omega arith in
@@ -196,7 +199,7 @@ at-from_fill form (Some s) header width e =
     let place : 17 + time_width form + 28 ≡ 45 + time_width form = omega arith in
     let last : List Field = record { width = width; number = field_at header (17 + time_width form + 28) width } ∷ [] in
     let behind : AreAt header (45 + time_width form) last = (ap (λ (k : ℕ). field_at header k width) place, tt) in
-    subst (λ (x : Segmentation). AreAt header (17 + time_width form) (segment_fields (Some x) ++ last)) same (at-from_segment form header last behind)
+    subst (λ (x : Seg). AreAt header (17 + time_width form) (segment_fields (Some x) ++ last)) same (at-from_segment form header last behind)
 
 -- the fill of a header
 abbrev fill_in : Apdu → List ℕ → ℕ
@@ -214,14 +217,14 @@ at-from_header a header h =
     (h.flags, (h.product, (h.segmented, (h.form, tail))))
 
 -- the segment that is read is none or a good one
-abbrev IsGood : Option Segmentation → Type 0
+abbrev IsGood : Option Seg → Type 0
 IsGood None = Unit {0}
 IsGood (Some s) = is_bad s ≡ false
 
-good_parts : (s : Segmentation) → is_bad s ≡ false → (1 ≤ s.number) × (s.number ≤ s.count)
+good_parts : (s : Seg) → is_bad s ≡ false → (1 ≤ s.number) × (s.number ≤ s.count)
 good_parts s h = (grind (arith, nat_tests), grind (arith, nat_tests))
 
-fits-from_within : (s : Option Segmentation) → AreWithin (segment_fields s) → IsGood s → FitsSegmentation s
+fits-from_within : (s : Option Seg) → AreWithin (segment_fields s) → IsGood s → FitsSegmentation s
 fits-from_within None w g = tt
 fits-from_within (Some s) w g =
     let parts = good_parts s g in
@@ -244,7 +247,7 @@ spelled-from_header a header b payload size h time g =
 -- what is read of a header is spelled
 spelled-from_read : (form : TimeForm) (s : Bool) (header payload : List ℕ) → AreBytes header → AreBytes payload → length header ≡ header_length form s
     → 0 ≡ field_at header 0 3 → (if s then 1 else 0) ≡ field_at header 14 1 → form_number form ≡ field_at header 15 2
-    → (a : Apdu) → read_header form s header payload ≡ Ok a → SpellsApdu (header ++ payload) a
+    → (a : Apdu) → apdu_of_header form s header payload ≡ Ok a → SpellsApdu (header ++ payload) a
 spelled-from_read form false header payload b p size flags segmented number a e =
     let value : Apdu = record { product = field_at header 3 11; form = form; time = time_in form header; segmentation = None; payload = payload } in
     let same : value ≡ a = cc in
@@ -254,9 +257,9 @@ spelled-from_read form true header payload b p size flags segmented number a e =
     let segment = segmentation_in form header in
     let value : Apdu = record { product = field_at header 3 11; form = form; time = time_in form header; segmentation = Some segment; payload = payload } in
     elim (cases_Bool (is_bad segment)) [
-      | inl bad ↦ let refused : Err bad_segment ≡ Ok a = sym (cond-true (is_bad segment) (Err bad_segment) (Ok value) bad) ∙ e in absurd (cc)
+      | inl bad ↦ let refused : Err BadSegment ≡ Ok a = sym (cond-true (is_bad segment) (Err BadSegment) (Ok value) bad) ∙ e in absurd (cc)
       | inr good ↦
-          let taken : Ok value ≡ Ok a = sym (cond-false (is_bad segment) (Err bad_segment) (Ok value) good) ∙ e in
+          let taken : Ok value ≡ Ok a = sym (cond-false (is_bad segment) (Err BadSegment) (Ok value) good) ∙ e in
           let same : value ≡ a = cc in
           let values : IsHeaderOf value header = record { flags = flags; product = refl; segmented = segmented; form = number; time = refl; segmentation = refl } in
           subst (λ (x : Apdu). SpellsApdu (header ++ payload) x) same (spelled-from_header value header b p size values (time_in-fits form header) good)
@@ -285,7 +288,7 @@ spelled-from_body body a b e =
     let form = form_in body in
     let s = is_segmented_in body in
     let n = header_length form s in
-    let tests = passed (nat_lt (length body) 4) (not (field_at (take 4 body) 0 3 == 0)) (nat_lt (length body) n) (read_header form s (take n body) (drop n body)) a e in
+    let tests = passed (nat_lt (length body) 4) (not (field_at (take 4 body) 0 3 == 0)) (nat_lt (length body) n) (apdu_of_header form s (take n body) (drop n body)) a e in
     let enough : n ≤ length body = ltb-false (length body) n tests.2 in
     let header = take n body in
     let payload = drop n body in
@@ -310,11 +313,11 @@ pub reading_of-same : (body : List ℕ) (answer : Result Apdu ApduFault) → Are
 reading_of-same body answer b e = subst (λ (r : Result Apdu ApduFault). IsReadingOf body r) (sym e) (reading_of body b)
 
 -- the bodies that are refused, and the one whose header is read
-pub apdu_of-short : (body : List ℕ) → length body < 4 → apdu_of body ≡ Err short
+pub apdu_of-short : (body : List ℕ) → length body < 4 → apdu_of body ≡ Err Short
 unfolding apdu_of
 apdu_of-short body h = rw (lt-ltb (length body) 4 h) refl
 
-pub apdu_of-flagged : (body : List ℕ) → 4 ≤ length body → (field_at (take 4 body) 0 3 ≡ 0 → ⊥) → apdu_of body ≡ Err flagged
+pub apdu_of-flagged : (body : List ℕ) → 4 ≤ length body → (field_at (take 4 body) 0 3 ≡ 0 → ⊥) → apdu_of body ≡ Err Flagged
 unfolding apdu_of
 apdu_of-flagged body h flag = rw (le-ltb (length body) 4 h, ne_eqb (field_at (take 4 body) 0 3) 0 flag) refl
 
@@ -322,7 +325,7 @@ abbrev length_in : List ℕ → ℕ
 length_in body = header_length (form_in body) (is_segmented_in body)
 
 pub apdu_of-cut : (body : List ℕ) (form : TimeForm) (s : Bool) → 4 ≤ length body → field_at (take 4 body) 0 3 ≡ 0 → form ≡ form_in body → s ≡ is_segmented_in body
-    → length body < header_length form s → apdu_of body ≡ Err short
+    → length body < header_length form s → apdu_of body ≡ Err Short
 unfolding apdu_of
 apdu_of-cut body form s h flags form_is s_is cut =
     let size : header_length (form_in body) (is_segmented_in body) ≡ header_length form s =
@@ -331,10 +334,10 @@ apdu_of-cut body form s h flags form_is s_is cut =
 
 pub apdu_of-whole : (body : List ℕ) (form : TimeForm) (s : Bool) → 4 ≤ length body → field_at (take 4 body) 0 3 ≡ 0 → form ≡ form_in body → s ≡ is_segmented_in body
     → header_length form s ≤ length body
-    → apdu_of body ≡ read_header form s (take (header_length form s) body) (drop (header_length form s) body)
+    → apdu_of body ≡ apdu_of_header form s (take (header_length form s) body) (drop (header_length form s) body)
 unfolding apdu_of
 apdu_of-whole body form s h flags form_is s_is enough =
-    let step : TimeForm → Bool → Result Apdu ApduFault = λ f t. read_header f t (take (header_length f t) body) (drop (header_length f t) body) in
+    let step : TimeForm → Bool → Result Apdu ApduFault = λ f t. apdu_of_header f t (take (header_length f t) body) (drop (header_length f t) body) in
     let no_flags : not (field_at (take 4 body) 0 3 == 0) ≡ false = ap (λ (n : ℕ). not (n == 0)) flags in
     let size : header_length (form_in body) (is_segmented_in body) ≡ header_length form s =
     ap (λ (f : TimeForm). header_length f (is_segmented_in body)) (sym form_is) ∙ ap (header_length form) (sym s_is) in

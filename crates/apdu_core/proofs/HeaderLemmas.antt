@@ -4,7 +4,8 @@ use Rattle.fisb_time.specs.declared.form.TimeForm.{TimeForm}
 use Rattle.fisb_time.specs.declared.form.TimeForm.TheVariants.{Minute, Second, DayMinute, DaySecond}
 use Rattle.fisb_time.specs.declared.form.TimeFields.{TimeFields}
 use Rattle.bit_fields.specs.Bits.{Field, field_at}
-use Rattle.apdu_core.specs.Apdu.{Apdu, Segmentation, form_number, time_fields, segment_fields, time_width, header_length, header_fields, fill_width, time_in, segmentation_in}
+use Rattle.apdu_core.specs.declared.unit.Seg.{Seg}
+use Rattle.apdu_core.specs.Apdu.{Apdu, form_number, time_fields, segment_fields, time_width, header_length, header_fields, fill_width, time_in, segmentation_in}
 use Rattle.apdu_core.specs.Spelling.{FitsTime, FitsSegmentation, FitsApdu}
 use Rattle.apdu_core.proofs.FieldLemmas.{total_width, AreWithin, AreAt}
 
@@ -12,7 +13,7 @@ use Rattle.apdu_core.proofs.FieldLemmas.{total_width, AreWithin, AreAt}
 abbrev pub fields_with : ℕ → Apdu → List Field
 fields_with fill a = header_fields a ++ record { width = fill_width a; number = fill } ∷ []
 
-whole_of : (product fill : ℕ) (form : TimeForm) (time : TimeFields) (s : Option Segmentation) (payload : List ℕ)
+whole_of : (product fill : ℕ) (form : TimeForm) (time : TimeFields) (s : Option Seg) (payload : List ℕ)
     → total_width (fields_with fill (record { product = product; form = form; time = time; segmentation = s; payload = payload })) ≡ 8 * header_length form (is_some s)
 whole_of product fill Minute time None payload = refl
 whole_of product fill Minute time (Some s) payload = refl
@@ -34,9 +35,9 @@ same_time t month day hours minutes seconds p q r u v =
     let same : made ≡ record { month = month; day = day; hours = hours; minutes = minutes; seconds = seconds } = cc in
     same
 
-same_segment : (s : Segmentation) (file count number : ℕ) → s.file ≡ file → s.count ≡ count → s.number ≡ number → s ≡ record { file = file; count = count; number = number }
+same_segment : (s : Seg) (file count number : ℕ) → s.file ≡ file → s.count ≡ count → s.number ≡ number → s ≡ record { file = file; count = count; number = number }
 same_segment s file count number p q r =
-    let made : Segmentation = record { file = s.file; count = s.count; number = s.number } in
+    let made : Seg = record { file = s.file; count = s.count; number = s.number } in
     let same : made ≡ record { file = file; count = count; number = number } = cc in
     same
 
@@ -59,7 +60,7 @@ at-from_time DayMinute bytes rest h = (refl, (refl, (refl, (refl, h))))
 at-from_time DaySecond bytes rest h = (refl, (refl, (refl, (refl, (refl, h)))))
 
 -- the segment, and what stands behind it
-pub segment-from_at : (form : TimeForm) (s : Segmentation) (bytes : List ℕ) (rest : List Field) → AreAt bytes (17 + time_width form) (segment_fields (Some s) ++ rest)
+pub segment-from_at : (form : TimeForm) (s : Seg) (bytes : List ℕ) (rest : List Field) → AreAt bytes (17 + time_width form) (segment_fields (Some s) ++ rest)
     → s ≡ segmentation_in form bytes
 segment-from_at Minute s bytes rest h = same_segment s _ _ _ h.0 h.1.0 h.1.1.0
 segment-from_at Second s bytes rest h = same_segment s _ _ _ h.0 h.1.0 h.1.1.0
@@ -135,7 +136,7 @@ time_in-fits DaySecond bytes = record {
   no_seconds = λ e. cc;
 }
 
-pub within-from_segment : (s : Option Segmentation) → FitsSegmentation s → AreWithin (segment_fields s)
+pub within-from_segment : (s : Option Seg) → FitsSegmentation s → AreWithin (segment_fields s)
 within-from_segment None h = tt
 within-from_segment (Some s) h =
     let file = h.file in
@@ -143,7 +144,7 @@ within-from_segment (Some s) h =
     let last = h.last in
     (file, (count, (omega arith, tt)))
 
-bit_within : (s : Option Segmentation) → (if is_some s then 1 else 0) < 2 ^ 1
+bit_within : (s : Option Seg) → (if is_some s then 1 else 0) < 2 ^ 1
 bit_within None = omega arith
 bit_within (Some s) = omega arith
 

@@ -1,7 +1,8 @@
 -- APDUs of product 413, computed by the definitions.
 use Rattle.std.proofs.Common.{◌≡◌, None, Some, Ok, Err, [], ◌∷◌, refl}
 use Rattle.fisb_time.specs.declared.form.TimeForm.TheVariants.{Minute, DayMinute, DaySecond}
-use Rattle.apdu_core.specs.Apdu.{Apdu, short, flagged, bad_segment, apdu_of, apdu_bytes, product_of}
+use Rattle.apdu_core.specs.declared.fault.ApduFault.TheVariants.{Short, Flagged, BadSegment}
+use Rattle.apdu_core.specs.Apdu.{Apdu, apdu_of, apdu_bytes, product_of}
 
 abbrev noon_and_34 : Apdu
 noon_and_34 = record {
@@ -68,24 +69,24 @@ pub read-greatest : apdu_of (0x1F ∷ 0xFF ∷ 0xFF ∷ 0xFF ∷ 0xFF ∷ 0xFF �
 unfolding apdu_of
 read-greatest = refl
 
-pub read-three_bytes : apdu_of (0x06 ∷ 0x74 ∷ 0x32 ∷ []) ≡ Err short
+pub read-three_bytes : apdu_of (0x06 ∷ 0x74 ∷ 0x32 ∷ []) ≡ Err Short
 unfolding apdu_of
 read-three_bytes = refl
 
-pub read-flagged : apdu_of (0x26 ∷ 0x74 ∷ 0x32 ∷ 0x20 ∷ []) ≡ Err flagged
+pub read-flagged : apdu_of (0x26 ∷ 0x74 ∷ 0x32 ∷ 0x20 ∷ []) ≡ Err Flagged
 unfolding apdu_of
 read-flagged = refl
 
 -- a flag is told before a header that is cut off
-pub read-flagged_and_cut : apdu_of (0x26 ∷ 0x75 ∷ 0x17 ∷ 0x58 ∷ []) ≡ Err flagged
+pub read-flagged_and_cut : apdu_of (0x26 ∷ 0x75 ∷ 0x17 ∷ 0x58 ∷ []) ≡ Err Flagged
 unfolding apdu_of
 read-flagged_and_cut = refl
 
-pub read-cut : apdu_of (0x06 ∷ 0x75 ∷ 0x17 ∷ 0x58 ∷ []) ≡ Err short
+pub read-cut : apdu_of (0x06 ∷ 0x75 ∷ 0x17 ∷ 0x58 ∷ []) ≡ Err Short
 unfolding apdu_of
 read-cut = refl
 
-pub read-bad_segment : apdu_of (0x06 ∷ 0x76 ∷ 0x58 ∷ 0xD0 ∷ 0x00 ∷ 0x04 ∷ 0x03 ∷ []) ≡ Err bad_segment
+pub read-bad_segment : apdu_of (0x06 ∷ 0x76 ∷ 0x58 ∷ 0xD0 ∷ 0x00 ∷ 0x04 ∷ 0x03 ∷ []) ≡ Err BadSegment
 unfolding apdu_of
 read-bad_segment = refl
 

@@ -1,15 +1,13 @@
 -- What is written of an APDU.
-use Rattle.std.proofs.Common.{◌≡◌, ℕ, zero, suc, ◌+◌, ◌-◌, ◌*◌, ◌%◌, ◌^◌, ◌<◌, ◌≤◌, Bool, Option, None, Some, is_some, Ok, List, [], ◌∷◌, ◌++◌, length, take, drop, refl, sym, ap, ◌∙◌, arith, length-append, append_assoc}
+use Rattle.std.proofs.Common.{◌≡◌, ℕ, zero, suc, ◌+◌, ◌-◌, ◌*◌, ◌%◌, ◌^◌, ◌<◌, ◌≤◌, Bool, is_some, Ok, List, [], ◌∷◌, ◌++◌, length, take, drop, refl, sym, ap, ◌∙◌, arith, length-append, append_assoc}
 use Rattle.std.proofs.lemmas.Nat.{shl_whole, pow_pos}
 use Rattle.std.proofs.lemmas.List.{take_at, drop_at, drop-drop, take_all}
 use Rattle.std.proofs.lemmas.List.Elements.{All-append}
 use Rattle.std.specs.Int.{bytes_high_first}
 use Rattle.fisb_time.specs.declared.form.TimeForm.{TimeForm}
 use Rattle.bit_fields.specs.Bits.{Field, joined}
-use Rattle.apdu_core.specs.declared.unit.Seg.{Seg}
 use Rattle.apdu_core.specs.Apdu.{Apdu, header_width, header_length, header_fields, fill_width, apdu_header, apdu_bytes, apdu_of}
 use Rattle.apdu_core.specs.Spelling.{FitsApdu, AreBytes, SpellsApdu}
-use Rattle.apdu_core.specs.Views.{segmentation_view}
 use Rattle.apdu_core.proofs.ByteLemmas.{length-bytes_high_first, bytes_high_first-bytes}
 use Rattle.apdu_core.proofs.HeaderLemmas.{fields_with}
 use Rattle.apdu_core.proofs.ApduLemmas.{header_most, read-from_spelled}
@@ -31,10 +29,6 @@ size_of_bytes a = length-append (apdu_header a) a.payload ∙ ap (λ (n : ℕ). 
 pub bytes_of_bytes : (a : Apdu) → AreBytes a.payload → AreBytes (apdu_bytes a)
 bytes_of_bytes a payload =
     All-append IsByte (apdu_header a) a.payload (bytes_high_first-bytes (header_length a.form (is_some a.segmentation)) (joined 0 (fields_with 0 a))) payload
-
-pub some_view : (s : Option Seg) → is_some (segmentation_view s) ≡ is_some s
-some_view None = refl
-some_view (Some s) = refl
 
 joined-append : (xs ys : List Field) (bits : ℕ) → joined bits (xs ++ ys) ≡ joined (joined bits xs) ys
 joined-append [] ys bits = refl

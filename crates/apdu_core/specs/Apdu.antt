@@ -5,18 +5,16 @@ use Rattle.fisb_time.specs.declared.form.TimeForm.{TimeForm}
 use Rattle.fisb_time.specs.declared.form.TimeForm.TheVariants.{Minute, Second, DayMinute, DaySecond}
 use Rattle.fisb_time.specs.declared.form.TimeFields.{TimeFields}
 use Rattle.bit_fields.specs.Bits.{Field, joined, field_at}
+use Rattle.apdu_core.specs.declared.unit.Seg.{Seg}
+use Rattle.apdu_core.specs.declared.fault.ApduFault.{ApduFault}
+use Rattle.apdu_core.specs.declared.fault.ApduFault.TheVariants.{Short, Flagged, BadSegment}
 
--- which segment of which file; segments are numbered from 1
-pub record Segmentation : Type 0 where
-  pub file : ℕ
-  pub count : ℕ
-  pub number : ℕ
-
+-- an APDU; its segment is numbered from 1 to the count of its file
 pub record Apdu : Type 0 where
   pub product : ℕ
   pub form : TimeForm
   pub time : TimeFields
-  pub segmentation : Option Segmentation
+  pub segmentation : Option Seg
   pub payload : List ℕ
 
 -- the number of a time form, and the form of a number
@@ -41,7 +39,7 @@ time_fields form t = (if has_date form then record { width = 4; number = t.month
     ++ (record { width = 5; number = t.hours } ∷ record { width = 6; number = t.minutes } ∷ [])
     ++ (if has_seconds form then record { width = 6; number = t.seconds } ∷ [] else [])
 
-abbrev pub segment_fields : Option Segmentation → List Field
+abbrev pub segment_fields : Option Seg → List Field
 segment_fields None = []
 segment_fields (Some s) = record { width = 10; number = s.file } ∷ record { width = 9; number = s.count } ∷ record { width = 9; number = s.number } ∷ []
 
@@ -78,12 +76,6 @@ apdu_header a = header_with 0 a
 abbrev pub apdu_bytes : Apdu → List ℕ
 apdu_bytes a = apdu_header a ++ a.payload
 
--- why a body is no APDU that is read
-pub data ApduFault : Type 0 where
-  short : ApduFault
-  flagged : ApduFault
-  bad_segment : ApduFault
-
 -- what stands in the header of a body that has all of it
 abbrev pub form_in : List ℕ → TimeForm
 form_in body = form_of (field_at (take 4 body) 15 2)
@@ -100,17 +92,17 @@ time_in form header = let hours = (if has_date form then 26 else 17) in record {
   seconds = if has_seconds form then field_at header (hours + 11) 6 else 0;
 }
 
-abbrev pub segmentation_in : TimeForm → List ℕ → Segmentation
+abbrev pub segmentation_in : TimeForm → List ℕ → Seg
 segmentation_in form header = let place = 17 + time_width form in
     record { file = field_at header place 10; count = field_at header (place + 10) 9; number = field_at header (place + 19) 9 }
 
-abbrev pub is_bad : Segmentation → Bool
+abbrev pub is_bad : Seg → Bool
 is_bad s = (s.count == 0) || (s.number == 0) || nat_lt s.count s.number
 
 -- the APDU of a header of the length that its form asks for, and of the bytes behind it
-abbrev pub read_header : TimeForm → Bool → List ℕ → List ℕ → Result Apdu ApduFault
-read_header form is_segmented header payload =
-    if is_segmented && is_bad (segmentation_in form header) then Err bad_segment
+abbrev pub apdu_of_header : TimeForm → Bool → List ℕ → List ℕ → Result Apdu ApduFault
+apdu_of_header form is_segmented header payload =
+    if is_segmented && is_bad (segmentation_in form header) then Err BadSegment
     else Ok (record {
       product = field_at header 3 11;
       form = form;
@@ -121,11 +113,11 @@ read_header form is_segmented header payload =
 
 -- the APDU of a body, or the first fault; fill bits are not looked at
 unfoldable pub apdu_of : List ℕ → Result Apdu ApduFault
-apdu_of body = if nat_lt (length body) 4 then Err short
-    else (if not (field_at (take 4 body) 0 3 == 0) then Err flagged
+apdu_of body = if nat_lt (length body) 4 then Err Short
+    else (if not (field_at (take 4 body) 0 3 == 0) then Err Flagged
     else (let bytes = header_length (form_in body) (is_segmented_in body) in
-    if nat_lt (length body) bytes then Err short
-    else read_header (form_in body) (is_segmented_in body) (take bytes body) (drop bytes body)))
+    if nat_lt (length body) bytes then Err Short
+    else apdu_of_header (form_in body) (is_segmented_in body) (take bytes body) (drop bytes body)))
 
 -- the product in a body, 0 where it is too short for one
 abbrev pub product_of : List ℕ → ℕ

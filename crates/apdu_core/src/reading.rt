@@ -1,8 +1,8 @@
 //! The APDU of a body.
 ghost use Rattle.std.specs.Prelude.{◌≡◌, ℕ, ◌+◌, ◌≤◌, List, length};
-ghost use Rattle.apdu_core.specs.Apdu.{apdu_of, form_of, header_length, is_bad, product_of, read_header, segmentation_in, time_in, time_width};
+ghost use Rattle.apdu_core.specs.Apdu.{apdu_of, form_of, header_length, is_bad, product_of, apdu_of_header, segmentation_in, time_in, time_width};
 ghost use Rattle.apdu_core.specs.Spelling.{IsReadingOf};
-ghost use Rattle.apdu_core.specs.Views.{AreBitsOf, answer_view, segment_view};
+ghost use Rattle.apdu_core.specs.Views.{AreBitsOf, answer_view};
 
 use crate::bits::{Bits, bits_of};
 use crate::fault::ApduFault;
@@ -47,7 +47,7 @@ pub fn read_apdu<'a>(body: &'a [u8]) -> Result<Apdu<'a>, ApduFault>
         return Err(ApduFault::Short);
     }
     let (header, payload) = body.split_at(length);
-    read_header(form, is_segmented, header, payload)
+    apdu_of_header(form, is_segmented, header, payload)
 }
 
 /// The form of a number.
@@ -63,14 +63,14 @@ fn form_of(number: u16) -> TimeForm
 }
 
 /// The APDU of a header whose flags are 0, and of the bytes behind it.
-fn read_header<'a>(
+fn apdu_of_header<'a>(
     form: TimeForm,
     is_segmented: bool,
     header: &[u8],
     payload: &'a [u8],
 ) -> Result<Apdu<'a>, ApduFault>
     requires { length header.now ≡ header_length form is_segmented }
-    ensures { answer_view result ≡ read_header form is_segmented header.now payload.now }
+    ensures { answer_view result ≡ apdu_of_header form is_segmented header.now payload.now }
 {
     let bits = bits_of(header);
     let mut seg = None;
@@ -92,7 +92,7 @@ fn read_header<'a>(
 
 /// Whether there is no segment of this number.
 fn is_bad(seg: Seg) -> bool
-    ensures { result ≡ is_bad (segment_view seg) }
+    ensures { result ≡ is_bad seg }
 {
     seg.count == 0 || seg.number == 0 || seg.count < seg.number
 }
@@ -126,7 +126,7 @@ fn read_time(form: TimeForm, bits: Bits) -> TimeFields
 fn read_segment(form: TimeForm, bits: Bits) -> Seg
     requires most { bits.width ≤ 72 }
     requires whole { 45 + time_width form ≤ bits.width }
-    ensures { (header : List ℕ) → AreBitsOf header bits → segment_view result ≡ segmentation_in form header }
+    ensures { (header : List ℕ) → AreBitsOf header bits → result ≡ segmentation_in form header }
 {
     let place = 17 + time_width(form);
     Seg {

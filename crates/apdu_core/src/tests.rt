@@ -286,10 +286,3 @@ fn the_product_of_a_short_body_is_0(rt: HostRuntime) {
     assert_eq!(rt; product_of(&[0xFF, 0xFE, 0x00, 0x00]), 2047);
     assert_eq!(rt; product_of(&[0xE0, 0x03, 0xFF, 0xFF]), 0);
 }
-
-#[test]
-fn laws_can_be_called() {
-    apdu_reads_back();
-    spelling_is_reading();
-    shown_fits();
-}

@@ -3,7 +3,7 @@ ghost use Rattle.std.specs.Prelude.{◌≡◌, ℕ, ◌+◌, ◌-◌, ◌*◌, �
 ghost use Rattle.bit_fields.specs.Bits.{joined};
 ghost use Rattle.apdu_core.specs.Apdu.{apdu_bytes, form_number, header_fields, segment_fields, time_fields};
 ghost use Rattle.apdu_core.specs.Spelling.{FitsApdu, FitsSegmentation, FitsTime};
-ghost use Rattle.apdu_core.specs.Views.{apdu_view, segmentation_view};
+ghost use Rattle.apdu_core.specs.Views.{apdu_view};
 
 use crate::sizes::{header_length, header_width};
 use crate::unit::{Apdu, Seg};
@@ -73,8 +73,8 @@ fn with_time(number: u128, form: TimeForm, time: &TimeFields) -> u128
 /// Puts the fields of a segment, where there is one, behind a number.
 fn with_segment(number: u128, seg: Option<Seg>) -> u128
     requires small { number < 2 ^ 43 }
-    requires fits { FitsSegmentation (segmentation_view seg) }
-    ensures value { result ≡ joined number (segment_fields (segmentation_view seg)) }
+    requires fits { FitsSegmentation seg }
+    ensures value { result ≡ joined number (segment_fields seg) }
     ensures bound { result < 2 ^ 71 }
 {
     match seg {

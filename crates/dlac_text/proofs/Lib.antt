@@ -7,3 +7,4 @@ pub mod RoundTrip
 pub mod PlainLemmas
 pub mod ShownTexts
 pub mod Refusals
+pub mod SixBitFields

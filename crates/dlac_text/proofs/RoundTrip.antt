@@ -26,7 +26,7 @@ fourth_back : (c d : ℕ) → d < 64 → (c % 4 * 64 + d) % 64 ≡ d
 fourth_back c d h = omega arith
 
 -- the groups of packed codes are the codes, and a code 0 where three codes fill three bytes
-groups_of_packed : (codes : List ℕ) → AllByRecursion IsSixBits codes → (six_bit_groups (packed codes) ≡ codes) ⊎ (six_bit_groups (packed codes) ≡ codes ++ 0 ∷ [])
+pub groups_of_packed : (codes : List ℕ) → AllByRecursion IsSixBits codes → (six_bit_groups (packed codes) ≡ codes) ⊎ (six_bit_groups (packed codes) ≡ codes ++ 0 ∷ [])
 groups_of_packed [] h = inl refl
 groups_of_packed (a ∷ []) h = let first : a * 4 / 4 ≡ a = omega arith in inl (ap (λ x. x ∷ []) first)
 groups_of_packed (a ∷ b ∷ []) h =
@@ -103,7 +103,7 @@ filter-some (c ∷ text) h =
     let some : eqb (suc (length text)) 0 ≡ false = grind (arith, nat_tests) in
     rw some refl
 
-length-packed : (codes : List ℕ) → length (packed codes) ≡ (6 * length codes + 7) / 8
+pub length-packed : (codes : List ℕ) → length (packed codes) ≡ (6 * length codes + 7) / 8
 length-packed [] = refl
 length-packed (a ∷ []) = refl
 length-packed (a ∷ b ∷ []) = refl
@@ -121,7 +121,7 @@ length-text_payload text =
 abbrev pub IsByte : ℕ → Type 0
 IsByte byte = byte < 256
 
-packed_fits : (codes : List ℕ) → AllByRecursion IsSixBits codes → AllByRecursion IsByte (packed codes)
+pub packed_fits : (codes : List ℕ) → AllByRecursion IsSixBits codes → AllByRecursion IsByte (packed codes)
 packed_fits [] h = tt
 packed_fits (a ∷ []) h =
     let a_fits : a < 64 = h.0 in

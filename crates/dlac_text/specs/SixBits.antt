@@ -1,4 +1,5 @@
--- Six-bit codes in bytes, highest bit first: four codes in three bytes.
+-- Six-bit codes in bytes, highest bit first: four codes in three bytes. `SixBitFields` says in bits what they are, and a law that
+-- they are the same.
 use Rattle.std.specs.Prelude.{ℕ, ◌+◌, ◌*◌, ◌/◌, ◌%◌, List, [], ◌∷◌}
 
 -- the bytes of some codes; zero bits fill the last byte

@@ -6,6 +6,9 @@ ghost use Rattle.dlac_text.specs.Payload.{text_payload};
 ghost use Rattle.dlac_text.specs.Pieces.{IsCutInOneWay};
 ghost use Rattle.dlac_text.specs.Plain.{plain_text, unplained};
 ghost use Rattle.dlac_text.specs.Refusal.{IsSendable, text_refusal};
+ghost use Rattle.bit_fields.specs.Bits.{AreBytes};
+ghost use Rattle.dlac_text.specs.SixBits.{packed, six_bit_groups};
+ghost use Rattle.dlac_text.specs.SixBitFields.{AreRead, AreWritten};
 ghost use Rattle.dlac_text.specs.Reports.{reports_of, HasReportsOfItsPieces};
 
 /// Every list of codes is cut into pieces in exactly one way, and the reports of a payload are the texts between the
@@ -13,6 +16,14 @@ ghost use Rattle.dlac_text.specs.Reports.{reports_of, HasReportsOfItsPieces};
 pub fn codes_are_pieces()
     ensures one_way { (codes : List ℕ) → IsCutInOneWay codes }
     ensures reports { (payload : List ℕ) → HasReportsOfItsPieces payload }
+{}
+
+/// Code k stands at bit 6 k: the codes of some bytes are their fields of six bits, and the bytes of
+/// some codes have them as such fields, with zero bits to a whole byte.
+pub fn codes_are_fields()
+    ensures read { (bytes : List ℕ) → AreBytes bytes → AreRead bytes (six_bit_groups bytes) }
+    ensures written { (codes : List ℕ) → All (λ code. code < 64) codes →
+        AreWritten codes (packed codes) }
 {}
 
 /// Reading undoes writing: the reports of the payload of a text are that text alone.

@@ -14,8 +14,8 @@ mod text_fault;
 pub use decoding::reports;
 pub use encoding::encode_text;
 pub use laws::{
-    codes_are_pieces, payload_size, plain_text_reads_back, reading_undoes_writing, refused_texts,
-    shown_texts,
+    codes_are_fields, codes_are_pieces, payload_size, plain_text_reads_back,
+    reading_undoes_writing, refused_texts, shown_texts,
 };
 pub use printing::{plain, unplain};
 pub use report_text::Report;

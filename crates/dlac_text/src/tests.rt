@@ -1,7 +1,4 @@
-use crate::{
-    Report, TextFault, codes_are_pieces, encode_text, payload_size, plain, plain_text_reads_back,
-    reading_undoes_writing, refused_texts, reports, shown_texts, unplain,
-};
+use crate::{Report, TextFault, encode_text, plain, reports, unplain};
 use std::alloc::{AllocError, Global};
 use std::test::Fail;
 
@@ -18,8 +15,6 @@ fn text_is_packed_in_six_bits(rt: HostRuntime) -> Result<(), Fail> {
 
 #[test]
 fn payload_reads_back_as_its_text(rt: HostRuntime) -> Result<(), Fail> {
-    reading_undoes_writing();
-    payload_size();
     let found = reports(rt.alloc(), METAR.as_slice())?;
     assert_eq!(rt; found.len(), 1);
     let report = &found[0];
@@ -32,7 +27,6 @@ fn payload_reads_back_as_its_text(rt: HostRuntime) -> Result<(), Fail> {
 
 #[test]
 fn ends_and_tabs_are_read(rt: HostRuntime) -> Result<(), Fail> {
-    codes_are_pieces();
     let two = reports(rt.alloc(), [0x05, 0xD0, 0x80].as_slice())?;
     assert_eq!(rt; two.len(), 2);
     assert_eq!(rt; two[0].all(), "A");
@@ -60,7 +54,6 @@ fn first_character_outside_the_alphabet_is_named(rt: HostRuntime) {
 
 #[test]
 fn greatest_text_is_taken(rt: HostRuntime) -> Result<(), Fail> {
-    refused_texts();
     let greatest = repeated(rt.alloc(), 16_384)?;
     let text = greatest.as_str();
     assert_eq!(rt; text.len(), 16_384);
@@ -74,8 +67,6 @@ fn greatest_text_is_taken(rt: HostRuntime) -> Result<(), Fail> {
 
 #[test]
 fn report_is_shown_on_one_line(rt: HostRuntime) -> Result<(), Fail> {
-    plain_text_reads_back();
-    shown_texts();
     for (text, line) in [("A\nB", "A\\nB"), ("A\nB\u{1A}", "A\\nB\\z")] {
         let bytes = encode_text(rt.alloc(), text)?;
         let found = reports(rt.alloc(), bytes.all())?;

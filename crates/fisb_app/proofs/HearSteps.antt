@@ -11,10 +11,10 @@ use Rattle.fisb_broadcast.specs.Entry.{Entry}
 use Rattle.fisb_broadcast.specs.Ground.{Frame}
 use Rattle.fisb_broadcast.specs.Receiver.{Reception, arrivals, contents}
 use Rattle.fisb_broadcast.specs.Station.{Station}
-use Rattle.receiver_core.specs.Brought.{brought}
-use Rattle.receiver_core.specs.Kept.{Keeps}
-use Rattle.receiver_core.specs.Told.{told_part}
-use Rattle.receiver_core.specs.Laws.{WholeReceptions, AddsWhole}
+use Rattle.text_receiver.specs.Brought.{brought}
+use Rattle.text_receiver.specs.Kept.{Keeps}
+use Rattle.text_receiver.specs.Told.{told_part}
+use Rattle.text_receiver.specs.Laws.{WholeReceptions, AddsWhole}
 use Rattle.script_core.specs.Script.{Line, hear}
 use Rattle.fisb_app.specs.Script.{Setting, no_frame, late}
 use Rattle.fisb_app.specs.Past.{history, hearings, station_of, sent_frames, air_of, receptions, received_frame}

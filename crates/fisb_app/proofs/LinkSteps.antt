@@ -7,8 +7,8 @@ use Rattle.life_table.specs.LifeTable.{LifeTable}
 use Rattle.fisb_broadcast.specs.Ground.{Event}
 use Rattle.fisb_broadcast.specs.Update.{GiveFault}
 use Rattle.fisb_broadcast.specs.History.{IsBehind, moment_of as event_moment}
-use Rattle.ground_core.specs.declared.fault.GiveFault.{GiveFault as Fault}
-use Rattle.ground_core.specs.Refusal.{clock_of, early, IsTold, IsToldAt}
+use Rattle.text_ground.specs.declared.fault.GiveFault.{GiveFault as Fault}
+use Rattle.text_ground.specs.Refusal.{clock_of, early, IsTold, IsToldAt}
 use Rattle.script_core.specs.Script.{Line, empty, station, text, turn, hear, show, unbuilt}
 use Rattle.script_core.specs.Fields.{line_of}
 use Rattle.fisb_app.specs.declared.link.Link.{Link}

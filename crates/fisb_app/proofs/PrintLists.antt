@@ -8,8 +8,8 @@ use Rattle.std.proofs.lemmas.List.Elements.{filter-append}
 use Rattle.std.proofs.lemmas.Grind.{flat_map-append}
 use Rattle.fisb_broadcast.specs.Entry.{Entry}
 use Rattle.fisb_broadcast.specs.Shown.{alive}
-use Rattle.receiver_core.specs.declared.shown.ShownReport.{ShownReport}
-use Rattle.receiver_core.specs.Views.{entry_view}
+use Rattle.text_receiver.specs.declared.shown.ShownReport.{ShownReport}
+use Rattle.text_receiver.specs.Views.{entry_view}
 use Rattle.fisb_app.specs.Output.{shown_entry, picture_head, picture_text}
 
 one_more : {Y : Type 0} (f : Y → List ℕ) (ys : List Y) (y : Y) {old new shown piece : List ℕ}

@@ -2,7 +2,7 @@
 use Rattle.std.proofs.Common.{◌≡◌, ℕ, List, Option, Err, sym, ap, subst, ◌∙◌}
 use Rattle.std.specs.Io.KnownBytes.{Appends}
 use Rattle.script_core.specs.Script.{Line}
-use Rattle.fisb_app.specs.declared.status.Reason as rust
+use Rattle.script_core.specs.declared.reason.Reason as rust
 use Rattle.fisb_app.specs.declared.status.Status.{Status}
 use Rattle.fisb_app.specs.declared.status.Status.TheVariants.{Done, Usage, Refused, ReadFault, WriteFault, TooLong, NoMemory}
 use Rattle.fisb_app.specs.Script.{Fault, Setting}

@@ -7,8 +7,8 @@ use Rattle.life_table.specs.LifeTable.{LifeTable}
 use Rattle.fisb_broadcast.specs.Ground.{Event, fill, Frame, frames, items, log, airing}
 use Rattle.fisb_broadcast.specs.History.{frame_room}
 use Rattle.fisb_broadcast.specs.Station.{Station}
-use Rattle.ground_core.specs.declared.filling.AirFrame.{AirFrame}
-use Rattle.ground_core.specs.StandsFor.{IsFrameOf, IsLastFrame}
+use Rattle.text_ground.specs.declared.filling.AirFrame.{AirFrame}
+use Rattle.text_ground.specs.StandsFor.{IsFrameOf, IsLastFrame}
 use Rattle.fisb_app.specs.declared.party.Party.{Party}
 use Rattle.fisb_app.specs.declared.party.Party.TheVariants.{Link, Ground}
 use Rattle.script_core.specs.Script.{Line, turn}

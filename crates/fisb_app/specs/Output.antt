@@ -2,7 +2,8 @@
 use Rattle.std.specs.Prelude.{ℕ, List, [], ◌∷◌, ◌++◌, length, map, flat_map, Option, Some, None, slice_get, codes, decimal}
 use Rattle.hex.specs.Hex.{encode_lower}
 use Rattle.dlac_text.specs.Plain.{plain_text}
-use Rattle.uplink_frame.specs.UplinkFrame.{Header, header_in}
+use Rattle.uplink_frame.specs.UplinkFrame.{header_in}
+use Rattle.uplink_frame.specs.declared.header.UplinkHeader.{UplinkHeader}
 use Rattle.uplink_weave.specs.Functions.{counts_in}
 use Rattle.life_table.specs.LifeTable.{LifeTable}
 use Rattle.life_table.specs.declared.fault.RowFault.{RowFault}
@@ -12,7 +13,7 @@ use Rattle.fisb_broadcast.specs.Ground.{Frame, used}
 use Rattle.fisb_broadcast.specs.Receiver.{Reception, Unread, another_kind, no_header, flags_set, wrong_segment, another_product, no_row, large_file, no_time, stale}
 use Rattle.fisb_broadcast.specs.Receiver as receiver
 use Rattle.fisb_broadcast.specs.Unread.{unread_parts}
-use Rattle.receiver_core.specs.Told.{Told, told_part}
+use Rattle.text_receiver.specs.Told.{Told, told_part}
 use Rattle.fisb_broadcast.specs.Picture.{received_picture}
 use Rattle.fisb_broadcast.specs.LinkPicture.{link_picture}
 use Rattle.fisb_broadcast.specs.Station.{Station}
@@ -77,7 +78,7 @@ told_text part = spaced (codes "unread" ∷ unread_word part.why ∷ decimal par
 
 -- what a reception says: the slot, the site, how many bytes of each of its six blocks were corrected, and the unread parts.
 -- A lost frame has no text yet
-abbrev pub heard_words : ℕ → Header → List ℕ → List (List ℕ)
+abbrev pub heard_words : ℕ → UplinkHeader → List ℕ → List (List ℕ)
 heard_words moment header counts = codes "heard" ∷ decimal moment ∷ decimal header.slot ∷ decimal header.site ∷ map decimal counts
 
 abbrev pub heard_text : LifeTable → List Reception → List ℕ → Option Reception → List ℕ

@@ -2,7 +2,7 @@
 use Rattle.std.specs.Prelude.{◌≡◌, ℕ, Bool, true, false, List, ◌++◌, ◌⊎◌, nat_le, if◌then◌else◌, length, take, Option, Some, None, Result, Ok, Err}
 use Rattle.std.specs.Io.KnownBytes.{Consumes, Appends}
 use Rattle.fisb_wire.specs.Faults.{Rose}
-use Rattle.fisb_app.specs.declared.status.Reason as rust
+use Rattle.script_core.specs.declared.reason.Reason as rust
 use Rattle.fisb_app.specs.declared.status.Status.{Status}
 use Rattle.fisb_app.specs.declared.status.Status.TheVariants.{Done, Usage, Refused, ReadFault, WriteFault, TooLong, NoMemory}
 use Rattle.fisb_app.specs.declared.input.Ending.{Ending}

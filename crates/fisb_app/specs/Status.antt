@@ -2,8 +2,8 @@
 use Rattle.std.specs.Prelude.{ℕ}
 use Rattle.fisb_app.specs.declared.status.Status.{Status}
 use Rattle.fisb_app.specs.declared.status.Status.TheVariants.{Done, Usage, Refused, ReadFault, WriteFault, TooLong, NoMemory}
-use Rattle.fisb_app.specs.declared.status.Reason as rust
-use Rattle.fisb_app.specs.declared.status.Reason.TheVariants as reasons
+use Rattle.script_core.specs.declared.reason.Reason as rust
+use Rattle.script_core.specs.declared.reason.Reason.TheVariants as reasons
 use Rattle.fisb_app.specs.Script.{Reason, table_long, no_table, not_toml, bad_row, line_long, syntax, not_here, station_late, clock, no_frame, late, frames_full, bad_character, text_long, words_wanting, type_unlisted, coarse, ahead, expired, not_newer, not_built}
 
 abbrev pub code_of : Status → ℕ

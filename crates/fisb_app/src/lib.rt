@@ -17,7 +17,8 @@ mod status;
 mod top;
 
 pub use laws::pictures_agree;
-pub use status::{Reason, Status};
+pub use script_core::Reason;
+pub use status::Status;
 pub use top::{run, run_gdl, run_ground, run_link, run_make, run_receive};
 
 #[cfg(test)]

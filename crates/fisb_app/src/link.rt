@@ -2,13 +2,13 @@
 ghost use Rattle.std.specs.Prelude.{◌≡◌, ◌<◌, ◌^◌, ◌||◌, [], ◌∷◌, ◌++◌, ℕ, List, Option, Some, None, if◌then◌else◌, length, map, option_map, IfOk, not, string_bytes};
 ghost use Rattle.uplink_weave.specs.Functions.{woven};
 ghost use Rattle.fisb_broadcast.specs.Entry.{Entry};
-ghost use Rattle.receiver_core.specs.Kept.{Keeps};
-ghost use Rattle.receiver_core.specs.Brought.{brought};
+ghost use Rattle.text_receiver.specs.Kept.{Keeps};
+ghost use Rattle.text_receiver.specs.Brought.{brought};
 ghost use Rattle.std.specs.Option.{option_or};
 ghost use Rattle.script_core.specs.Script.{Line as ScriptLine, station, text, turn, hear, show};
 ghost use Rattle.script_core.specs.LineView.{line_view, HasRanges};
 ghost use Rattle.fisb_broadcast.specs.Update.{GiveFault as GiftFault};
-ghost use Rattle.ground_core.specs.Refusal.{IsTold, IsToldOfText, kept_told};
+ghost use Rattle.text_ground.specs.Refusal.{IsTold, IsToldOfText, kept_told};
 ghost use Rattle.fisb_app.specs.Script.{Setting, not_here};
 ghost use Rattle.fisb_app.specs.Past.{moment_of};
 ghost use Rattle.fisb_app.specs.Reading.{party_refusal, is_heard_or_shown, is_unbuilt, is_station, is_empty};
@@ -18,15 +18,14 @@ ghost use Rattle.fisb_app.specs.Status.{reason_view};
 use crate::party::Party;
 use crate::printing::{print_heard, print_picture, print_sent, print_sent_air, print_unread};
 use crate::sent::SentFrame;
-use crate::status::Reason;
 use dlac_text::{TextFault, refused_texts};
 use fisb_broadcast::{frames_are_bodies, hearings_are_whole, pictures_agree};
 use fisb_time::Moment;
-use ground_core::{AirFrame, FillFault, GiveFault, Ground, Station};
 use life_table::LifeTable;
-use receiver_core::{Receiver, picture_of_kept, whole_receptions};
-use script_core::{Line, LineFault, ranges_of_lines, read_line};
+use script_core::{Line, LineFault, Reason, ranges_of_lines, read_line};
 use std::alloc::{AllocError, Global};
+use text_ground::{AirFrame, FillFault, GiveFault, Ground, Station};
+use text_receiver::{Receiver, picture_of_kept, whole_receptions};
 use uplink_frame::read_header;
 use uplink_weave::{
     frame_gives_payload, functions_of_a_frame, unweave, weave, woven_gives_payload,

@@ -7,8 +7,8 @@ ghost use Rattle.fisb_app.specs.Started.{IsStarted, IsUnstarted, IsOpening, Tell
 
 use crate::lines::first_line;
 use crate::started::{Opening, Started, Unstarted};
-use crate::status::Reason;
 use life_table::{LifeTable, TableFault};
+use script_core::Reason;
 use std::alloc::{AllocError, Global};
 
 /// The greatest place of an input at which the line that ends its table may begin.

@@ -3,16 +3,16 @@ ghost use Rattle.std.specs.Prelude.{◌≡◌, ◌∷◌, [], nat_lt, count_by, 
 ghost use Rattle.hex.specs.Hex.{encode_lower};
 ghost use Rattle.fisb_app.specs.Output.{spaced, fault_text, unread_word, told_text, row_word, shown_entry, picture_text};
 ghost use Rattle.fisb_app.specs.Status.{reason_view};
-ghost use Rattle.receiver_core.specs.Views.{reason_view as why_view, unread_view, entry_view};
+ghost use Rattle.text_receiver.specs.Views.{reason_view as why_view, unread_view, entry_view};
 ghost use Rattle.fisb_broadcast.specs.Shown.{alive};
 
-use crate::status::Reason;
 use dlac_text::plain;
 use fisb_time::Moment;
-use ground_core::AirFrame;
 use life_table::RowFault;
-use receiver_core::{ShownReport, Unread, UnreadReason};
+use script_core::Reason;
 use std::alloc::{AllocError, Global};
+use text_ground::AirFrame;
+use text_receiver::{ShownReport, Unread, UnreadReason};
 
 /// A frame that was sent: its number, moment and slot, how many bodies it has, and what they take.
 pub(crate) fn print_sent(

@@ -18,8 +18,9 @@ use crate::output::write_all;
 use crate::party::Party;
 use crate::printing::print_refused;
 use crate::started::{Started, Unstarted};
-use crate::status::{Reason, Status};
+use crate::status::Status;
 use fisb_wire::{Failed, Sink};
+use script_core::Reason;
 use std::alloc::{AllocError, Global};
 
 /// Acts on an input. An `Err` says why it stopped.

@@ -1,8 +1,8 @@
 //! How an input starts.
 ghost use Rattle.std.specs.Prelude.{◌≤◌};
 
-use crate::status::Reason;
 use life_table::LifeTable;
+use script_core::Reason;
 
 /// The bytes of the table, the number of the line that ends it, and what stands behind that line.
 #[derive(Clone, Copy, Debug)]

@@ -25,7 +25,7 @@ use std::test::Fail;
 /// A source of these bytes, of which no read fails.
 fn source_of(alloc: Global, input: &[u8]) -> Result<MemorySource, AllocError> {
     let input = Bytes::of(Vec::from_slice(alloc, input)?);
-    Ok(MemorySource::new(input, Numbers::of(Vec::new(alloc))))
+    Ok(MemorySource::new(input, Numbers::of(Vec::new(alloc)), 65_536))
 }
 
 /// A sink of ample room, of which no write fails.

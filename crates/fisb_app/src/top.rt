@@ -13,9 +13,10 @@ use crate::input::{Ending, INPUT_LIMIT, read_input};
 use crate::laws::pictures_agree;
 use crate::party::Party;
 use crate::script::{act_on_script, refuse};
-use crate::status::{Reason, Status};
+use crate::status::Status;
 use fisb_wire::{Sink, Source};
 use life_table::tables_keep_rules;
+use script_core::Reason;
 use std::alloc::Global;
 
 /// Runs the command that the words name: `link`, `ground`, `receive`, `gdl`, or `make` with further words.

@@ -12,7 +12,8 @@ use Rattle.fisb_time.specs.Naming.{named, window}
 use Rattle.dlac_text.specs.Payload.{text_payload}
 use Rattle.life_table.specs.LifeTable.{LifeTable, TextRow, text_row, longest, greatest_of}
 use Rattle.life_table.specs.Rules.{IsWithinForm, IsTable}
-use Rattle.uplink_frame.specs.UplinkFrame.{Header, InformationFrame, fisb_frame, header_in, information_frames}
+use Rattle.uplink_frame.specs.UplinkFrame.{InformationFrame, fisb_frame, header_in, information_frames}
+use Rattle.uplink_frame.specs.declared.header.UplinkHeader.{UplinkHeader}
 use Rattle.apdu_core.specs.Apdu.{Apdu}
 use Rattle.fisb_broadcast.specs.Membership.{IsIn}
 use Rattle.fisb_broadcast.specs.Item.{Item, Segment, body_of}
@@ -126,7 +127,7 @@ frames-sent_of table station all room sent h frame setting got =
     let back = frame-back (setting.layers).sending table station all room frame setting.station_fits setting.room_fits (setting.are_sent frame (got_in frame sent h.frame got)) in
     let payload = frame_payload (header_of station) frame in
     ap (λ (o : Option Frame). frames_of (record { moment = h.moment; payload = payload_sent station o })) got
-    ∙ cond-true ((header_in payload).is_application_valid) (information_frames payload) [] (ap (λ (x : Header). x.is_application_valid) back.header_back)
+    ∙ cond-true ((header_in payload).app_valid) (information_frames payload) [] (ap (λ (x : UplinkHeader). x.app_valid) back.header_back)
     ∙ back.frames_back
 
 pub arrivals-sent_of : (table : LifeTable) (station : Station) (all : List Item) (room : ℕ) (sent : List Frame) (h : Hearing) (frame : Frame)

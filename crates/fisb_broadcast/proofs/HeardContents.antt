@@ -3,7 +3,7 @@ use Rattle.std.proofs.Common.{◌≡◌, ℕ, ◌+◌, ◌<◌, List, [], ◌∷
 use Rattle.std.proofs.lemmas.List.{append-nil}
 use Rattle.dlac_text.specs.Reports.{reports_of}
 use Rattle.life_table.specs.LifeTable.{LifeTable}
-use Rattle.apdu_core.specs.Apdu.{Segmentation}
+use Rattle.apdu_core.specs.declared.unit.Seg.{Seg}
 use Rattle.text_reports.specs.TextKey.{TextKey, few_words, text_key}
 use Rattle.fisb_broadcast.specs.Membership.{IsIn}
 use Rattle.fisb_broadcast.specs.Entry.{Entry}
@@ -27,7 +27,7 @@ completed-whole : (before later : List Arrival) → ((a : Arrival) → IsIn a la
 completed-whole before [] whole = refl
 completed-whole before (a ∷ later) whole =
     ap₂ (λ (xs ys : List Whole). xs ++ ys)
-    (ap (λ (o : Option Segmentation). filter_map (completes before a) (o ∷ [])) (whole a (inl refl)))
+    (ap (λ (o : Option Seg). filter_map (completes before a) (o ∷ [])) (whole a (inl refl)))
     (completed-whole (before ++ a ∷ []) later (λ b h. whole b (inr h)))
 
 pub arrivals-whole : (table : LifeTable) (station : Station) (all : List Item) (room : ℕ) (sent : List Frame) (heard : List Hearing)

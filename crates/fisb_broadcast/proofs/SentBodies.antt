@@ -11,7 +11,8 @@ use Rattle.dlac_text.specs.Payload.{text_payload}
 use Rattle.life_table.specs.LifeTable.{LifeTable}
 use Rattle.uplink_frame.specs.UplinkFrame.{InformationFrame, FitsFrame, information_frame, fisb_frame, spelled_frames}
 use Rattle.uplink_frame.specs.Laws.{ReadsBack}
-use Rattle.apdu_core.specs.Apdu.{Apdu, Segmentation, apdu_bytes, apdu_of, header_length}
+use Rattle.apdu_core.specs.Apdu.{Apdu, apdu_bytes, apdu_of, header_length}
+use Rattle.apdu_core.specs.declared.unit.Seg.{Seg}
 use Rattle.apdu_core.specs.Spelling.{AreBytes}
 use Rattle.fisb_broadcast.specs.Membership.{IsIn}
 use Rattle.fisb_broadcast.specs.Item.{Gift, Item, Segment, whole_limit, is_whole_payload, parts, part_of, apdu_of_segment, body_of, room_of}
@@ -27,7 +28,7 @@ abbrev pub text_apdu : TimeForm → ℕ → List ℕ → Apdu
 text_apdu form version payload = record { product = 413; form = form; time = shown form version; segmentation = None; payload = payload }
 
 -- the APDU of a segment of a gift that is sent whole
-abbrev apdu_with : Gift → Option Segmentation → List ℕ → Apdu
+abbrev apdu_with : Gift → Option Seg → List ℕ → Apdu
 apdu_with g segmentation payload = record { product = g.product; form = g.form; time = shown g.form g.version; segmentation = segmentation; payload = payload }
 
 apdu-first : (item : Item) → is_whole_payload item.gift ≡ true → apdu_of_segment (first_segment item) ≡ apdu_with item.gift None item.gift.payload
@@ -74,7 +75,7 @@ body-fisb layers table all moment s a =
     )
 
 -- a segment takes two bytes more than its body
-some_segment : (b : Bool) (s : Segmentation) → is_some (cond b None (Some s)) ≡ not b
+some_segment : (b : Bool) (s : Seg) → is_some (cond b None (Some s)) ≡ not b
 some_segment true s = refl
 some_segment false s = refl
 
@@ -107,7 +108,7 @@ frame-back layers table station all room frame fits small sent =
     let found = in_map (λ (s : Segment). fisb_frame (body_of s)) f frame.segments h in
     subst (λ (x : InformationFrame). FitsFrame x × AreBytes x.body) (sym found.2) (body-fisb layers table all frame.moment found.0 (sent.aired found.0 found.1)) in
     layers.frames (header_of station frame.slot) (fisb_frames_of frame)
-    (record { latitude = fits.latitude; longitude = fits.longitude; slot = sent.slot; site = fits.site })
+    (record { lat = fits.latitude; lon = fits.longitude; slot = sent.slot; site = fits.site })
     (All-members FitsFrame (fisb_frames_of frame) (λ f h. (bodies f h).0))
     (All-members (λ (f : InformationFrame). AreBytes f.body) (fisb_frames_of frame) (λ f h. (bodies f h).1))
     (omega arith)

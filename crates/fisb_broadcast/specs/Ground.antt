@@ -5,7 +5,8 @@ use Rattle.std.specs.List.{list_any, range_with_len}
 use Rattle.life_table.specs.LifeTable.{LifeTable, longest}
 use Rattle.fisb_broadcast.specs.Entry.{Key, same_key}
 use Rattle.fisb_broadcast.specs.Item.{Gift, Item, Segment, parts, segments_of, same_segment, room_of, body_of}
-use Rattle.uplink_frame.specs.UplinkFrame.{Header, fisb_frame, payload_of}
+use Rattle.uplink_frame.specs.UplinkFrame.{fisb_frame, payload_of}
+use Rattle.uplink_frame.specs.declared.header.UplinkHeader.{UplinkHeader}
 
 -- an accepted update with what it gives, or a fill of the frame of a slot
 pub data Event : Type 0 where
@@ -85,5 +86,5 @@ frames table room (fill moment slot ∷ past) = frames table room past
 abbrev pub used : Frame → ℕ
 used frame = sum_by room_of frame.segments
 
-abbrev pub frame_payload : (ℕ → Header) → Frame → List ℕ
+abbrev pub frame_payload : (ℕ → UplinkHeader) → Frame → List ℕ
 frame_payload header frame = payload_of (header frame.slot) (map (λ s. fisb_frame (body_of s)) frame.segments)

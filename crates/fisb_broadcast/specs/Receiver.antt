@@ -6,7 +6,10 @@ use Rattle.std.specs.Result.{result_ok}
 use Rattle.fisb_time.specs.Naming.{named}
 use Rattle.dlac_text.specs.Reports.{reports_of}
 use Rattle.uplink_frame.specs.UplinkFrame.{InformationFrame, information_frames, header_in}
-use Rattle.apdu_core.specs.Apdu.{Apdu, Segmentation, ApduFault, short, flagged, bad_segment, apdu_of}
+use Rattle.apdu_core.specs.Apdu.{Apdu, apdu_of}
+use Rattle.apdu_core.specs.declared.unit.Seg.{Seg}
+use Rattle.apdu_core.specs.declared.fault.ApduFault.{ApduFault}
+use Rattle.apdu_core.specs.declared.fault.ApduFault.TheVariants.{Short, Flagged, BadSegment}
 use Rattle.life_table.specs.LifeTable.{LifeTable, longest, TextRow, text_row}
 use Rattle.text_reports.specs.TextKey.{TextKey, KeyFault, text_key}
 use Rattle.fisb_broadcast.specs.Entry.{Entry, text_report, report}
@@ -21,7 +24,7 @@ pub record Arrival : Type 0 where
   pub moment : ℕ
   pub product : ℕ
   pub version : ℕ
-  pub segmentation : Option Segmentation
+  pub segmentation : Option Seg
   pub payload : List ℕ
 
 -- why an information frame is passed on unread
@@ -39,14 +42,14 @@ pub data Unread : Type 0 where
   type_unlisted : Unread
 
 abbrev pub unread_by : ApduFault → Unread
-unread_by short = no_header
-unread_by flagged = flags_set
-unread_by bad_segment = wrong_segment
+unread_by Short = no_header
+unread_by Flagged = flags_set
+unread_by BadSegment = wrong_segment
 
 abbrev pub is_known_product : ℕ → Bool
 is_known_product product = (product == 63) || (product == 64) || (product == 413)
 
-abbrev pub is_large : Option Segmentation → Bool
+abbrev pub is_large : Option Seg → Bool
 is_large None = false
 is_large (Some s) = nat_lt 64 s.count
 
@@ -71,7 +74,7 @@ arrival_of table received frame = if frame.kind == 0 then arrival_of_apdu table 
 
 -- a reception without valid application data brings nothing
 abbrev pub frames_of : Reception → List InformationFrame
-frames_of heard = if (header_in heard.payload).is_application_valid then information_frames heard.payload else []
+frames_of heard = if (header_in heard.payload).app_valid then information_frames heard.payload else []
 
 abbrev pub arrivals_of : LifeTable → Reception → List Arrival
 arrivals_of table heard = filter_map (λ frame. result_ok (arrival_of table heard.moment frame)) (frames_of heard)
@@ -81,21 +84,21 @@ arrivals table [] = []
 arrivals table (heard ∷ past) = arrivals table past ++ arrivals_of table heard
 
 -- a file is named by product, version, file number and count
-abbrev pub same_file : Arrival → Segmentation → Arrival → Segmentation → Bool
+abbrev pub same_file : Arrival → Seg → Arrival → Seg → Bool
 same_file a s b t = (a.product == b.product) && (a.version == b.version) && (s.file == t.file) && (s.count == t.count)
 
-abbrev pub is_piece : Arrival → Segmentation → ℕ → Arrival → Option Segmentation → Bool
+abbrev pub is_piece : Arrival → Seg → ℕ → Arrival → Option Seg → Bool
 is_piece a s number b None = false
 is_piece a s number b (Some t) = same_file a s b t && (t.number == number)
 
 -- the first arrival of this number of the file
-abbrev pub first_piece : List Arrival → Arrival → Segmentation → ℕ → Option Arrival
+abbrev pub first_piece : List Arrival → Arrival → Seg → ℕ → Option Arrival
 first_piece before a s number = find (λ b. is_piece a s number b b.segmentation) before
 
-abbrev pub has_piece : List Arrival → Arrival → Segmentation → ℕ → Bool
+abbrev pub has_piece : List Arrival → Arrival → Seg → ℕ → Bool
 has_piece before a s number = list_any (λ b. is_piece a s number b b.segmentation) before
 
-abbrev pub other_numbers : Segmentation → List ℕ
+abbrev pub other_numbers : Seg → List ℕ
 other_numbers s = filter (λ number. not (number == s.number)) (range_with_len 1 s.count)
 
 abbrev pub bytes_of_piece : Option Arrival → List ℕ
@@ -110,7 +113,7 @@ pub record Whole : Type 0 where
 
 -- an arrival completes its file where its number is new and each other number stands before it;
 -- the payload joins the first pieces in order of number. An arrival without segment fields is whole
-abbrev pub completes : List Arrival → Arrival → Option Segmentation → Option Whole
+abbrev pub completes : List Arrival → Arrival → Option Seg → Option Whole
 completes before a None = Some (record { product = a.product; version = a.version; payload = a.payload })
 completes before a (Some s) = if not (has_piece before a s s.number) && list_all (has_piece before a s) (other_numbers s)
     then Some (record {

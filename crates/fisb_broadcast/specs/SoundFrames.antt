@@ -2,7 +2,8 @@
 use Rattle.std.specs.Prelude.{◌≡◌, ℕ, ◌<◌, ◌≤◌, List, length, map, All, None}
 use Rattle.life_table.specs.LifeTable.{LifeTable}
 use Rattle.life_table.specs.Rules.{IsTable}
-use Rattle.uplink_frame.specs.UplinkFrame.{Header, InformationFrame, fisb_frame, spelled_frames, header_in, information_frames}
+use Rattle.uplink_frame.specs.UplinkFrame.{InformationFrame, fisb_frame, spelled_frames, header_in, information_frames}
+use Rattle.uplink_frame.specs.declared.header.UplinkHeader.{UplinkHeader}
 use Rattle.fisb_broadcast.specs.Item.{body_of}
 use Rattle.fisb_broadcast.specs.Ground.{Event, Frame, frames, used, frame_payload}
 use Rattle.fisb_broadcast.specs.Receiver.{arrivals}
@@ -15,7 +16,7 @@ abbrev pub fisb_frames_of : Frame → List InformationFrame
 fisb_frames_of frame = map (λ s. fisb_frame (body_of s)) frame.segments
 
 -- what the frame takes is the length of its FIS-B frames, which fit; and its payload, 432 bytes, reads back as its header and them
-pub record IsSound (header : ℕ → Header) (frame : Frame) : Type 0 where
+pub record IsSound (header : ℕ → UplinkHeader) (frame : Frame) : Type 0 where
   pub slot : frame.slot < 32
   pub fits : used frame ≤ frame_room
   pub spelled : used frame ≡ length (spelled_frames (fisb_frames_of frame))

@@ -1,6 +1,6 @@
 -- The ground station whose header every frame has.
 use Rattle.std.specs.Prelude.{ℕ, ◌^◌, ◌<◌, Bool, true, false}
-use Rattle.uplink_frame.specs.UplinkFrame.{Header}
+use Rattle.uplink_frame.specs.declared.header.UplinkHeader.{UplinkHeader}
 
 -- where it stands, as raw counts of 360 / 2^24 degrees, and its TIS-B site
 pub record Station : Type 0 where
@@ -19,13 +19,13 @@ pub record FitsStation (s : Station) : Type 0 where
   pub site : s.site < 16
 
 -- the header of its frames: UTC coupled, with valid application data
-abbrev pub header_of : Station → ℕ → Header
+abbrev pub header_of : Station → ℕ → UplinkHeader
 header_of s slot = record {
-  latitude = s.latitude;
-  longitude = s.longitude;
-  is_position_valid = s.is_position_valid;
-  is_utc_coupled = true;
-  is_application_valid = true;
+  lat = s.latitude;
+  lon = s.longitude;
+  position_valid = s.is_position_valid;
+  utc = true;
+  app_valid = true;
   slot = slot;
   site = s.site;
 }

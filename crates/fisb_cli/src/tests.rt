@@ -23,7 +23,7 @@ fn args(alloc: Global, words: &[&str]) -> Result<Args, AllocError> {
 
 fn source(alloc: Global, text: &str) -> Result<MemorySource, AllocError> {
     let input = Bytes::of(Vec::from_slice(alloc, text.as_bytes())?);
-    Ok(MemorySource::new(input, Numbers::of(Vec::new(alloc))))
+    Ok(MemorySource::new(input, Numbers::of(Vec::new(alloc)), 65_536))
 }
 
 fn sink(alloc: Global) -> Result<MemorySink, AllocError> {

@@ -5,7 +5,8 @@ ghost use Rattle.jiff_core.specs.Calendar.{IsCivilDate, days_from_civil};
 ghost use Rattle.fisb_time.specs.Moment.{IsMoment};
 ghost use Rattle.fisb_time.specs.CivilDate.{IsMonthAndDay, date_of};
 
-use jiff_core::civil::{self, Date};
+use jiff::civil::Date;
+use jiff_core::civil;
 
 /// The date of a moment, which is given in seconds.
 pub(crate) fn date_at(seconds: u64) -> Date
@@ -15,7 +16,7 @@ pub(crate) fn date_at(seconds: u64) -> Date
     ensures day { result.day ≡ (date_of seconds).day }
 {
     let day = seconds / 86_400;
-    Date::from_unix_epoch_day(day as i64).unwrap()
+    Date::from_plain(civil::Date::from_unix_epoch_day(day as i64).unwrap())
 }
 
 /// The year of a moment, which is given in seconds.
@@ -23,7 +24,7 @@ pub(crate) fn year_at(seconds: u64) -> u16
     requires { IsMoment seconds }
     ensures { result ≡ (date_of seconds).year }
 {
-    date_at(seconds).year.unsigned_abs()
+    date_at(seconds).year().unsigned_abs()
 }
 
 /// The days from 1970-01-01 to a date.
@@ -33,7 +34,7 @@ pub(crate) fn day_number(year: u16, month: u8, day: u8) -> u64
     ensures value { days_from_civil (pos year) month day ≡ pos result }
     ensures bound { result ≤ 2932896 }
 {
-    let date = Date {
+    let date = civil::Date {
         year: year as i16,
         month,
         day,

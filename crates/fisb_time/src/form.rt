@@ -70,7 +70,7 @@ fn month_and_day(form: TimeForm, moment: Moment) -> (u8, u8)
         TimeForm::Minute | TimeForm::Second => (0, 0),
         TimeForm::DayMinute | TimeForm::DaySecond => {
             let date = date_at(moment.seconds());
-            (date.month, date.day)
+            (date.month().unsigned_abs(), date.day().unsigned_abs())
         }
     }
 }

@@ -263,12 +263,3 @@ fn no_date_names_a_moment_outside_the_century(rt: HostRuntime) {
         );
     }
 }
-
-#[test]
-fn laws_can_be_called() {
-    named_is_greatest();
-    time_round_trip();
-    date_round_trip();
-    form_round_trip();
-    date_of_day();
-}

@@ -12,6 +12,8 @@ pub record Supply : Type 0 where
   pub next : ℕ
   -- the numbers of the calls that fail
   pub fails : List ℕ
+  -- the most bytes that one read gives
+  pub piece : ℕ
   -- how many calls failed, up to 2^64 − 1
   pub faults : ℕ
 

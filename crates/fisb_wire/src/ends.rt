@@ -1,5 +1,5 @@
 //! What every source and every sink keeps.
-ghost use Rattle.std.specs.Prelude.{◌≡◌, ℕ, ◌-◌, ◌^◌, ◌≤◌, List, length, Option};
+ghost use Rattle.std.specs.Prelude.{◌≡◌, ℕ, ◌-◌, ◌^◌, ◌≤◌, List, length, Option, OnOk};
 ghost use Rattle.std.specs.Io.{ReadsAtMost};
 ghost use Rattle.std.specs.Io.KnownBytes.{ReadConsumes, WriteAppends};
 ghost use Rattle.fisb_wire.specs.Faults.{HasCause};
@@ -24,7 +24,8 @@ pub trait Source {
         ensures bound { ReadsAtMost result room.new }
         // At an answer of 0 in a room that is not empty no byte is left, and only there.
         ensures bytes { ReadConsumes (left self.old) (left self.new) result room.new }
-        ensures cause { HasCause (faults self.old) (faults self.new) result };
+        ensures cause { HasCause (faults self.old) (faults self.new) result }
+        ensures kept { OnOk result (faults self.new ≡ faults self.old) };
 
     // The count fits 64 bits, and stands still at their end.
     ghost bounded: { (source : Self) → faults source ≤ 2 ^ 64 - 1 };
@@ -52,7 +53,8 @@ pub trait Sink {
         ensures bytes { WriteAppends (written self.old) (written self.new) result piece.now }
         ensures spare { SpendsTaken (spare self.old) (spare self.new) result }
         ensures reach { reach self.new ≡ reach self.old }
-        ensures cause { HasCause (faults self.old) (faults self.new) result };
+        ensures cause { HasCause (faults self.old) (faults self.new) result }
+        ensures kept { OnOk result (faults self.new ≡ faults self.old) };
 
     // The count fits 64 bits, and stands still at their end.
     ghost bounded: { (sink : Self) → faults sink ≤ 2 ^ 64 - 1 };

@@ -1,56 +1,66 @@
 //! A source and a sink in memory, which fail at chosen calls.
-ghost use Rattle.std.specs.Prelude.{◌≡◌, ℕ, ◌+◌, ◌-◌, ◌<◌, ◌≤◌, ◌↔◌, min, [], ◌++◌, length, take, drop, Contains, Some, None, IsTrue, IsErr, IfOk, OnErr};
+ghost use Rattle.std.specs.Prelude.{◌≡◌, ℕ, ◌+◌, ◌-◌, ◌<◌, ◌≤◌, ◌↔◌, min, [], ◌++◌, length, take, drop, Contains, Some, None, IsTrue, IsErr, IfOk, OnOk, OnErr};
 ghost use Rattle.std.specs.Io.{ReadsAtMost};
 ghost use Rattle.std.specs.Io.KnownBytes.{ReadConsumes, WriteAppends};
 ghost use Rattle.fisb_wire.specs.Faults.{HasCause, counted, counted-bound, next_count};
 ghost use Rattle.fisb_wire.specs.Ends.{TakesSome, FitsSpare, SpendsTaken, IsReached};
 ghost use Rattle.fisb_wire.specs.Memory.{FailsNext, RefusesNext, store_reach, store-reached};
 
+use crate::copying::copy_behind;
 use crate::ends::{Failed, Sink, Source};
 use crate::lists::{Bytes, Numbers};
+use crate::unread::Unread;
 use std::alloc::{AllocError, Global};
 use std::marker::Model;
 
 /// A source of the bytes of a list. Chosen calls of it fail.
 #[derive(Drop)]
 pub struct MemorySource {
-    input: Bytes,
-    // How many bytes were read.
-    place: usize,
+    unread: Unread,
     // How many calls were made.
     calls: u64,
     fails: Numbers,
+    // The most bytes that one read gives.
+    piece: usize,
     // How many calls failed.
     failed: u64,
 }
 
 impl Model for MemorySource {
-    ghost use Rattle.std.specs.Prelude.{◌≤◌, length, drop};
+    ghost use Rattle.std.specs.Prelude.{◌<◌};
     ghost use Rattle.fisb_wire.specs.Memory.{Supply};
 
     ghost Value = { Supply };
 
     ghost view = { λ s. record {
-      left = drop s.place s.input;
+      left = s.unread;
       next = s.calls;
       fails = s.fails;
+      piece = s.piece;
       faults = s.failed;
     } };
 
-    ghost invariant = { λ s. s.place ≤ length s.input };
+    ghost invariant = { λ s. 0 < s.piece };
 }
 
 impl MemorySource {
     /// A source of the bytes of `input`, of which exactly the calls with the numbers in `fails` fail,
-    /// counted from 0.
-    pub fn new(input: Bytes, fails: Numbers) -> MemorySource
-        ensures { result ≡ record { left = input; next = 0; fails = fails; faults = 0 } }
+    /// counted from 0. A read gives at most `piece` bytes.
+    pub fn new(input: Bytes, fails: Numbers, piece: usize) -> MemorySource
+        requires { 0 < piece }
+        ensures { result ≡ record {
+          left = input;
+          next = 0;
+          fails = fails;
+          piece = piece;
+          faults = 0;
+        } }
     {
         MemorySource {
-            input,
-            place: 0,
+            unread: Unread::of(input),
             calls: 0,
             fails,
+            piece,
             failed: 0,
         }
     }
@@ -67,9 +77,11 @@ impl Source for MemorySource {
         ensures bound { ReadsAtMost result room.new }
         ensures bytes { ReadConsumes (Some self.old.left) (Some self.new.left) result room.new }
         ensures cause { HasCause (counted self.old.faults) (counted self.new.faults) result }
+        ensures kept { OnOk result (counted self.new.faults ≡ counted self.old.faults) }
 
         ensures fails { IsErr result ↔ FailsNext self.old }
-        ensures count { IfOk result (λ n. n ≡ min (length room.old) (length self.old.left)) }
+        ensures count { IfOk result (λ n.
+            n ≡ min self.old.piece (min (length room.old) (length self.old.left))) }
         ensures given { IfOk result (λ n. room.new ≡ take n self.old.left ++ drop n room.old) }
         ensures ok { IfOk result (λ n. self.new ≡ record self.old {
           left = drop n self.old.left;
@@ -87,9 +99,7 @@ impl Source for MemorySource {
             self.failed = self.failed.saturating_add(1);
             return Err(Failed);
         }
-        let n = copy_front(&self.input.all()[self.place..], room);
-        self.place += n;
-        Ok(n)
+        Ok(self.unread.give(room, self.piece))
     }
 }
 
@@ -173,9 +183,11 @@ impl Sink for MemorySink {
         ensures spare { SpendsTaken None None result }
         ensures reach { store_reach self.new ≡ store_reach self.old }
         ensures cause { HasCause (counted self.old.faults) (counted self.new.faults) result }
+        ensures kept { OnOk result (counted self.new.faults ≡ counted self.old.faults) }
 
         ensures fails { IsErr result ↔ RefusesNext self.old (length piece.now) }
-        ensures count { IfOk result (λ n. n ≡ min (length piece.now) (self.old.room - length self.old.taken)) }
+        ensures count { IfOk result (λ n.
+            n ≡ min (length piece.now) (self.old.room - length self.old.taken)) }
         ensures ok { IfOk result (λ n. self.new ≡ record self.old {
           taken = self.old.taken ++ take n piece.now;
           next = next_count self.old.next;
@@ -202,25 +214,4 @@ fn is_listed(numbers: &[u32], call: u64) -> bool
     ensures { IsTrue result ↔ Contains numbers.now call }
 {
     numbers.iter().any(|number| u64::from(*number) == call)
-}
-
-// Copies as many bytes as both have, and answers how many.
-fn copy_front(from: &[u8], to: &mut [u8]) -> usize
-    ensures count { result ≡ min (length from.now) (length to.old) }
-    ensures copied { to.new ≡ take result from.now ++ drop result to.old }
-    ensures front { from.now ≡ take result to.new ++ drop result from.now }
-    ensures end { result ≡ 0 → 0 < length to.new → from.now ≡ [] }
-{
-    let n = from.len().min(to.len());
-    to[..n].copy_from_slice(&from[..n]);
-    n
-}
-
-// Copies as many bytes as fit into the buffer behind the used ones, and answers how many.
-fn copy_behind(used: usize, piece: &[u8], buffer: &mut [u8]) -> usize
-    requires { used ≤ length buffer.old }
-    ensures count { result ≡ min (length piece.now) (length buffer.old - used) }
-    ensures copied { take (used + result) buffer.new ≡ take used buffer.old ++ take result piece.now }
-{
-    copy_front(piece, &mut buffer[used..])
 }

@@ -38,7 +38,10 @@ impl<R: Read> Source for StdSource<R> {
         ensures bound { ReadsAtMost result room.new }
         ensures bytes { ReadConsumes (R.remaining (reader_of self.old)) (R.remaining (reader_of self.new))
             result room.new }
-        ensures cause { HasCause (counted (failed_reads self.old)) (counted (failed_reads self.new)) result }
+        ensures cause { HasCause (counted (failed_reads self.old)) (counted (failed_reads self.new))
+            result }
+        ensures kept { OnOk result
+            (counted (failed_reads self.new) ≡ counted (failed_reads self.old)) }
 
         ensures ok { OnOk result (failed_reads self.new ≡ failed_reads self.old) }
         ensures err { OnErr result (failed_reads self.new ≡ next_count (failed_reads self.old)) }
@@ -89,7 +92,10 @@ impl<W: Write> Sink for StdSink<W> {
         ensures bytes { WriteAppends (W.contents (writer_of self.old)) (W.contents (writer_of self.new))
             result piece.now }
         ensures spare { SpendsTaken None None result }
-        ensures cause { HasCause (counted (failed_writes self.old)) (counted (failed_writes self.new)) result }
+        ensures cause { HasCause (counted (failed_writes self.old))
+            (counted (failed_writes self.new)) result }
+        ensures kept { OnOk result
+            (counted (failed_writes self.new) ≡ counted (failed_writes self.old)) }
 
         ensures ok { OnOk result (failed_writes self.new ≡ failed_writes self.old) }
         ensures err { OnErr result (failed_writes self.new ≡ next_count (failed_writes self.old)) }

@@ -1,7 +1,10 @@
-ghost use Rattle.std.specs.Prelude.{◌≤◌, length, IfOk};
+ghost use Rattle.std.specs.Prelude.{◌≡◌, ◌≤◌, length, IfOk};
 ghost use Rattle.fisb_wire.specs.Ends.{FitsSpare};
 
-use crate::{Bytes, Failed, MemorySink, MemorySource, Numbers, Sink, Source, StdSink, StdSource};
+use crate::{
+    Bytes, Failed, FaithfulSink, FaithfulSource, MemorySink, MemorySource, Numbers, PieceSource,
+    Sink, Source, StdSink, StdSource,
+};
 use std::alloc::{AllocError, Global};
 use std::io;
 use std::io::{Read, Write};
@@ -11,7 +14,9 @@ fn bytes(alloc: Global, items: &[u8]) -> Result<Bytes, AllocError> {
     Ok(Bytes::of(Vec::from_slice(alloc, items)?))
 }
 
-fn numbers(alloc: Global, items: &[u32]) -> Result<Numbers, AllocError> {
+fn numbers(alloc: Global, items: &[u32]) -> Result<Numbers, AllocError>
+    ensures { IfOk result (λ list. list ≡ items.now) }
+{
     Ok(Numbers::of(Vec::from_slice(alloc, items)?))
 }
 
@@ -45,7 +50,7 @@ fn a_memory_source_gives_its_bytes_in_pieces_and_fails_at_the_listed_calls(
     rt: HostRuntime,
 ) -> Result<(), Fail> {
     let input = bytes(rt.alloc(), b"abcde")?;
-    let mut source = MemorySource::new(input, numbers(rt.alloc(), &[0, 2])?);
+    let mut source = MemorySource::new(input, numbers(rt.alloc(), &[0, 2])?, 9);
     let mut room = *b"--";
     let answers = [
         (Err(Failed), *b"--"),
@@ -92,6 +97,38 @@ fn a_memory_sink_fails_at_the_listed_calls(rt: HostRuntime) -> Result<(), Fail> 
         assert_eq!(rt; write(&mut sink, piece), answer);
     }
     assert_eq!(rt; sink.taken(), b"abcd".as_slice());
+    Ok(())
+}
+
+#[test]
+fn the_faithful_ends_move_bytes(rt: HostRuntime) -> Result<(), Fail> {
+    let mut source = FaithfulSource::new(bytes(rt.alloc(), b"abc")?);
+    let mut room = *b"--";
+    assert_eq!(rt; read(&mut source, &mut room), Ok(2));
+    assert_eq!(rt; room, *b"ab");
+    assert_eq!(rt; read(&mut source, &mut room), Ok(1));
+    assert_eq!(rt; read(&mut source, &mut room), Ok(0));
+
+    let mut held = *b"---";
+    let mut sink = FaithfulSink::new(&mut held);
+    assert_eq!(rt; sink.write(b"ab"), Ok(2));
+    assert_eq!(rt; sink.write(b""), Ok(0));
+    assert_eq!(rt; held, *b"ab-");
+    Ok(())
+}
+
+#[test]
+fn a_piece_source_gives_its_bytes_in_the_sizes_listed(rt: HostRuntime) -> Result<(), Fail> {
+    let mut source = PieceSource::new(
+        bytes(rt.alloc(), b"abcdefg")?,
+        numbers(rt.alloc(), &[1, 9, 2])?,
+    );
+    let mut room = *b"---";
+    for (answer, after) in [(1, *b"a--"), (3, *b"bcd"), (2, *b"efd")] {
+        assert_eq!(rt; read(&mut source, &mut room), Ok(answer));
+        assert_eq!(rt; room, after);
+    }
+    assert_eq!(rt; source.rest(), b"g".as_slice());
     Ok(())
 }
 

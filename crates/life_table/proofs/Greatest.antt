@@ -1,5 +1,5 @@
 -- No row of reports lives longer than the longest life, and the longest life is at most thirty days.
-use Rattle.std.proofs.Common.{◌≡◌, ℕ, ◌≤◌, ◌==◌, Bool, List, [], ◌∷◌, map, filter, fold, max, Some, IfSome, refl, arith, inl, inr}
+use Rattle.std.proofs.Common.{◌≡◌, ℕ, ◌≤◌, ◌==◌, Bool, List, [], ◌∷◌, map, filter, fold, max, Some, IfSome, refl, ap, arith, inl, inr}
 use Rattle.std.specs.List.{find, All, AllByRecursion}
 use Rattle.std.proofs.lemmas.Bool.{cases_Bool}
 use Rattle.std.proofs.lemmas.List.Elements.{All-weaker, All-map, All-filter, recursion_from_All}
@@ -8,34 +8,52 @@ use Rattle.fisb_time.specs.declared.form.TimeForm.TheVariants.{Minute, Second, D
 use Rattle.life_table.specs.LifeTable.{LifeTable, TextRow, RadarRow, greatest_of, longest}
 use Rattle.life_table.specs.Rules.{IsTable, IsTextRow, IsRadarRow, IsWithinForm}
 
-fold_above : (xs : List ℕ) (a : ℕ) → a ≤ fold max a xs
+pub fold_above : (xs : List ℕ) (a : ℕ) → a ≤ fold max a xs
 fold_above [] a = omega arith
 fold_above (x ∷ xs) a = omega (arith, fold_above xs (max a x))
 
-found_below : (test : TextRow → Bool) (rows : List TextRow) (r : TextRow) (start : ℕ) → find test rows ≡ Some r → r.life ≤ fold max start (map (λ q. q.life) rows)
-found_below test [] r start h = absurd (cc)
-found_below test (q ∷ rows) r start h =
+-- the row that a test finds is the first of those that pass it
+pub found_first :
+    {X : Type 0} (test : X → Bool) (rows : List X) (r : X) → find test rows ≡ Some r →
+    (more : List X) × (filter test rows ≡ r ∷ more)
+found_first test [] r h = absurd (cc)
+found_first test (q ∷ rows) r h =
     elim (cases_Bool (test q)) [
-      | inl t ↦
-          let h' = rw t at h in
-          let same : q.life ≡ r.life = cc in
-          omega (arith, fold_above (map (λ q. q.life) rows) (max start q.life))
-      | inr f ↦ found_below test rows r (max start q.life) (rw f at h)
+      | inl t ↦ let h' : Some q ≡ Some r = rw t at h in let same : q ≡ r = cc in (filter test rows, rw (t, same) refl)
+      | inr f ↦ let rest = found_first test rows r (rw f at h) in (rest.0, rw f rest.1)
     ]
 
-pub greatest_above : (test : TextRow → Bool) (rows : List TextRow) (r : TextRow) → find test rows ≡ Some r → (life : ℕ) × (greatest_of (map (λ q. q.life) rows) ≡ Some life) × (r.life ≤ life)
-greatest_above test [] r h = absurd (cc)
-greatest_above test (q ∷ rows) r h =
-    let longest : ℕ = fold max q.life (map (λ q. q.life) rows) in
-    let below : r.life ≤ longest =
+found_below :
+    {X : Type 0} (life : X → ℕ) (test : X → Bool) (rows : List X) (r : X) (start : ℕ) → find test rows ≡ Some r →
+    life r ≤ fold max start (map life rows)
+found_below life test [] r start h = absurd (cc)
+found_below life test (q ∷ rows) r start h =
     elim (cases_Bool (test q)) [
       | inl t ↦
-          let h' = rw t at h in
-          let same : q.life ≡ r.life = cc in
-          omega (arith, fold_above (map (λ q. q.life) rows) q.life)
-      | inr f ↦ found_below test rows r q.life (rw f at h)
+          let h' : Some q ≡ Some r = rw t at h in
+          let same : q ≡ r = cc in
+          let lives : life q ≡ life r = ap life same in
+          omega (arith, fold_above (map life rows) (max start (life q)))
+      | inr f ↦ found_below life test rows r (max start (life q)) (rw f at h)
+    ]
+
+-- a row that is found lives no longer than the greatest life, which is there
+pub greatest_above :
+    {X : Type 0} (life : X → ℕ) (test : X → Bool) (rows : List X) (r : X) → find test rows ≡ Some r →
+    (most : ℕ) × (greatest_of (map life rows) ≡ Some most) × (life r ≤ most)
+greatest_above life test [] r h = absurd (cc)
+greatest_above life test (q ∷ rows) r h =
+    let most : ℕ = fold max (life q) (map life rows) in
+    let below : life r ≤ most =
+    elim (cases_Bool (test q)) [
+      | inl t ↦
+          let h' : Some q ≡ Some r = rw t at h in
+          let same : q ≡ r = cc in
+          let lives : life q ≡ life r = ap life same in
+          omega (arith, fold_above (map life rows) (life q))
+      | inr f ↦ found_below life test rows r (life q) (rw f at h)
     ] in
-    (longest, refl, below)
+    (most, refl, below)
 
 abbrev IsShort : ℕ → Type 0
 IsShort life = life ≤ 2592000

@@ -7,3 +7,5 @@ pub mod Accepted
 pub mod Written
 pub mod Greatest
 pub mod Kept
+pub mod Attained
+pub mod DefaultDocument

@@ -5,3 +5,5 @@ pub mod Fault
 pub mod RowsOf
 pub mod TableIn
 pub mod Views
+pub mod Longest
+pub mod DefaultDocument

@@ -1,17 +1,31 @@
 //! Laws of the definitions, for the crates above: each is the contract of a function that does nothing.
-ghost use Rattle.std.specs.Prelude.{◌≡◌, ℕ, ◌≤◌, List, Some, Ok};
-ghost use Rattle.life_table.specs.LifeTable.{LifeTable, TextRow, text_row, longest, default_table};
+ghost use Rattle.std.specs.Prelude.{◌≡◌, ℕ, ◌≤◌, ◌↔◌, List, Some, None, Ok};
+ghost use Rattle.life_table.specs.LifeTable.{LifeTable, TextRow, RadarRow, text_row, radar_row, longest, default_table};
+ghost use Rattle.life_table.specs.Longest.{IsLifeOf, IsLongest};
 ghost use Rattle.life_table.specs.Rules.{IsTable};
+ghost use Rattle.life_table.specs.DefaultDocument.{default_document};
 ghost use Rattle.life_table.specs.TableIn.{table_in};
 
-/// The longest life of reports is there where a type has a row, and no row lives longer.
+/// In a table that keeps the rules, the longest life of a product is there exactly where a look-up
+/// finds a row of it. A row has this life, and none has a longer one.
 pub fn longest_is_greatest()
-    ensures { (table : LifeTable) (word : List ℕ) (row : TextRow) → text_row table word ≡ Some row →
+    ensures longest { (table : LifeTable) (product life : ℕ) → IsTable table →
+        (longest table product ≡ Some life) ↔ IsLongest table product life }
+    ensures none { (table : LifeTable) (product : ℕ) → IsTable table →
+        (longest table product ≡ None) ↔ ((life : ℕ) → ¬ IsLifeOf table product life) }
+    ensures texts { (table : LifeTable) (word : List ℕ) (row : TextRow) →
+        text_row table word ≡ Some row →
         (life : ℕ) × (longest table 413 ≡ Some life) × (row.life ≤ life) }
+    ensures radars { (table : LifeTable) (product : ℕ) (row : RadarRow) → IsTable table →
+        radar_row table product ≡ Some row →
+        (life : ℕ) × (longest table product ≡ Some life) × (row.life ≤ life) }
 {}
 
-/// The default table and every table that a text writes keep the rules.
+/// The default table and every table that a text writes keep the rules; and the default table is
+/// the one that its document writes.
 pub fn tables_keep_rules()
     ensures default { IsTable default_table }
-    ensures read { (text : List ℕ) (table : LifeTable) → table_in text ≡ Ok table → IsTable table }
+    ensures document { table_in default_document ≡ Ok default_table }
+    ensures read { (text : List ℕ) (table : LifeTable) →
+        table_in text ≡ Ok table → IsTable table }
 {}

@@ -1,4 +1,4 @@
-use crate::{LifeTable, RowFault, TableFault, longest_is_greatest, tables_keep_rules};
+use crate::{LifeTable, RowFault, TableFault};
 use fisb_time::TimeForm;
 use std::alloc::{AllocError, Global};
 use std::test::Fail;
@@ -48,8 +48,6 @@ fn lives_of_reports_end_within_a_day(rt: HostRuntime) -> Result<(), Fail> {
 
 #[test]
 fn default_table_and_its_copy_agree(rt: HostRuntime) -> Result<(), Fail> {
-    longest_is_greatest();
-    tables_keep_rules();
     let table = LifeTable::default_table(rt.alloc())?;
     let copy = table.copy(rt.alloc())?;
     for table in [&table, &copy] {

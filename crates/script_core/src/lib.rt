@@ -7,11 +7,15 @@ mod forms;
 mod kinds;
 mod laws;
 mod places;
+mod printing;
 mod reading;
+mod reason;
 mod script_line;
 
 pub use laws::ranges_of_lines;
+pub use printing::print_refused;
 pub use reading::read_line;
+pub use reason::Reason;
 pub use script_line::{Line, LineFault};
 
 #[cfg(test)]

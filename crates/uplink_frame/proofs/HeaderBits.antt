@@ -6,7 +6,8 @@ use Rattle.std.proofs.lemmas.List.{length-take, length-take-le}
 use Rattle.std.proofs.lemmas.List.Elements.{All-nil, All-cons}
 use Rattle.std.proofs.lemmas.Nat.{from_be_bytes-to_be_bytes_8}
 use Rattle.bit_fields.specs.Bits.{number_of}
-use Rattle.uplink_frame.specs.UplinkFrame.{Header, FitsHeader, bit, header_bytes, header_in}
+use Rattle.uplink_frame.specs.declared.header.UplinkHeader.{UplinkHeader}
+use Rattle.uplink_frame.specs.UplinkFrame.{FitsHeader, bit, header_bytes, header_in}
 
 -- the first eight bytes, one by one
 pub first_eight :
@@ -62,25 +63,25 @@ bit_back true n e = rw e refl
 bit_back false n e = rw e refl
 
 -- the header whose fields are these bits
-pub header_of_bits : ℕ → Header
+pub header_of_bits : ℕ → UplinkHeader
 header_of_bits n = record {
-  latitude = n / 2 ^ 41 % 2 ^ 23;
-  longitude = n / 2 ^ 17 % 2 ^ 24;
-  is_position_valid = n / 2 ^ 16 % 2 == 1;
-  is_utc_coupled = n / 2 ^ 15 % 2 == 1;
-  is_application_valid = n / 2 ^ 13 % 2 == 1;
+  lat = n / 2 ^ 41 % 2 ^ 23;
+  lon = n / 2 ^ 17 % 2 ^ 24;
+  position_valid = n / 2 ^ 16 % 2 == 1;
+  utc = n / 2 ^ 15 % 2 == 1;
+  app_valid = n / 2 ^ 13 % 2 == 1;
   slot = n / 2 ^ 8 % 32;
   site = n / 2 ^ 4 % 16;
 }
 
 -- the fields at the front of so many bytes
-fields_with : ℕ → List ℕ → Header
+fields_with : ℕ → List ℕ → UplinkHeader
 fields_with size front = record {
-  latitude = number_of front / 2 ^ (8 * size - 0 - 23) % 2 ^ 23;
-  longitude = number_of front / 2 ^ (8 * size - 23 - 24) % 2 ^ 24;
-  is_position_valid = number_of front / 2 ^ (8 * size - 47 - 1) % 2 ^ 1 == 1;
-  is_utc_coupled = number_of front / 2 ^ (8 * size - 48 - 1) % 2 ^ 1 == 1;
-  is_application_valid = number_of front / 2 ^ (8 * size - 50 - 1) % 2 ^ 1 == 1;
+  lat = number_of front / 2 ^ (8 * size - 0 - 23) % 2 ^ 23;
+  lon = number_of front / 2 ^ (8 * size - 23 - 24) % 2 ^ 24;
+  position_valid = number_of front / 2 ^ (8 * size - 47 - 1) % 2 ^ 1 == 1;
+  utc = number_of front / 2 ^ (8 * size - 48 - 1) % 2 ^ 1 == 1;
+  app_valid = number_of front / 2 ^ (8 * size - 50 - 1) % 2 ^ 1 == 1;
   slot = number_of front / 2 ^ (8 * size - 51 - 5) % 2 ^ 5;
   site = number_of front / 2 ^ (8 * size - 56 - 4) % 2 ^ 4;
 }
@@ -102,11 +103,11 @@ pub read_is :
     (n lat lon p u a slot site : ℕ) → lat ≡ n / 2 ^ 41 % 2 ^ 23 → lon ≡ n / 2 ^ 17 % 2 ^ 24 → p ≡ n / 2 ^ 16 % 2 →
     u ≡ n / 2 ^ 15 % 2 → a ≡ n / 2 ^ 13 % 2 → slot ≡ n / 2 ^ 8 % 32 → site ≡ n / 2 ^ 4 % 16 →
     record {
-      latitude = lat;
-      longitude = lon;
-      is_position_valid = p == 1;
-      is_utc_coupled = u == 1;
-      is_application_valid = a == 1;
+      lat = lat;
+      lon = lon;
+      position_valid = p == 1;
+      utc = u == 1;
+      app_valid = a == 1;
       slot = slot;
       site = site;
     } ≡ header_of_bits n
@@ -115,42 +116,42 @@ read_is n lat lon p u a slot site q r s t v w x = rw (q, r, s, t, v, w, x) refl
 
 -- the fields of the definition, side by side
 joined_is :
-    (h : Header) → header_bytes h ≡ to_be_bytes w64
-    (all_bits h.latitude h.longitude (bit h.is_position_valid) (bit h.is_utc_coupled) (bit h.is_application_valid) h.slot h.site)
+    (h : UplinkHeader) → header_bytes h ≡ to_be_bytes w64
+    (all_bits h.lat h.lon (bit h.position_valid) (bit h.utc) (bit h.app_valid) h.slot h.site)
 joined_is h = ap (bytes_high_first 8) (omega arith)
 
 -- fields that fit are found again in their bits
 fields_back :
-    (h : Header) (bits : ℕ) →
-    HasFields bits h.latitude h.longitude (bit h.is_position_valid) (bit h.is_utc_coupled) (bit h.is_application_valid) h.slot h.site →
+    (h : UplinkHeader) (bits : ℕ) →
+    HasFields bits h.lat h.lon (bit h.position_valid) (bit h.utc) (bit h.app_valid) h.slot h.site →
     header_of_bits bits ≡ h
 unfolding header_of_bits
 fields_back h bits has =
-    let p = bit_back h.is_position_valid _ has.position in
-    let u = bit_back h.is_utc_coupled _ has.utc in
-    let a = bit_back h.is_application_valid _ has.application in
+    let p = bit_back h.position_valid _ has.position in
+    let u = bit_back h.utc _ has.utc in
+    let a = bit_back h.app_valid _ has.application in
     rw (has.latitude, has.longitude, p, u, a, has.slot_is, has.site_is) refl
 
 -- what is written reads back
 pub header_in-written :
-    (h : Header) (payload : List ℕ) → FitsHeader h → take 8 payload ≡ header_bytes h → header_in payload ≡ h
+    (h : UplinkHeader) (payload : List ℕ) → FitsHeader h → take 8 payload ≡ header_bytes h → header_in payload ≡ h
 header_in-written h payload fits front =
     let enough : 8 ≤ length payload = omega (arith, ap length front, length-take 8 payload) in
-    let p = bit_below h.is_position_valid in
-    let u = bit_below h.is_utc_coupled in
-    let a = bit_below h.is_application_valid in
-    let bits = all_bits h.latitude h.longitude (bit h.is_position_valid) (bit h.is_utc_coupled) (bit h.is_application_valid) h.slot h.site in
-    let small : bits < 2 ^ 64 = omega (arith, fits.latitude, fits.longitude, fits.slot, fits.site) in
+    let p = bit_below h.position_valid in
+    let u = bit_below h.utc in
+    let a = bit_below h.app_valid in
+    let bits = all_bits h.lat h.lon (bit h.position_valid) (bit h.utc) (bit h.app_valid) h.slot h.site in
+    let small : bits < 2 ^ 64 = omega (arith, fits.lat, fits.lon, fits.slot, fits.site) in
     let number : number_of (take 8 payload) ≡ bits =
     ap number_of (front ∙ joined_is h) ∙ sym (number_of-eight _ _ _ _ _ _ _ _) ∙ from_be_bytes-to_be_bytes_8 bits small
     in
     header_in-bits payload enough ∙ ap header_of_bits number
     ∙ fields_back h bits
-    (has_fields h.latitude h.longitude (bit h.is_position_valid) (bit h.is_utc_coupled) (bit h.is_application_valid) h.slot h.site
-    fits.latitude fits.longitude p u a fits.slot fits.site)
+    (has_fields h.lat h.lon (bit h.position_valid) (bit h.utc) (bit h.app_valid) h.slot h.site
+    fits.lat fits.lon p u a fits.slot fits.site)
 
 -- eight bytes
-pub length-header_bytes : (h : Header) → length (header_bytes h) ≡ 8
+pub length-header_bytes : (h : UplinkHeader) → length (header_bytes h) ≡ 8
 length-header_bytes h = refl
 
 byte_below : (k n : ℕ) → byte_at k n < 256

@@ -4,3 +4,5 @@ pub mod HeaderBits
 pub mod Pushed
 pub mod ReadBack
 pub mod Scenes
+pub mod Bodies
+pub mod Stations

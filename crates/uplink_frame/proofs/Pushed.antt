@@ -5,7 +5,8 @@ use Rattle.std.proofs.lemmas.List.{append-nil, length-append, length-take-le, ta
 use Rattle.std.proofs.lemmas.List.Elements.{All-push}
 use Rattle.std.proofs.lemmas.Grind.{flat_map-append}
 use Rattle.std.proofs.Math.Seq.{drop-append-add}
-use Rattle.uplink_frame.specs.UplinkFrame.{Header, InformationFrame, header_bytes, frame_front, information_frame, frames_in, information_frames, spelled_frames, application_data, payload_of, FitsFrame}
+use Rattle.uplink_frame.specs.declared.header.UplinkHeader.{UplinkHeader}
+use Rattle.uplink_frame.specs.UplinkFrame.{InformationFrame, header_bytes, frame_front, information_frame, frames_in, information_frames, spelled_frames, application_data, payload_of, FitsFrame}
 use Rattle.uplink_frame.specs.AppDataBytes.{IsFilled}
 use Rattle.uplink_frame.proofs.FrameList.{ap2, All-frames_in, information_frames-frames_in}
 use Rattle.uplink_frame.proofs.Spelled.{frames_in-zeros, frames_in-written}
@@ -135,7 +136,7 @@ finished bytes old new used filled whole long written =
 
 -- with the bytes of a header before it, it is the payload of the header and the frames
 pub payload_of-parts :
-    (h : Header) (frames : List InformationFrame) (start new : List ℕ) → new ≡ start ++ application_data frames →
+    (h : UplinkHeader) (frames : List InformationFrame) (start new : List ℕ) → new ≡ start ++ application_data frames →
     start ≡ header_bytes h → new ≡ payload_of h frames
 unfolding payload_of
 payload_of-parts h frames start new new_is start_is =

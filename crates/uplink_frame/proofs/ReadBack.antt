@@ -3,7 +3,8 @@ use Rattle.std.proofs.Common.{◌≡◌, ℕ, ◌+◌, ◌-◌, ◌<◌, ◌≤�
 use Rattle.std.specs.List.{All}
 use Rattle.std.proofs.lemmas.List.{length-append, length-replicate}
 use Rattle.std.proofs.lemmas.List.Elements.{All-nil, All-head, All-tail, All-append, All-replicate}
-use Rattle.uplink_frame.specs.UplinkFrame.{Header, FitsHeader, InformationFrame, FitsFrame, header_bytes, frame_front, information_frame, frames_in, spelled_frames, application_data, payload_of}
+use Rattle.uplink_frame.specs.declared.header.UplinkHeader.{UplinkHeader}
+use Rattle.uplink_frame.specs.UplinkFrame.{FitsHeader, InformationFrame, FitsFrame, header_bytes, frame_front, information_frame, frames_in, spelled_frames, application_data, payload_of}
 use Rattle.bit_fields.specs.Bits.{AreBytes}
 use Rattle.uplink_frame.specs.Laws.{ReadsBack}
 use Rattle.uplink_frame.proofs.FrameList.{information_frames-frames_in}
@@ -11,7 +12,7 @@ use Rattle.uplink_frame.proofs.Spelled.{frames_in-written}
 use Rattle.uplink_frame.proofs.HeaderBits.{header_in-written, length-header_bytes, All-bytes_high_first}
 
 length-payload_of :
-    (h : Header) (frames : List InformationFrame) → length (spelled_frames frames) ≤ 424 → length (payload_of h frames) ≡ 432
+    (h : UplinkHeader) (frames : List InformationFrame) → length (spelled_frames frames) ≤ 424 → length (payload_of h frames) ≡ 432
 unfolding payload_of
 length-payload_of h frames room =
     let spelled = spelled_frames frames in
@@ -25,12 +26,12 @@ length-payload_of h frames room =
     at 424 refl room
 
 front-payload_of :
-    (h : Header) (frames : List InformationFrame) → take 8 (payload_of h frames) ≡ header_bytes h
+    (h : UplinkHeader) (frames : List InformationFrame) → take 8 (payload_of h frames) ≡ header_bytes h
 unfolding payload_of
 front-payload_of h frames = refl
 
 rest-payload_of :
-    (h : Header) (frames : List InformationFrame) → drop 8 (payload_of h frames) ≡ application_data frames
+    (h : UplinkHeader) (frames : List InformationFrame) → drop 8 (payload_of h frames) ≡ application_data frames
 unfolding payload_of
 rest-payload_of h frames = refl
 
@@ -46,7 +47,7 @@ All-spelled_frames (frame ∷ frames) bodies =
     (All-spelled_frames frames (All-tail Q frame frames bodies))
 
 All-payload_of :
-    (h : Header) (frames : List InformationFrame) → All (λ frame. AreBytes frame.body) frames → AreBytes (payload_of h frames)
+    (h : UplinkHeader) (frames : List InformationFrame) → All (λ frame. AreBytes frame.body) frames → AreBytes (payload_of h frames)
 unfolding payload_of
 All-payload_of h frames bodies =
     let P : ℕ → Type 0 = λ byte. byte < 256 in
@@ -55,7 +56,7 @@ All-payload_of h frames bodies =
     (All-append P spelled (replicate (424 - length spelled) 0) (All-spelled_frames frames bodies) (All-replicate P (424 - length spelled) 0 (lit< tt)))
 
 pub reads_back :
-    (h : Header) (frames : List InformationFrame) → FitsHeader h → All FitsFrame frames →
+    (h : UplinkHeader) (frames : List InformationFrame) → FitsHeader h → All FitsFrame frames →
     All (λ frame. AreBytes frame.body) frames → length (spelled_frames frames) ≤ 424 → ReadsBack h frames
 reads_back h frames header_fits frames_fit bodies room =
     let size = length-payload_of h frames room in

@@ -1,14 +1,15 @@
 -- Small scenes, computed by the definitions alone: what a header and information frames are as bytes, and what bytes are.
 use Rattle.std.proofs.Common.{◌≡◌, ℕ, true, List, [], ◌∷◌, ◌++◌, take, replicate, refl}
-use Rattle.uplink_frame.specs.UplinkFrame.{Header, header_bytes, header_in, fisb_frame, information_frame, information_frames, payload_of}
+use Rattle.uplink_frame.specs.declared.header.UplinkHeader.{UplinkHeader}
+use Rattle.uplink_frame.specs.UplinkFrame.{header_bytes, header_in, fisb_frame, information_frame, information_frames, payload_of}
 
-abbrev with_flags : ℕ → ℕ → ℕ → Header
+abbrev with_flags : ℕ → ℕ → ℕ → UplinkHeader
 with_flags latitude longitude slot = record {
-  latitude = latitude;
-  longitude = longitude;
-  is_position_valid = true;
-  is_utc_coupled = true;
-  is_application_valid = true;
+  lat = latitude;
+  lon = longitude;
+  position_valid = true;
+  utc = true;
+  app_valid = true;
   slot = slot;
   site = 3;
 }

@@ -1,4 +1,5 @@
 pub mod UplinkFrame
+pub mod Station
 pub mod AppDataBytes
 pub mod Views
 pub mod Spelling

@@ -2,43 +2,34 @@
 use Rattle.std.specs.Prelude.{ℕ, zero, suc, ◌+◌, ◌-◌, ◌^◌, ◌<◌, Bool, ◌&&◌, ◌||◌, ◌==◌, ◌≡◌, nat_lt, if◌then◌else◌, List, [], ◌∷◌, ◌++◌, length, take, drop, flat_map, replicate}
 use Rattle.std.specs.Int.{bytes_high_first}
 use Rattle.bit_fields.specs.Bits.{joined, field_at}
-
--- the header's fields; latitude and longitude are raw counts of 360 / 2^24 degrees
-pub record Header : Type 0 where
-  pub latitude : ℕ
-  pub longitude : ℕ
-  pub is_position_valid : Bool
-  pub is_utc_coupled : Bool
-  pub is_application_valid : Bool
-  pub slot : ℕ
-  pub site : ℕ
+use Rattle.uplink_frame.specs.declared.header.UplinkHeader.{UplinkHeader}
 
 abbrev pub bit : Bool → ℕ
 bit b = if b then 1 else 0
 
 -- the 8 bytes of a header; the two reserved fields are 0
-abbrev pub header_bytes : Header → List ℕ
-header_bytes h = bytes_high_first 8 (joined 0 (record { width = 23; number = h.latitude } ∷ record { width = 24; number = h.longitude }
-    ∷ record { width = 1; number = bit h.is_position_valid } ∷ record { width = 1; number = bit h.is_utc_coupled } ∷ record { width = 1; number = 0 }
-    ∷ record { width = 1; number = bit h.is_application_valid } ∷ record { width = 5; number = h.slot } ∷ record { width = 4; number = h.site }
+abbrev pub header_bytes : UplinkHeader → List ℕ
+header_bytes h = bytes_high_first 8 (joined 0 (record { width = 23; number = h.lat } ∷ record { width = 24; number = h.lon }
+    ∷ record { width = 1; number = bit h.position_valid } ∷ record { width = 1; number = bit h.utc } ∷ record { width = 1; number = 0 }
+    ∷ record { width = 1; number = bit h.app_valid } ∷ record { width = 5; number = h.slot } ∷ record { width = 4; number = h.site }
     ∷ record { width = 4; number = 0 } ∷ []))
 
 -- the header that the bits of a payload spell; reserved bits are not looked at
-unfoldable pub header_in : List ℕ → Header
+unfoldable pub header_in : List ℕ → UplinkHeader
 header_in payload = let front = take 8 payload in record {
-  latitude = field_at front 0 23;
-  longitude = field_at front 23 24;
-  is_position_valid = field_at front 47 1 == 1;
-  is_utc_coupled = field_at front 48 1 == 1;
-  is_application_valid = field_at front 50 1 == 1;
+  lat = field_at front 0 23;
+  lon = field_at front 23 24;
+  position_valid = field_at front 47 1 == 1;
+  utc = field_at front 48 1 == 1;
+  app_valid = field_at front 50 1 == 1;
   slot = field_at front 51 5;
   site = field_at front 56 4;
 }
 
 -- each field fits its width
-pub record FitsHeader (h : Header) : Type 0 where
-  pub latitude : h.latitude < 2 ^ 23
-  pub longitude : h.longitude < 2 ^ 24
+pub record FitsHeader (h : UplinkHeader) : Type 0 where
+  pub lat : h.lat < 2 ^ 23
+  pub lon : h.lon < 2 ^ 24
   pub slot : h.slot < 32
   pub site : h.site < 16
 
@@ -100,7 +91,7 @@ abbrev pub application_data : List InformationFrame → List ℕ
 application_data frames = spelled_frames frames ++ replicate (424 - length (spelled_frames frames)) 0
 
 -- the payload of a header and of information frames
-unfoldable pub payload_of : Header → List InformationFrame → List ℕ
+unfoldable pub payload_of : UplinkHeader → List InformationFrame → List ℕ
 payload_of header frames = header_bytes header ++ application_data frames
 
 -- the type and the length fit their fields, and the frame is not what ends a list

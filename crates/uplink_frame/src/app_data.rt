@@ -1,6 +1,7 @@
 //! Application data of a payload, made of information frames.
 ghost use Rattle.std.specs.Prelude.{◌≡◌, ◌+◌, ◌-◌, ◌<◌, ◌≤◌, ◌↔◌, ◌≢◌, [], ◌∷◌, ◌++◌, length, take, drop, replicate, All, IsErr, OnOk, OnErr};
-ghost use Rattle.uplink_frame.specs.UplinkFrame.{Header, FitsFrame, header_bytes, information_frames, spelled_frames, application_data, payload_of};
+ghost use Rattle.uplink_frame.specs.declared.header.UplinkHeader.{UplinkHeader};
+ghost use Rattle.uplink_frame.specs.UplinkFrame.{FitsFrame, header_bytes, information_frames, spelled_frames, application_data, payload_of};
 
 use crate::walk::HEADER_LENGTH;
 use std::marker::Model;
@@ -80,7 +81,7 @@ impl AppData {
         ensures bytes { payload.new ≡ take 8 payload.old ++ application_data self.now }
         ensures reads_back { information_frames payload.new ≡ self.now }
         ensures frames { All FitsFrame self.now }
-        ensures payload { (h : Header) → take 8 payload.old ≡ header_bytes h → payload.new ≡ payload_of h self.now }
+        ensures payload { (h : UplinkHeader) → take 8 payload.old ≡ header_bytes h → payload.new ≡ payload_of h self.now }
     {
         put(payload, HEADER_LENGTH, &self.bytes);
     }

@@ -1,7 +1,9 @@
 //! The header of a payload.
 ghost use Rattle.std.specs.Prelude.{◌≡◌, ◌+◌, ◌*◌, ◌/◌, ◌%◌, ◌^◌, ◌<◌, ◌≤◌, take, drop};
 ghost use Rattle.uplink_frame.specs.UplinkFrame.{FitsHeader, header_bytes, header_in};
-ghost use Rattle.uplink_frame.specs.Views.{header_view};
+ghost use Rattle.uplink_frame.specs.Station.{station_of};
+
+use crate::station::StationId;
 
 /// The header of a payload: where the ground station is, and how the message was sent.
 #[derive(Clone, Copy, Debug, PartialEq, Eq)]
@@ -22,9 +24,23 @@ pub struct UplinkHeader {
     pub site: u8,
 }
 
+impl UplinkHeader {
+    /// The station that sent the message: its position and its site.
+    pub fn station(&self) -> StationId
+        ensures { result ≡ station_of self.now }
+    {
+        StationId {
+            lat: self.lat,
+            lon: self.lon,
+            position_valid: self.position_valid,
+            site: self.site,
+        }
+    }
+}
+
 /// The header of a payload. Reserved bits are not looked at.
 pub fn read_header(payload: &[u8; 432]) -> UplinkHeader
-    ensures { header_view result ≡ header_in payload.now }
+    ensures { result ≡ header_in payload.now }
 {
     let [a, b, c, d, e, f, g, h, ..] = *payload;
     let bits = u64::from_be_bytes([a, b, c, d, e, f, g, h]);
@@ -39,12 +55,13 @@ pub fn read_header(payload: &[u8; 432]) -> UplinkHeader
     }
 }
 
-/// Writes the header into the first 8 bytes of a payload, the reserved bits as 0, and leaves the others.
+/// Writes the header into the first 8 bytes of a payload, the reserved bits as 0, and leaves the
+/// others.
 pub fn write_header(header: &UplinkHeader, payload: &mut [u8; 432])
-    requires { FitsHeader (header_view header.now) }
-    ensures bytes { take 8 payload.new ≡ header_bytes (header_view header.now) }
+    requires { FitsHeader header.now }
+    ensures bytes { take 8 payload.new ≡ header_bytes header.now }
     ensures rest { drop 8 payload.new ≡ drop 8 payload.old }
-    ensures reads_back { header_in payload.new ≡ header_view header.now }
+    ensures reads_back { header_in payload.new ≡ header.now }
 {
     let bits = with_field(0, 23, u64::from(header.lat));
     let bits = with_field(bits, 24, u64::from(header.lon));

@@ -1,10 +1,8 @@
 ghost use Rattle.std.specs.Prelude.{◌≡◌, ◌<◌, ◌^◌, [], ◌∷◌, length, map, IfOk, All};
 ghost use Rattle.uplink_frame.specs.UplinkFrame.{FitsHeader, information_frames, payload_of};
-ghost use Rattle.uplink_frame.specs.Views.{header_view};
 
 use crate::{
-    AppData, InfoFrame, NoRoom, UplinkHeader, frames, frames_are_spelled, payload_reads_back,
-    read_header, write_header,
+    AppData, InfoFrame, NoRoom, StationId, UplinkHeader, frames, read_header, write_header,
 };
 use std::alloc::{AllocError, Global};
 use std::process::Abort;
@@ -15,7 +13,7 @@ fn header(lat: u32, lon: u32, slot: u8) -> UplinkHeader
     requires lat { lat < 2 ^ 23 }
     requires lon { lon < 2 ^ 24 }
     requires slot { slot < 32 }
-    ensures { FitsHeader (header_view result) }
+    ensures { FitsHeader result }
 {
     UplinkHeader {
         lat,
@@ -52,10 +50,10 @@ fn outlines(alloc: Global, payload: &[u8; 432]) -> Result<Vec<(u8, usize)>, Allo
 
 // The payload of a header and of one information frame.
 fn made(header: &UplinkHeader, kind: u8, body: &[u8]) -> [u8; 432]
-    requires header { FitsHeader (header_view header.now) }
+    requires header { FitsHeader header.now }
     requires kind { 0 < kind × (kind < 16) }
     requires body { length body.now < 400 }
-    ensures { result ≡ payload_of (header_view header.now) (record { kind = kind; body = body.now } ∷ []) }
+    ensures { result ≡ payload_of header.now (record { kind = kind; body = body.now } ∷ []) }
 {
     let mut data = AppData::new();
     let mut payload = [0xFF; 432];
@@ -94,6 +92,14 @@ fn the_greatest_fields_and_no_flag(rt: HostRuntime) {
     write_header(&wide, &mut payload);
     assert!(rt; payload[..8] == [0xFF, 0xFF, 0xFF, 0xFF, 0xFF, 0xFE, 0x1F, 0xF0]);
     assert_eq!(rt; read_header(&payload), wide);
+    let station = StationId {
+        lat: 0x7F_FFFF,
+        lon: 0xFF_FFFF,
+        position_valid: false,
+        site: 15,
+    };
+    assert_eq!(rt; wide.station(), station);
+    assert!(rt; header(5, 9, 0).station() < station);
 }
 
 #[test]
@@ -204,8 +210,6 @@ fn an_apdu_with_nine_bytes_begins_with_06_80(rt: HostRuntime) -> Result<(), Fail
 
 #[test]
 fn a_length_has_nine_bits(rt: HostRuntime) -> Result<(), Fail> {
-    payload_reads_back();
-    frames_are_spelled();
     let body = [0x5A; 300];
     let payload = made(&header(0, 0, 5), 5, &body);
     assert!(rt; payload[8..11] == [0x96, 0x05, 0x5A]);

@@ -80,7 +80,7 @@ fn a_part_of_a_line_that_is_too_long_already_is_refused(rt: HostRuntime) -> Resu
 fn the_second_read_of_a_source_may_fail(rt: HostRuntime) -> Result<(), Fail> {
     let alloc = rt.alloc();
     let input = Bytes::of(Vec::from_slice(alloc, SCRIPT.as_bytes())?);
-    let mut source = MemorySource::new(input, Numbers::of(Vec::from_slice(alloc, &[1])?));
+    let mut source = MemorySource::new(input, Numbers::of(Vec::from_slice(alloc, &[1])?), 65_536);
     let mut sink = ample_sink(alloc)?;
     assert_eq!(rt; run_link(alloc, &mut source, &mut sink), Status::ReadFault);
     assert_eq!(rt; sink.taken(), OUTPUT.as_bytes());

@@ -1,7 +1,7 @@
 use Rattle.std.proofs.Common.{◌≡◌, ℕ, ◌<◌, Bool, nat_eq, List, take, drop, sym, ap, ◌∙◌, arith}
 use Rattle.std.proofs.lemmas.List.Elements.{All-from_get_or}
 use Rattle.bit_fields.specs.Bits.{field_at}
-use Rattle.apdu_core.specs.Apdu.{header_length, read_header, form_of, form_in, is_segmented_in}
+use Rattle.apdu_core.specs.Apdu.{header_length, apdu_of_header, form_of, form_in, is_segmented_in}
 use Rattle.apdu_core.proofs.ApduLemmas.{apdu_of-short, apdu_of-flagged, apdu_of-cut, apdu_of-whole, reading_of-same}
 use Rattle.apdu_core.proofs.reading.read_apdu.Goals as goal
 
@@ -47,9 +47,9 @@ returns-clause-whole c =
     let form_is : form ≡ form_in body = c.form_of-form.ensures ∙ ap form_of number in
     let s_is : s ≡ is_segmented_in body = ap (λ (n : ℕ). nat_eq n 1) bit in
     let size = c.header_length-length.ensures in
-    c.read_header.ensures
-    ∙ ap (λ (h : List ℕ). read_header form s h c.split_at-2.result.1.now) (c.split_at-2.ensures.front ∙ ap (λ (n : ℕ). take n body) size)
-    ∙ ap (λ (p : List ℕ). read_header form s (take (header_length form s) body) p) (c.split_at-2.ensures.back ∙ ap (λ (n : ℕ). drop n body) size)
+    c.apdu_of_header.ensures
+    ∙ ap (λ (h : List ℕ). apdu_of_header form s h c.split_at-2.result.1.now) (c.split_at-2.ensures.front ∙ ap (λ (n : ℕ). take n body) size)
+    ∙ ap (λ (p : List ℕ). apdu_of_header form s (take (header_length form s) body) p) (c.split_at-2.ensures.back ∙ ap (λ (n : ℕ). drop n body) size)
     ∙ sym (apdu_of-whole body form s c.if-body-lt-LEAST_LENGTH.false (sym flag ∙ c.if-field-ne0.false) form_is s_is (omega (arith, size)))
 
 pub returns-clause-spelled : goal.returns-clause-spelled

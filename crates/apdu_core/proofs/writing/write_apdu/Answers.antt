@@ -3,13 +3,13 @@ use Rattle.std.proofs.lemmas.List.{length-drop, length-take-le}
 use Rattle.apdu_core.specs.Apdu.{apdu_header}
 use Rattle.apdu_core.specs.Views.{apdu_view}
 use Rattle.apdu_core.proofs.ApduLemmas.{header_most}
-use Rattle.apdu_core.proofs.WritingLemmas.{some_view, header_size, header_written, placed}
+use Rattle.apdu_core.proofs.WritingLemmas.{header_size, header_written, placed}
 use Rattle.apdu_core.proofs.writing.write_apdu.Goals as goal
 
 pub slice_bounds-copy_from_slice-end : goal.slice_bounds-copy_from_slice-end
 slice_bounds-copy_from_slice-end c =
     let a = apdu_view c.args.apdu.now in
-    let segmented = c.is_some-is_segmented.ensures ∙ sym (some_view c.args.apdu.now.seg) in
+    let segmented = c.is_some-is_segmented.ensures in
     let size = header_size a c.is_some-is_segmented.result c.header_length-length.result segmented c.header_length-length.ensures in
     let all = length-append (apdu_header a) a.payload in
     let holds : length (apdu_header a ++ a.payload) ≤ length c.args.room.now = c.requires.holds in
@@ -18,7 +18,7 @@ slice_bounds-copy_from_slice-end c =
 pub copy_from_slice-requires : goal.copy_from_slice-requires
 copy_from_slice-requires c =
     let a = apdu_view c.args.apdu.now in
-    let segmented = c.is_some-is_segmented.ensures ∙ sym (some_view c.args.apdu.now.seg) in
+    let segmented = c.is_some-is_segmented.ensures in
     let n = c.header_length-length.result in
     let size = header_size a c.is_some-is_segmented.result n segmented c.header_length-length.ensures in
     let all = length-append (apdu_header a) a.payload in
@@ -33,7 +33,7 @@ copy_from_slice-requires c =
 pub returns-clause-written : goal.returns-clause-written
 returns-clause-written c =
     let a = apdu_view c.args.apdu.now in
-    let segmented = c.is_some-is_segmented.ensures ∙ sym (some_view c.args.apdu.now.seg) in
+    let segmented = c.is_some-is_segmented.ensures in
     let n = c.header_length-length.result in
     let size = header_size a c.is_some-is_segmented.result n segmented c.header_length-length.ensures in
     let header : c.copy_from_slice.new.self ≡ apdu_header a = c.copy_from_slice.ensures.after
@@ -44,6 +44,6 @@ returns-clause-written c =
 pub returns-clause-number : goal.returns-clause-number
 returns-clause-number c =
     let a = apdu_view c.args.apdu.now in
-    let segmented = c.is_some-is_segmented.ensures ∙ sym (some_view c.args.apdu.now.seg) in
+    let segmented = c.is_some-is_segmented.ensures in
     let size = header_size a c.is_some-is_segmented.result c.header_length-length.result segmented c.header_length-length.ensures in
     ap (λ (n : ℕ). n + length a.payload) size ∙ sym (length-append (apdu_header a) a.payload)

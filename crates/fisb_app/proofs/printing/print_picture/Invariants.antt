@@ -1,6 +1,6 @@
 use Rattle.std.proofs.Common.{◌≡◌, ◌++◌, string_bytes, flat_map, map, take}
 use Rattle.fisb_broadcast.specs.Shown.{alive}
-use Rattle.receiver_core.specs.Views.{entry_view}
+use Rattle.text_receiver.specs.Views.{entry_view}
 use Rattle.fisb_app.specs.Output.{picture_head, shown_entry}
 use Rattle.fisb_app.proofs.printing.print_picture.Given as goal
 

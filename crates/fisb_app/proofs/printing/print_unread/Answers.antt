@@ -1,5 +1,5 @@
-use Rattle.receiver_core.specs.Views.{unread_view}
-use Rattle.receiver_core.specs.declared.unread.UnreadReason.TheVariants.{Kind}
+use Rattle.text_receiver.specs.Views.{unread_view}
+use Rattle.text_receiver.specs.declared.unread.UnreadReason.TheVariants.{Kind}
 use Rattle.fisb_app.specs.Output.{told_text}
 use Rattle.fisb_app.proofs.PrintLists.{pieces_more}
 use Rattle.fisb_app.proofs.printing.print_unread.Goals as goal

@@ -1,5 +1,5 @@
 use Rattle.std.proofs.Common.{◌≡◌, string_bytes, flat_map, map, take}
-use Rattle.receiver_core.specs.Views.{unread_view}
+use Rattle.text_receiver.specs.Views.{unread_view}
 use Rattle.fisb_app.specs.Output.{told_text}
 use Rattle.fisb_app.proofs.printing.print_unread.Given as goal
 

@@ -1,9 +1,9 @@
 use Rattle.std.proofs.Common.{ap, sym, subst, ◌∙◌, ◌≡◌, ◌≤◌, ◌++◌, length, map, arith, slice_get}
 use Rattle.fisb_broadcast.specs.Receiver.{contents}
 use Rattle.uplink_weave.specs.Functions.{payload_in, counts_in}
-use Rattle.receiver_core.specs.Brought.{brought}
-use Rattle.ground_core.specs.StandsFor.{StandsFor}
-use Rattle.receiver_core.specs.Kept.{Keeps}
+use Rattle.text_receiver.specs.Brought.{brought}
+use Rattle.text_ground.specs.StandsFor.{StandsFor}
+use Rattle.text_receiver.specs.Kept.{Keeps}
 use Rattle.fisb_app.specs.Past.{history, station_of, sent_frames, receptions, air_of}
 use Rattle.fisb_app.specs.Stands.{Aired, sent_view, received_text}
 use Rattle.fisb_app.proofs.ActedHistory.{LineLaws}

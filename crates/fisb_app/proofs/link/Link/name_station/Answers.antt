@@ -2,7 +2,7 @@ use Rattle.std.proofs.Common.{ap, subst, sym, refl, ◌∙◌, [], ◌∷◌, ma
 use Rattle.script_core.specs.Script.{station}
 use Rattle.fisb_broadcast.specs.Ground.{frames}
 use Rattle.fisb_broadcast.specs.History.{frame_room}
-use Rattle.ground_core.specs.StandsFor.{StandsFor}
+use Rattle.text_ground.specs.StandsFor.{StandsFor}
 use Rattle.fisb_app.specs.Past.{station_of}
 use Rattle.fisb_app.specs.Reading.{has_begun}
 use Rattle.fisb_app.specs.Stands.{aired}

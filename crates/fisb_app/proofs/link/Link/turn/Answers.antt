@@ -2,8 +2,8 @@ use Rattle.std.proofs.Common.{ap, sym, subst, ◌∙◌, ◌≡◌, ◌≤◌, �
 use Rattle.script_core.specs.Script.{turn}
 use Rattle.fisb_broadcast.specs.Ground.{fill}
 use Rattle.fisb_broadcast.specs.Receiver.{contents}
-use Rattle.ground_core.specs.StandsFor.{StandsFor}
-use Rattle.receiver_core.specs.Kept.{Held, Keeps}
+use Rattle.text_ground.specs.StandsFor.{StandsFor}
+use Rattle.text_receiver.specs.Kept.{Held, Keeps}
 use Rattle.fisb_app.specs.Past.{history, station_of, sent_frames, receptions}
 use Rattle.fisb_app.specs.Reading.{frame_limit}
 use Rattle.fisb_app.specs.Stands.{aired, sent_view}

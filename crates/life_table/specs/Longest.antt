@@ -1,0 +1,15 @@
+-- The longest life of a product, by what look-ups find: reports are product 413, and their rows are found by word.
+use Rattle.std.specs.Prelude.{◌≡◌, ◌≢◌, ℕ, ◌≤◌, List, Some}
+use Rattle.life_table.specs.LifeTable.{LifeTable, TextRow, RadarRow, text_row, radar_row}
+
+-- a row of this product, as a look-up finds it, has this life
+pub data IsLifeOf (table : LifeTable) (product life : ℕ) : Type 0 where
+  of_text : (word : List ℕ) (row : TextRow) → product ≡ 413 → text_row table word ≡ Some row → row.life ≡ life
+      → IsLifeOf table product life
+  of_radar : (row : RadarRow) → product ≢ 413 → radar_row table product ≡ Some row → row.life ≡ life
+      → IsLifeOf table product life
+
+-- a row of this product has this life, and none a longer one
+pub record IsLongest (table : LifeTable) (product life : ℕ) : Type 0 where
+  pub attained : IsLifeOf table product life
+  pub most : (other : ℕ) → IsLifeOf table product other → other ≤ life
