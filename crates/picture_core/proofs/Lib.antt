@@ -1,0 +1,13 @@
+pub mod Keys
+pub mod KeysRising
+pub mod PicturesFound
+pub mod PicturesShown
+pub mod PicturesStep
+pub mod Pictures
+pub mod PicturesLife
+pub mod PicturesForgotten
+pub mod KeptPairs
+pub mod KindsKept
+pub mod CodeOrder
+pub mod PicturesChanged
+pub mod PicturesCounted

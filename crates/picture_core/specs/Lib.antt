@@ -1,0 +1,9 @@
+pub mod Key
+pub mod Entry
+pub mod Picture
+pub mod Contents
+pub mod Kept
+pub mod Shown
+pub mod Marked
+pub mod Views
+pub mod Changes
