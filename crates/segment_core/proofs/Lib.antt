@@ -1,0 +1,9 @@
+pub mod Parts
+pub mod Ranges
+pub mod Joined
+pub mod Completed
+pub mod Scenes
+pub mod PieceNames
+pub mod Stands
+pub mod StoreSteps
+pub mod Bounded

@@ -1,0 +1,16 @@
+use Rattle.std.proofs.Common.{◌∙◌, sym}
+use Rattle.segment_core.proofs.PieceNames.{whole-held, waits-held}
+use Rattle.segment_core.proofs.held.take_piece.Goals as goal
+
+pub returns-in_ok-write_all-clause-pieces : goal.returns-in_ok-write_all-clause-pieces
+returns-in_ok-write_all-clause-pieces c =
+    whole-held c.args.pieces.now.entries c.write_all.new.self.entries c.in_ok-numbers_alone.field-0.items c.args.name
+    c.args.payload.now
+    (sym c.is_held.ensures ∙ c.if-is_held.false) (sym c.are_others_held.ensures ∙ c.if-are_others_held.true)
+    c.in_ok-write_all.ensures.ok c.in_ok-numbers_alone.ensures
+
+pub returns-in_ok-write-clause-pieces : goal.returns-in_ok-write-clause-pieces
+returns-in_ok-write-clause-pieces c =
+    waits-held c.args.pieces.now.entries c.write.new.self.entries c.args.name c.args.payload.now c.in_ok-bytes.bytes
+    (sym c.is_held.ensures ∙ c.if-is_held.false) (sym c.are_others_held.ensures ∙ c.if-are_others_held.false)
+    c.in_ok-write.ensures.ok c.in_ok-bytes.ensures

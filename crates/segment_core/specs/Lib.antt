@@ -1,0 +1,9 @@
+pub mod File
+pub mod Cutting
+pub mod Arrival
+pub mod Joining
+pub mod Views
+pub mod Kept
+pub mod HeldPieces
+pub mod Store
+pub mod Bound

@@ -1,0 +1,201 @@
+//! The pieces that are held, and what a segment brings among them.
+ghost use Rattle.std.specs.Prelude.{◌≡◌, ◌≤◌, IfOk, OnErr, None, map, is_some};
+ghost use Rattle.std.specs.List.{range_with_len};
+ghost use Rattle.std.specs.Option.{option_copied};
+ghost use Rattle.segment_core.specs.Bound.{AreNamedOnce};
+ghost use Rattle.segment_core.specs.HeldPieces.{brought, bytes_at, held_after, held_answer};
+ghost use Rattle.segment_core.specs.HeldPieces.{held_bytes, held_with};
+ghost use Rattle.segment_core.specs.HeldPieces.{joined_held, others_held};
+ghost use Rattle.segment_core.specs.Kept.{IsNumbered, held, numbered};
+ghost use Rattle.segment_core.specs.Store.{FitsFile, is_live, live_pieces};
+ghost use Rattle.segment_core.specs.Views.{arrival_view};
+ghost use Rattle.segment_core.specs.declared.piece_name.PieceName.{PieceName};
+
+use crate::arrived::{Arrived, Longest, Taken};
+use crate::piece_name::PieceName;
+use fisb_time::Moment;
+use fisb_wire::Bytes;
+use std::alloc::{AllocError, Global};
+use undo_map::UndoMap;
+
+/// Takes an arrival that is not stale: what it brings, and what is held then.
+pub(crate) fn take_live(
+    alloc: Global,
+    pieces: &mut UndoMap<PieceName, Option<Bytes>>,
+    arrived: &Arrived<'_>,
+) -> Result<Taken, AllocError>
+    requires { FitsFile arrived.now.seg }
+    ensures answer { IfOk result (λ taken. taken ≡ brought pieces.old.entries
+        (arrival_view arrived.now) arrived.now.seg) }
+    ensures pieces { IfOk result (λ _. (other : PieceName) → held pieces.new.entries other
+        ≡ held_after pieces.old.entries (arrival_view arrived.now)
+        arrived.now.seg other) }
+    ensures mark { pieces.new.mark ≡ pieces.old.mark }
+    ensures err { OnErr result (pieces.new ≡ pieces.old) }
+{
+    match arrived.seg {
+        None => {
+            let whole = copied(alloc, arrived.payload)?;
+            Ok(Taken::Whole(whole))
+        }
+        Some(seg) => {
+            let name = PieceName::of(arrived, seg);
+            let taken = take_piece(alloc, pieces, name, arrived.payload)?;
+            Ok(taken)
+        }
+    }
+}
+
+/// Takes a segment among the pieces: what it brings, and what is held then.
+fn take_piece(
+    alloc: Global,
+    pieces: &mut UndoMap<PieceName, Option<Bytes>>,
+    name: PieceName,
+    payload: &[u8],
+) -> Result<Taken, AllocError>
+    requires numbered { IsNumbered name }
+    requires few { name.count ≤ 64 }
+    ensures answer { IfOk result (λ taken. taken
+        ≡ held_answer pieces.old.entries name payload.now) }
+    ensures pieces { IfOk result (λ _. (other : PieceName) →
+        held pieces.new.entries other ≡ held_with pieces.old.entries name payload.now other) }
+    ensures mark { pieces.new.mark ≡ pieces.old.mark }
+    ensures err { OnErr result (pieces.new ≡ pieces.old) }
+{
+    if is_held(pieces, &name) {
+        return Ok(Taken::Again);
+    }
+    if are_others_held(pieces, &name) {
+        let whole = joined(alloc, pieces, &name, payload)?;
+        pieces.write_all(numbers_alone(alloc, &name)?)?;
+        Ok(Taken::Whole(Bytes::of(whole)))
+    } else {
+        let bytes = copied(alloc, payload)?;
+        pieces.write(name, Some(bytes))?;
+        Ok(Taken::Waits)
+    }
+}
+
+/// A list of the same bytes.
+fn copied(alloc: Global, payload: &[u8]) -> Result<Bytes, AllocError>
+    ensures { IfOk result (λ bytes. bytes ≡ payload.now) }
+{
+    let mut bytes = Vec::new(alloc);
+    bytes.extend_from_slice(payload)?;
+    Ok(Bytes::of(bytes))
+}
+
+/// What is held under a name: its piece, or the name alone.
+fn found<'a>(
+    pieces: &'a UndoMap<PieceName, Option<Bytes>>,
+    name: &PieceName,
+) -> Option<&'a Option<Bytes>>
+    ensures { option_copied result ≡ held pieces.now.entries name.now }
+{
+    pieces.get(name)
+}
+
+/// Whether a name is held, with its piece or alone.
+fn is_held(pieces: &UndoMap<PieceName, Option<Bytes>>, name: &PieceName) -> bool
+    ensures { result ≡ is_some (held pieces.now.entries name.now) }
+{
+    found(pieces, name).is_some()
+}
+
+/// Whether the other segments of the file are held.
+fn are_others_held(pieces: &UndoMap<PieceName, Option<Bytes>>, name: &PieceName) -> bool
+    ensures { result ≡ others_held pieces.now.entries name.now }
+{
+    for index in 0..name.count {
+        let number = index + 1;
+        if number != name.number && !is_held(pieces, &name.with_number(number)) {
+            return false;
+        }
+    }
+    true
+}
+
+/// The bytes of the piece of this name; none where there is no piece.
+fn bytes_of<'a>(pieces: &'a UndoMap<PieceName, Option<Bytes>>, name: &PieceName) -> &'a [u8]
+    ensures { result.now ≡ held_bytes (held pieces.now.entries name.now) }
+{
+    match found(pieces, name) {
+        Some(Some(bytes)) => bytes.all(),
+        Some(None) => &[],
+        None => &[],
+    }
+}
+
+/// The bytes of a number of the file, where this piece has its own.
+fn bytes_at<'a>(
+    pieces: &'a UndoMap<PieceName, Option<Bytes>>,
+    name: &PieceName,
+    payload: &'a [u8],
+    number: u16,
+) -> &'a [u8]
+    ensures { result.now ≡ bytes_at pieces.now.entries name.now payload.now number }
+{
+    if number == name.number {
+        payload
+    } else {
+        bytes_of(pieces, &name.with_number(number))
+    }
+}
+
+/// The pieces of the file in the order of their numbers, with this one.
+fn joined(
+    alloc: Global,
+    pieces: &UndoMap<PieceName, Option<Bytes>>,
+    name: &PieceName,
+    payload: &[u8],
+) -> Result<Vec<u8>, AllocError>
+    ensures { IfOk result (λ bytes. bytes.items
+        ≡ joined_held pieces.now.entries name.now payload.now) }
+{
+    let mut bytes = Vec::new(alloc);
+    for index in 0..name.count {
+        bytes.extend_from_slice(bytes_at(pieces, name, payload, index + 1))?;
+    }
+    Ok(bytes)
+}
+
+/// The names of all segments of the file, without pieces.
+fn numbers_alone(
+    alloc: Global,
+    name: &PieceName,
+) -> Result<Vec<(PieceName, Option<Bytes>)>, AllocError>
+    ensures { IfOk result (λ pairs. pairs.items
+        ≡ map (λ number. (numbered name.now number, None)) (range_with_len 1 name.now.count)) }
+{
+    let mut pairs = Vec::new(alloc);
+    for index in 0..name.count {
+        pairs.push((name.with_number(index + 1), None))?;
+    }
+    Ok(pairs)
+}
+
+/// Whether the longest life of the product has not passed since the version.
+pub(crate) fn is_live(longest: &Longest, moment: Moment, product: u16, version: Moment) -> bool
+    ensures { result ≡ is_live longest.now moment product version }
+{
+    let life = match product {
+        63 => longest.regional,
+        64 => longest.conus,
+        _ => longest.text,
+    };
+    moment < version || moment.seconds() - version.seconds() < life
+}
+
+/// Drops the pieces of files whose product's longest life has passed.
+pub(crate) fn drop_stale(
+    pieces: &mut UndoMap<PieceName, Option<Bytes>>,
+    longest: &Longest,
+    moment: Moment,
+)
+    requires { pieces.old.mark ≡ None }
+    ensures pieces { pieces.new.entries ≡ live_pieces longest.now moment pieces.old.entries }
+    ensures once { AreNamedOnce pieces.new.entries }
+    ensures mark { pieces.new.mark ≡ None }
+{
+    pieces.retain(|name, _| is_live(longest, moment, name.product, name.version));
+}

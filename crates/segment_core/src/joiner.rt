@@ -1,0 +1,142 @@
+//! Joins segments as they arrive, and forgets what is stale.
+ghost use Rattle.std.specs.Prelude.{◌≡◌, IfOk, IsSome, List, None, OnErr, OnOk, Some, [], true};
+ghost use Rattle.segment_core.specs.Arrival.{Arrival};
+ghost use Rattle.segment_core.specs.Bound.{IsPurged};
+ghost use Rattle.segment_core.specs.Store.{FitsFile, IsNotBefore, StandsFor, answer_of};
+ghost use Rattle.segment_core.specs.Store.{is_read_product, live_pieces, taken_with};
+ghost use Rattle.segment_core.specs.Views.{arrival_view};
+
+use crate::arrived::{Arrived, Longest, Taken};
+use crate::held::{drop_stale, is_live, take_live};
+use crate::piece_name::PieceName;
+use fisb_time::Moment;
+use fisb_wire::Bytes;
+use std::alloc::{AllocError, Global};
+use std::marker::Model;
+use undo_map::UndoMap;
+
+/// Joins the segments of files as they arrive. Of each file that is not stale it keeps the first
+/// piece of each number, and the numbers alone once the file was whole.
+#[derive(Drop)]
+pub struct Joiner {
+    alloc: Global,
+    longest: Longest,
+    clock: Option<Moment>,
+    marked_clock: Option<Moment>,
+    pieces: UndoMap<PieceName, Option<Bytes>>,
+}
+
+impl Model for Joiner {
+    ghost use Rattle.std.specs.Option.{option_map};
+    ghost use Rattle.segment_core.specs.Store.{MarkedStore};
+
+    ghost Value = { MarkedStore };
+
+    ghost view = { λ j. record {
+      store = record { longest = j.longest; clock = j.clock; pieces = j.pieces.entries };
+      mark = option_map (λ pieces. record {
+        longest = j.longest;
+        clock = j.marked_clock;
+        pieces = pieces;
+      }) j.pieces.mark;
+    } };
+}
+
+impl Joiner {
+    /// A joiner that has taken nothing, for products of these longest lives.
+    pub fn new(alloc: Global, longest: Longest) -> Joiner
+        ensures empty { result ≡ record {
+          store = record { longest = longest; clock = None; pieces = [] };
+          mark = None;
+        } }
+        ensures stands { StandsFor result.store [] }
+    {
+        Joiner {
+            alloc,
+            longest,
+            clock: None,
+            marked_clock: None,
+            pieces: UndoMap::new(alloc),
+        }
+    }
+
+    /// The moment of the last call that took or purged, if there was one.
+    pub fn clock(&self) -> Option<Moment>
+        ensures { result ≡ self.now.store.clock }
+    {
+        self.clock
+    }
+
+    /// Takes an arrival, and answers what it brings.
+    ///
+    /// # Errors
+    ///
+    /// Where memory runs out; then all is as it was.
+    pub fn take(&mut self, moment: Moment, arrived: &Arrived<'_>) -> Result<Taken, AllocError>
+        requires product { is_read_product arrived.now.product ≡ true }
+        requires segment { FitsFile arrived.now.seg }
+        requires moment { IsNotBefore self.old.store.clock moment }
+        ensures answer { (taken : List Arrival) → StandsFor self.old.store taken
+            → IfOk result (λ answer. answer
+            ≡ answer_of self.old.store.longest moment taken (arrival_view arrived.now)) }
+        ensures stands { (taken : List Arrival) → StandsFor self.old.store taken
+            → OnOk result (StandsFor self.new.store
+            (taken_with self.old.store.longest moment taken (arrival_view arrived.now))) }
+        ensures clock { OnOk result (self.new.store.clock ≡ Some moment) }
+        ensures longest { self.new.store.longest ≡ self.old.store.longest }
+        ensures mark { self.new.mark ≡ self.old.mark }
+        ensures err { OnErr result (self.new ≡ self.old) }
+    {
+        if !is_live(&self.longest, moment, arrived.product, arrived.version) {
+            self.clock = Some(moment);
+            return Ok(Taken::Stale);
+        }
+        let taken = take_live(self.alloc, &mut self.pieces, arrived)?;
+        self.clock = Some(moment);
+        Ok(taken)
+    }
+
+    /// Forgets the files whose product's longest life has passed since their version.
+    pub fn purge(&mut self, moment: Moment)
+        requires moment { IsNotBefore self.old.store.clock moment }
+        requires unmarked { self.old.mark ≡ None }
+        ensures pieces { self.new.store.pieces
+            ≡ live_pieces self.old.store.longest moment self.old.store.pieces }
+        ensures clock { self.new.store.clock ≡ Some moment }
+        ensures longest { self.new.store.longest ≡ self.old.store.longest }
+        ensures mark { self.new.mark ≡ None }
+        ensures purged { IsPurged self.new.store moment }
+        ensures stands { (taken : List Arrival) → StandsFor self.old.store taken
+            → StandsFor self.new.store taken }
+    {
+        drop_stale(&mut self.pieces, &self.longest, moment);
+        self.clock = Some(moment);
+    }
+
+    /// Sets a mark at what is held and at the clock, as they are.
+    pub fn mark(&mut self)
+        requires { self.old.mark ≡ None }
+        ensures { self.new ≡ record self.old { mark = Some self.old.store } }
+    {
+        self.pieces.mark();
+        self.marked_clock = self.clock;
+    }
+
+    /// Takes what is held and the clock back to the mark, which goes.
+    pub fn undo(&mut self)
+        requires { IsSome self.old.mark }
+        ensures store { self.old.mark ≡ Some self.new.store }
+        ensures mark { self.new.mark ≡ None }
+    {
+        self.pieces.undo();
+        self.clock = self.marked_clock;
+    }
+
+    /// Lets the mark go and keeps what is held.
+    pub fn settle(&mut self)
+        requires { IsSome self.old.mark }
+        ensures { self.new ≡ record self.old { mark = None } }
+    {
+        self.pieces.settle();
+    }
+}

@@ -1,0 +1,16 @@
+//! Payloads that are cut into segments, and joined again from what arrives.
+#![tactic(auto)]
+
+mod arrived;
+mod held;
+mod joiner;
+pub mod laws;
+mod piece_name;
+mod pieces;
+mod sizes;
+#[cfg(test)]
+mod tests;
+
+pub use arrived::{Arrived, Longest, Taken};
+pub use joiner::Joiner;
+pub use pieces::{Pieces, split};

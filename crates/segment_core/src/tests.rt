@@ -1,0 +1,186 @@
+//! Payloads cut and joined as on the air.
+ghost use Rattle.std.specs.Prelude.{◌≡◌, None, OnOk, Some};
+ghost use Rattle.segment_core.specs.Store.{IsNotBefore};
+
+use super::*;
+use crate::laws::parts_are_few;
+use apdu_core::Seg;
+use fisb_time::{Moment, TimeForm};
+use std::alloc::AllocError;
+use std::test::Fail;
+use uplink_frame::StationId;
+
+/// A segment of a text's file 0, from a station without a position.
+fn segment<'a>(version: Moment, count: u16, number: u16, payload: &'a [u8]) -> Arrived<'a>
+    ensures product { result.product ≡ 413 }
+    ensures version { result.version ≡ version }
+    ensures seg { result.seg ≡ Some (record { file = 0; count = count; number = number }) }
+{
+    Arrived {
+        station: StationId {
+            lat: 0,
+            lon: 0,
+            position_valid: false,
+            site: 0,
+        },
+        product: 413,
+        version,
+        seg: Some(Seg {
+            file: 0,
+            count,
+            number,
+        }),
+        payload,
+    }
+}
+
+/// A joiner of texts that live a day.
+fn joiner(rt: &HostRuntime) -> Joiner
+    ensures clock { result.store.clock ≡ None }
+    ensures mark { result.mark ≡ None }
+{
+    Joiner::new(
+        rt.alloc(),
+        Longest {
+            regional: 3_600,
+            conus: 3_600,
+            text: 86_400,
+        },
+    )
+}
+
+/// An answer in words, with the bytes of what is whole.
+fn is_whole(taken: &Taken, bytes: &[u8]) -> bool {
+    match taken {
+        Taken::Whole(whole) => whole.all() == bytes,
+        Taken::Waits => false,
+        Taken::Again => false,
+        Taken::Stale => false,
+    }
+}
+
+/// The name of an answer.
+fn name(taken: &Taken) -> &'static str {
+    match taken {
+        Taken::Whole(_) => "whole",
+        Taken::Waits => "waits",
+        Taken::Again => "again",
+        Taken::Stale => "stale",
+    }
+}
+
+#[test]
+fn two_segments_become_whole(rt: HostRuntime) -> Result<(), Fail> {
+    let version = Moment::new(1_699_999_980).ok_or("in range")?;
+    let now = Moment::new(1_700_000_000).ok_or("in range")?;
+    let mut joiner = joiner(&rt);
+    assert_eq!(rt;
+        name(&joiner.take(now, &segment(version, 2, 2, &[0xBB]))?),
+        "waits"
+    );
+    assert_eq!(rt;
+        name(&joiner.take(now, &segment(version, 2, 2, &[0xCC]))?),
+        "again"
+    );
+    assert!(rt;
+        is_whole(
+            &joiner.take(now, &segment(version, 2, 1, &[0xAA]))?,
+            &[0xAA, 0xBB]
+        )
+    );
+    assert_eq!(rt;
+        name(&joiner.take(now, &segment(version, 2, 1, &[0xAA]))?),
+        "again"
+    );
+    let end = Moment::new(1_700_086_380).ok_or("in range")?;
+    assert_eq!(rt; joiner.clock(), Some(now));
+    joiner.purge(now);
+    assert_eq!(rt;
+        name(&joiner.take(end, &segment(version, 2, 1, &[0xAA]))?),
+        "stale"
+    );
+    Ok(())
+}
+
+#[test]
+fn what_was_undone_is_whole_again(rt: HostRuntime) -> Result<(), Fail> {
+    let version = Moment::new(1_699_999_980).ok_or("in range")?;
+    let now = Moment::new(1_700_000_000).ok_or("in range")?;
+    let later = Moment::new(1_700_000_001).ok_or("in range")?;
+    let mut joiner = joiner(&rt);
+    assert_eq!(rt;
+        name(&joiner.take(now, &segment(version, 2, 2, &[0xBB]))?),
+        "waits"
+    );
+    joiner.mark();
+    assert_eq!(rt;
+        name(&joiner.take(later, &segment(version, 2, 1, &[0xAA]))?),
+        "whole"
+    );
+    joiner.undo();
+    assert_eq!(rt; joiner.clock(), Some(now));
+    joiner.mark();
+    assert!(rt;
+        is_whole(
+            &joiner.take(later, &segment(version, 2, 1, &[0xAA]))?,
+            &[0xAA, 0xBB]
+        )
+    );
+    joiner.settle();
+    assert_eq!(rt;
+        name(&joiner.take(later, &segment(version, 2, 1, &[0xAA]))?),
+        "again"
+    );
+    Ok(())
+}
+
+#[test]
+fn a_payload_is_cut_and_joined(rt: HostRuntime) -> Result<(), Fail> {
+    parts_are_few();
+    let version = Moment::new(1_699_999_980).ok_or("in range")?;
+    let short = [7; 418];
+    assert_eq!(rt; split(413, TimeForm::Minute, version, 5, &short).count(), 1);
+    let long = [7; 419];
+    let pieces = split(413, TimeForm::Minute, version, 5, &long);
+    assert_eq!(rt; pieces.count(), 2);
+    let last = pieces.apdu(pieces.count());
+    assert_eq!(rt; last.payload, [7, 7, 7, 7].as_slice());
+    assert_eq!(rt;
+        last.seg,
+        Some(Seg {
+            file: 5,
+            count: 2,
+            number: 2
+        })
+    );
+    Ok(())
+}
+
+/// Takes the segments of a file of 64, the last one first, and counts the answers that it waits.
+fn waiting(joiner: &mut Joiner, now: Moment, version: Moment) -> Result<u8, AllocError>
+    requires { IsNotBefore joiner.old.store.clock now }
+    ensures { OnOk result (joiner.new.store.clock ≡ Some now) }
+{
+    let mut waits = 0;
+    joiner.take(now, &segment(version, 64, 64, &[64]))?;
+    for index in 0..63 {
+        let taken = joiner.take(now, &segment(version, 64, 63 - index, &[9]))?;
+        if name(&taken) == "waits" && waits < 200 {
+            waits += 1;
+        }
+    }
+    Ok(waits)
+}
+
+#[test]
+fn a_file_of_64_segments_becomes_whole(rt: HostRuntime) -> Result<(), Fail> {
+    let version = Moment::new(1_699_999_980).ok_or("in range")?;
+    let now = Moment::new(1_700_000_000).ok_or("in range")?;
+    let mut joiner = joiner(&rt);
+    assert_eq!(rt; waiting(&mut joiner, now, version)?, 62);
+    assert_eq!(rt;
+        name(&joiner.take(now, &segment(version, 64, 64, &[9]))?),
+        "again"
+    );
+    Ok(())
+}
