@@ -1,0 +1,154 @@
+-- What a fill airs: segments of items that were given before and live on, as many as fit.
+use Rattle.std.proofs.Common.{◌≡◌, ℕ, ◌+◌, ◌-◌, ◌<◌, ◌≤◌, Bool, true, nat_le, List, [], ◌∷◌, ◌++◌, map, filter, flat_map, sum_by, Some, None, sym, ap, subst, ◌∙◌, inl, inr, arith}
+use Rattle.std.proofs.lemmas.Bool.{cases_Bool, cond-true, cond-false, ltb-true, leb-true, and_parts}
+use Rattle.std.proofs.lemmas.List.Sums.{sum_by-cons}
+use Rattle.life_table.specs.LifeTable.{LifeTable}
+use Rattle.life_table.specs.Rules.{IsTable}
+use Rattle.uplink_frame.specs.declared.station.StationId.{StationId}
+use Rattle.segment_core.specs.File.{numbers_of}
+use Rattle.list_members.specs.Membership.{IsIn}
+use Rattle.list_members.proofs.Members.{IsIn-before, IsIn-after, IsIn-either, IsIn-from_filter}
+use Rattle.list_members.proofs.ListMembers.{in_map, in_flat_map}
+use Rattle.ground_core.specs.Item.{Weather, Item, Segment, segment_of, segments_of, file_of, room_of, end_of}
+use Rattle.ground_core.specs.Update.{weather_of}
+use Rattle.ground_core.specs.History.{Event, accepted, fill, item_of, items_made, new_items, items}
+use Rattle.ground_core.specs.Airing.{Touch, touch, is_live, is_touched, last_touches, waiting, fitting, frame_room, airing, touches, log}
+use Rattle.ground_core.specs.Broadcast.{IsNotBefore, IsHistory}
+use Rattle.ground_core.specs.Sound.{AreGiven, AcceptedIsGiven}
+
+in_last : (t : Touch) (touched : List Touch) → IsIn t (last_touches touched) → IsIn t touched
+in_last t [] h = absurd h
+in_last t (x ∷ later) h = elim (cases_Bool (is_touched later x.segment)) [
+  | inl is ↦ inr (in_last t later (subst (IsIn t) (cond-true (is_touched later x.segment) (last_touches later) (x ∷ last_touches later) is) h))
+  | inr isnt ↦ let k : IsIn t (x ∷ last_touches later) = subst (IsIn t) (cond-false (is_touched later x.segment) (last_touches later) (x ∷ last_touches later) isnt) h in elim k [
+    | inl e ↦ inl e
+    | inr r ↦ inr (in_last t later r)
+  ]
+]
+
+in_fitting : (s : Segment) (room : ℕ) (more : List Segment) → IsIn s (fitting room more) → IsIn s more
+in_fitting s room [] h = absurd h
+in_fitting s room (x ∷ more) h =
+    let rest = x ∷ fitting (room - room_of x) more in
+    elim (cases_Bool (nat_le (room_of x) room)) [
+      | inl t ↦ let k : IsIn s (x ∷ fitting (room - room_of x) more) = subst (IsIn s) (cond-true (nat_le (room_of x) room) rest [] t) h in elim k [
+        | inl e ↦ inl e
+        | inr r ↦ inr (in_fitting s (room - room_of x) more r)
+      ]
+      | inr f ↦ absurd (subst (IsIn s) (cond-false (nat_le (room_of x) room) rest [] f) h)
+    ]
+
+pub fitting-fits : (room : ℕ) (more : List Segment) → sum_by room_of (fitting room more) ≤ room
+fitting-fits room [] = omega arith
+fitting-fits room (x ∷ more) =
+    let rest = x ∷ fitting (room - room_of x) more in
+    elim (cases_Bool (nat_le (room_of x) room)) [
+      | inl t ↦
+          let fits = leb-true (room_of x) room t in
+          let others = fitting-fits (room - room_of x) more in
+          let sums = sum_by-cons room_of x (fitting (room - room_of x) more) in
+          subst (λ ss. sum_by room_of ss ≤ room) (sym (cond-true (nat_le (room_of x) room) rest [] t)) (omega arith)
+      | inr f ↦ subst (λ ss. sum_by room_of ss ≤ room) (sym (cond-false (nat_le (room_of x) room) rest [] f)) (omega arith)
+    ]
+
+-- what is aired stands in the log, and lives
+record IsLogged (all : List Item) (touched : List Touch) (moment : ℕ) (s : Segment) : Type 0 where
+  pub last : Touch
+  pub in_log : IsIn last touched
+  pub segment : s ≡ last.segment
+  pub live : is_live all moment s.item ≡ true
+
+aired-logged : (all : List Item) (touched : List Touch) (moment : ℕ) (s : Segment) → IsIn s (airing all touched moment) → IsLogged all touched moment s
+aired-logged all touched moment s h =
+    let live : Touch → Bool = λ t. is_live all moment t.segment.item in
+    let found = in_map (λ (t : Touch). t.segment) s (filter live (last_touches touched)) (in_fitting s frame_room (waiting all touched moment) h) in
+    let lives = IsIn-from_filter live found.0 (last_touches touched) found.1 in
+    record {
+      last = found.0;
+      in_log = in_last found.0 touched lives.0;
+      segment = found.2;
+      live = subst (λ (x : Segment). is_live all moment x.item ≡ true) (sym found.2) lives.1;
+    }
+
+-- each segment of the log is one of an item
+pub record IsOfItem (all : List Item) (s : Segment) : Type 0 where
+  pub item_in : IsIn s.item all
+  pub of_item : IsIn s (segments_of s.item)
+
+own-segment : (item : Item) (s : Segment) → IsIn s (segments_of item) → s.item ≡ item
+own-segment item s h = ap (λ (x : Segment). x.item) (in_map (segment_of item) s (numbers_of (file_of item)) h).2
+
+of_item-more : (all more : List Item) (s : Segment) → IsOfItem all s → IsOfItem (all ++ more) s
+of_item-more all more s of = record { item_in = IsIn-before s.item all more of.item_in; of_item = of.of_item }
+
+log-items : (table : LifeTable) (station : StationId) (history : List Event) (t : Touch) → IsIn t (log table station history)
+    → IsOfItem (items table station history) t.segment
+log-items table station [] t h = absurd h
+log-items table station (accepted moment update ∷ past) t h =
+    let before = items table station past in
+    let new = new_items table station before (accepted moment update) in
+    elim (IsIn-either t (log table station past) (touches table station before (log table station past) (accepted moment update)) h) [
+      | inl old ↦ of_item-more before new t.segment (log-items table station past t old)
+      | inr last ↦
+          let touched = in_map (touch None) t (flat_map segments_of new) last in
+          let found = in_flat_map segments_of touched.0 new touched.1 in
+          let own = own-segment found.0 touched.0 found.2 in
+          subst (IsOfItem (before ++ new)) (sym (ap (λ (x : Touch). x.segment) touched.2)) (record {
+            item_in = subst (λ (x : Item). IsIn x (before ++ new)) (sym own) (IsIn-after found.0 before new found.1);
+            of_item = subst (λ (x : Item). IsIn touched.0 (segments_of x)) (sym own) found.2;
+          })
+    ]
+log-items table station (fill moment slot ∷ past) t h =
+    let before = items table station past in
+    let past_log = log table station past in
+    of_item-more before [] t.segment (elim (IsIn-either t past_log (map (touch (Some moment)) (airing before past_log moment)) h) [
+      | inl old ↦ log-items table station past t old
+      | inr last ↦
+          let touched = in_map (touch (Some moment)) t (airing before past_log moment) last in
+          let logged = aired-logged before past_log moment touched.0 touched.1 in
+          subst (IsOfItem before) (sym (ap (λ (x : Touch). x.segment) touched.2 ∙ logged.segment)) (log-items table station past logged.last logged.in_log)
+    ])
+
+-- an item is at most a minute ahead of every moment that is not before its giving
+made-lead : (table : LifeTable) (station : StationId) (moment : ℕ) (before : List Item) (ws : List Weather) (i : Item)
+    → AreGiven table station moment before ws → IsIn i (items_made table station moment before ws) → i.weather.version ≤ moment + 60
+made-lead table station moment before [] i given h = absurd h
+made-lead table station moment before (w ∷ more) i given (inl e) =
+    subst (λ (x : Item). x.weather.version ≤ moment + 60) (sym e) (given.0).not_ahead
+made-lead table station moment before (w ∷ more) i given (inr h) =
+    made-lead table station moment (before ++ item_of table station moment before w ∷ []) more i given.1 h
+
+pub items-lead : AcceptedIsGiven → (table : LifeTable) (station : StationId) (history : List Event) (m : ℕ) (i : Item) → IsTable table
+    → IsHistory table station history → IsNotBefore m history → IsIn i (items table station history) → i.weather.version ≤ m + 60
+items-lead accepting table station [] m i is_table is not_before h = absurd h
+items-lead accepting table station (accepted moment update ∷ past) m i is_table is not_before h =
+    let before = items table station past in
+    elim (IsIn-either i before (new_items table station before (accepted moment update)) h) [
+      | inl old ↦
+          let low = items-lead accepting table station past moment i is_table is.1 (is.0).not_before old in
+          omega arith
+      | inr new ↦
+          let low = made-lead table station moment before (weather_of table update) i (accepting table station before moment update is_table (is.0).is_accepted) new in
+          omega arith
+    ]
+items-lead accepting table station (fill moment slot ∷ past) m i is_table is not_before h =
+    elim (IsIn-either i (items table station past) [] h) [
+      | inl old ↦
+          let low = items-lead accepting table station past moment i is_table is.1 (is.0).not_before old in
+          omega arith
+      | inr none ↦ absurd none
+    ]
+
+-- what is known of a segment that is aired after a history
+pub record IsAiredAfter (table : LifeTable) (station : StationId) (past : List Event) (moment : ℕ) (s : Segment) : Type 0 where
+  pub of_item : IsOfItem (items table station past) s
+  pub live : moment < end_of s.item.weather
+
+pub aired-after : (table : LifeTable) (station : StationId) (past : List Event) (moment : ℕ) (s : Segment)
+    → IsIn s (airing (items table station past) (log table station past) moment) → IsAiredAfter table station past moment s
+aired-after table station past moment s h =
+    let logged = aired-logged (items table station past) (log table station past) moment s h in
+    record {
+      of_item = subst (IsOfItem (items table station past)) (sym logged.segment) (log-items table station past logged.last logged.in_log);
+      live = ltb-true moment (end_of s.item.weather) (and_parts _ _ logged.live).0;
+    }

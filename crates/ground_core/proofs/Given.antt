@@ -1,0 +1,222 @@
+-- What an accepted text says is sound, given in time, and newer than all of its key before it.
+use Rattle.std.proofs.Common.{◌≡◌, ℕ, zero, suc, ◌+◌, ◌*◌, ◌/◌, ◌<◌, ◌≤◌, Bool, true, false, not, ◌&&◌, nat_lt, nat_le, cond, max, fold, List, [], ◌∷◌, length, map, filter, flat_map, Option, Some, None, is_none, Result, Ok, Err, refl, sym, ap, subst, ◌∙◌, inl, inr, arith}
+use Rattle.std.specs.Bool.{Decides}
+use Rattle.std.specs.Str.{chars, IsUtf8}
+use Rattle.std.proofs.lemmas.Bool.{cases_Bool, ltb-false, leb-false, not-false}
+use Rattle.std.proofs.lemmas.List.{append-nil}
+use Rattle.bit_fields.specs.Bits.{AreBytes}
+use Rattle.fisb_time.specs.Moment.{IsMoment}
+use Rattle.fisb_time.specs.TimeForm.{shows}
+use Rattle.fisb_time.specs.declared.form.TimeForm.{TimeForm}
+use Rattle.fisb_time.specs.declared.form.TimeForm.TheVariants.{Minute, Second, DayMinute, DaySecond}
+use Rattle.dlac_text.specs.Alphabet.{IsDlac}
+use Rattle.dlac_text.specs.Payload.{text_payload}
+use Rattle.dlac_text.specs.Reports.{reports_of}
+use Rattle.dlac_text.specs.Refusal.{TextRefusal, IsSendable, text_refusal}
+use Rattle.life_table.specs.LifeTable.{LifeTable, TextRow, text_row, longest, greatest_of}
+use Rattle.life_table.specs.Rules.{IsTable}
+use Rattle.text_reports.specs.TextKey.{TextKey, KeyFault, few_words, text_key}
+use Rattle.list_members.specs.Membership.{IsIn}
+use Rattle.list_members.proofs.Members.{IsIn-filter}
+use Rattle.list_members.proofs.ListMembers.{map_has, in_one}
+use Rattle.segment_core.specs.File.{pieces, parts, segment_limit, segments_needed}
+use Rattle.segment_core.specs.File as files
+use Rattle.picture_core.specs.Key.{Key, text_report, same_key}
+use Rattle.picture_core.specs.Entry.{Entry, report}
+use Rattle.picture_core.specs.Contents.{report_entries, entry_by_key, entry_by_row}
+use Rattle.ground_core.specs.Item.{Weather, Item, is_segmented, end_of}
+use Rattle.ground_core.specs.Update.{text, weather_of, weather_by_key, weather_by_row}
+use Rattle.ground_core.specs.History.{number_for}
+use Rattle.ground_core.specs.Airing.{has_key}
+use Rattle.ground_core.specs.Refusal.{GiveRefusal, coarse, ahead, expired, not_newer, no_file, given_version, file_refusal, age_refusal, version_refusal, weather_refusal, key_refusal, text_fault_refusal, give_refusal}
+use Rattle.ground_core.specs.Sound.{IsSound, IsGiven, AreGiven, AcceptedIsGiven}
+
+-- what the crates below promise of texts
+pub record TextLayers : Type 0 where
+  pub sendable : (text : List ℕ) → IsUtf8 text → text_refusal (chars text) ≡ None → IsSendable text
+  pub size : (text : List ℕ) → length (text_payload text) ≡ (6 * (length text + 1) + 7) / 8
+  pub bytes : (text : List ℕ) → IsDlac text → AreBytes (text_payload text)
+  pub reads : (text : List ℕ) → IsDlac text → 0 < length text → reports_of (text_payload text) ≡ text ∷ []
+  pub longest_life : (table : LifeTable) (word : List ℕ) (row : TextRow) → text_row table word ≡ Some row
+      → (life : ℕ) × (longest table 413 ≡ Some life) × (row.life ≤ life)
+  pub same : (a b : Key) → Decides (same_key a b) (a ≡ b)
+
+-- the entry and the weather of a text
+abbrev pub entry_of : TextKey → ℕ → ℕ → List ℕ → Entry
+entry_of key version life chars = record { key = text_report key; version = version; until = version + life; value = report chars }
+
+abbrev pub text_weather : TextKey → ℕ → TextRow → List ℕ → Weather
+text_weather key version row chars = record {
+  product = 413;
+  form = row.form;
+  version = version;
+  life = row.life;
+  entries = entry_of key version row.life chars ∷ [];
+  payload = text_payload chars;
+}
+
+-- what is not refused passed each test
+passed : (refusal : GiveRefusal) (test : Bool) (later : Option GiveRefusal) → cond test (Some refusal) later ≡ None → (test ≡ false) × (later ≡ None)
+passed refusal true later e = absurd (cc)
+passed refusal false later e = (refl, e)
+
+by_text : (cause : Option TextRefusal) (later : Option GiveRefusal) → text_fault_refusal cause later ≡ None → (cause ≡ None) × (later ≡ None)
+by_text None later e = (refl, e)
+by_text (Some cause) later e = absurd (cc)
+
+by_key : (table : LifeTable) (before : List Item) (moment version : ℕ) (chars : List ℕ) (found : Result TextKey KeyFault)
+    → key_refusal table before moment version chars found ≡ None
+    → (key : TextKey) × (found ≡ Ok key) × (weather_refusal table before moment key (weather_by_row version chars (report_entries table version chars) (text_row table key.kind)) ≡ None)
+by_key table before moment version chars (Ok key) e = (key, refl, e)
+by_key table before moment version chars (Err fault) e = absurd (cc)
+
+by_row : (table : LifeTable) (before : List Item) (moment version : ℕ) (key : TextKey) (chars : List ℕ) (entries : List Entry) (found : Option TextRow)
+    → weather_refusal table before moment key (weather_by_row version chars entries found) ≡ None
+    → (row : TextRow) × (found ≡ Some row) × (weather_refusal table before moment key (weather_by_row version chars entries (Some row)) ≡ None)
+by_row table before moment version key chars entries (Some row) e = (row, refl, e)
+by_row table before moment version key chars entries None e = absurd (cc)
+
+abbrev IsAbove : ℕ → Option ℕ → Type 0
+IsAbove version None = Unit {0}
+IsAbove version (Some kept) = kept < version
+
+by_age : (version : ℕ) (kept : Option ℕ) (later : Option GiveRefusal) → age_refusal version kept later ≡ None → IsAbove version kept × (later ≡ None)
+by_age version None later e = (tt, e)
+by_age version (Some kept) later e =
+    let split = passed (not_newer kept) (nat_le version kept) later e in
+    (leb-false version kept split.0, split.1)
+
+-- the greatest version is not below any
+fold-below : (bound n : ℕ) (more : List ℕ) → fold max n more < bound → (n < bound) × ((m : ℕ) → IsIn m more → m < bound)
+fold-below bound n [] below = (below, λ m h. absurd h)
+fold-below bound n (k ∷ more) below =
+    let rest = fold-below bound (max n k) more below in
+    let here = rest.0 in
+    (omega arith, λ m h. elim h [ inl e ↦ (let same : m ≡ k = e in omega arith) | inr r ↦ rest.1 m r ])
+
+greatest-below : (bound : ℕ) (numbers : List ℕ) → IsAbove bound (greatest_of numbers) → (m : ℕ) → IsIn m numbers → m < bound
+greatest-below bound [] above m h = absurd h
+greatest-below bound (n ∷ more) above m h =
+    let all = fold-below bound n more above in
+    elim h [ inl e ↦ (let here = all.0 in let same : m ≡ n = e in omega arith) | inr r ↦ all.1 m r ]
+
+given-below : (version : ℕ) (key : Key) (before : List Item) → IsAbove version (given_version key before)
+    → (item : Item) → IsIn item before → has_key key item ≡ true → item.weather.version < version
+given-below version key before above item h has =
+    greatest-below version (map (λ item. item.weather.version) (filter (has_key key) before)) above item.weather.version
+    (map_has (λ (item : Item). item.weather.version) item (filter (has_key key) before) (IsIn-filter (has_key key) item before h has))
+
+-- weather in segments that is not refused for its file has a number
+numbered : (segmented : Bool) (number : Option ℕ) → cond (segmented && is_none number) (Some no_file) None ≡ None → segmented ≡ true
+    → (n : ℕ) × (number ≡ Some n)
+numbered true (Some n) e s = (n, refl)
+numbered true None e s = absurd (cc)
+numbered false number e s = absurd (cc)
+
+-- a text with a key is not empty
+no_key_of_nothing : (table : LifeTable) → text_key table [] ≡ Err few_words
+unfolding text_key
+no_key_of_nothing table = refl
+
+not_empty : (table : LifeTable) (key : TextKey) (chars : List ℕ) → text_key table chars ≡ Ok key → 0 < length chars
+not_empty table key [] e = absurd (cc (no_key_of_nothing table))
+not_empty table key (c ∷ more) e = omega arith
+
+report_entries-key : (table : LifeTable) (version : ℕ) (chars : List ℕ) (key : TextKey) (row : TextRow)
+    → text_key table chars ≡ Ok key → text_row table key.kind ≡ Some row → report_entries table version chars ≡ entry_of key version row.life chars ∷ []
+report_entries-key table version chars key row key_is row_is = ap (entry_by_key table version chars) key_is ∙ ap (entry_by_row key version chars) row_is
+
+weather-key : (table : LifeTable) (version : ℕ) (chars : List ℕ) (key : TextKey) (row : TextRow)
+    → text_key table chars ≡ Ok key → text_row table key.kind ≡ Some row → weather_of table (text version chars) ≡ text_weather key version row chars ∷ []
+weather-key table version chars key row key_is row_is =
+    ap (weather_by_key table version chars) key_is
+    ∙ ap (weather_by_row version chars (report_entries table version chars)) row_is
+    ∙ ap (λ entries. weather_by_row version chars entries (Some row)) (report_entries-key table version chars key row key_is row_is)
+
+-- a text has few segments
+length-pieces : (count limit : ℕ) (bytes : List ℕ) → length (pieces count limit bytes) ≡ count
+length-pieces zero limit bytes = refl
+length-pieces (suc count) limit bytes = ap suc (length-pieces count limit _)
+
+few : (form : TimeForm) (payload : List ℕ) → length payload ≤ 12290 → segments_needed form payload ≤ 64
+few Minute payload le = omega arith
+few Second payload le = omega arith
+few DayMinute payload le = omega arith
+few DaySecond payload le = omega arith
+
+few_parts : (form : TimeForm) (payload : List ℕ) → length payload ≤ 12290 → length (parts form payload) ≤ 64
+few_parts form payload le = elim (cases_Bool (files.is_segmented form payload)) [
+  | inl t ↦ rw t (rw (length-pieces (segments_needed form payload) (segment_limit form) payload) (few form payload le))
+  | inr f ↦ rw f (omega arith)
+]
+
+payload-few : TextLayers → (chars : List ℕ) → IsSendable chars → length (text_payload chars) ≤ 12290
+payload-few layers chars sendable =
+    let size = layers.size chars in
+    let short = sendable.1 in
+    omega arith
+
+-- the weather of a text is sound
+text-sound : TextLayers → (table : LifeTable) (version : ℕ) (chars : List ℕ) (key : TextKey) (row : TextRow) → IsTable table
+    → IsMoment version → IsSendable chars → text_key table chars ≡ Ok key → text_row table key.kind ≡ Some row → shows row.form version ≡ true
+    → IsSound table (text_weather key version row chars)
+text-sound layers table version chars key row is_table moment_is sendable key_is row_is shown =
+    let longest_life = layers.longest_life table key.kind row row_is in
+    let entry = entry_of key version row.life chars in
+    let only : (e : Entry) → IsIn e (entry ∷ []) → e ≡ entry = λ e h. in_one e entry h in
+    record {
+      product = inr (inr refl);
+      version = moment_is;
+      shown = shown;
+      listed = record { longest_life = longest_life.0; has_row = longest_life.1; not_longer = longest_life.2 };
+      within = (is_table.texts key.kind row row_is).within;
+      bytes = layers.bytes chars sendable.0;
+      says =
+          ap (flat_map (report_entries table version)) (layers.reads chars sendable.0 (not_empty table key chars key_is))
+          ∙ append-nil (report_entries table version chars)
+          ∙ report_entries-key table version chars key row key_is row_is;
+      versions = λ e h. ap (λ (x : Entry). x.version) (only e h);
+      ends = λ e h. ap (λ (x : Entry). x.until) (only e h);
+      apart = λ e f h k keys. only e h ∙ sym (only f k);
+      few_segments = few_parts row.form (text_payload chars) (payload-few layers chars sendable);
+    }
+
+text-given : TextLayers → (table : LifeTable) (before : List Item) (moment version : ℕ) (chars : List ℕ) (key : TextKey) (row : TextRow) → IsTable table
+    → IsMoment version → IsSendable chars → text_key table chars ≡ Ok key → text_row table key.kind ≡ Some row
+    → version_refusal moment (text_weather key version row chars) (given_version (text_report key) before) (file_refusal table before moment (text_weather key version row chars)) ≡ None
+    → IsGiven table before moment (text_weather key version row chars)
+text-given layers table before moment version chars key row is_table moment_is sendable key_is row_is passes =
+    let w = text_weather key version row chars in
+    let by_form = passed coarse (not (shows row.form version)) _ passes in
+    let by_lead = passed ahead (nat_lt (moment + 60) version) _ by_form.1 in
+    let by_life = passed expired (nat_le (end_of w) moment) _ by_lead.1 in
+    let by_age = by_age version (given_version (text_report key) before) (file_refusal table before moment w) by_life.1 in
+    record {
+      sound = text-sound layers table version chars key row is_table moment_is sendable key_is row_is (not-false (shows row.form version) by_form.0);
+      not_ahead = ltb-false (moment + 60) version by_lead.0;
+      not_expired = leb-false (end_of w) moment by_life.0;
+      number = λ s. numbered (is_segmented w) (number_for table moment before w) by_age.1 s;
+      newer = λ item e old h has.
+          given-below version (text_report key) before by_age.0 item old
+          (subst (λ (x : Entry). has_key x.key item ≡ true) (in_one e (entry_of key version row.life chars) h) has);
+    }
+
+refusal-text : (table : LifeTable) (before : List Item) (moment version : ℕ) (chars_of : List ℕ) → give_refusal table before moment (text version chars_of) ≡ None
+    → (text_refusal (chars chars_of) ≡ None) × (key_refusal table before moment version chars_of (text_key table chars_of) ≡ None)
+unfolding give_refusal
+refusal-text table before moment version bytes e = by_text (text_refusal (chars bytes)) (key_refusal table before moment version bytes (text_key table bytes)) e
+
+pub accepted-given : TextLayers → AcceptedIsGiven
+accepted-given layers table station before moment (text version bytes) is_table is =
+    let typed = is.0 in
+    let none = refusal-text table before moment version bytes is.1 in
+    let sendable = layers.sendable bytes typed.1 none.0 in
+    let keyed = by_key table before moment version bytes (text_key table bytes) none.1 in
+    let rowed = by_row table before moment version keyed.0 bytes (report_entries table version bytes) (text_row table (keyed.0).kind) keyed.2 in
+    let key = keyed.0 in
+    let row = rowed.0 in
+    let entries_are = report_entries-key table version bytes key row keyed.1 rowed.1 in
+    let passes : version_refusal moment (text_weather key version row bytes) (given_version (text_report key) before) (file_refusal table before moment (text_weather key version row bytes)) ≡ None =
+    subst (λ (entries : List Entry). weather_refusal table before moment key (weather_by_row version bytes entries (Some row)) ≡ None) entries_are rowed.2 in
+    subst (AreGiven table station moment before) (sym (weather-key table version bytes key row keyed.1 rowed.1))
+    (text-given layers table before moment version bytes key row is_table typed.0 sendable keyed.1 rowed.1 passes, tt)

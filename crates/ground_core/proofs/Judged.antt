@@ -1,0 +1,54 @@
+-- What the tests on a text tell together.
+use Rattle.std.proofs.Common.{◌≡◌, ℕ, ◌+◌, ◌*◌, ◌/◌, ◌<◌, ◌≤◌, Bool, true, false, if◌then◌else◌, List, Option, Some, None, Ok, ap, ◌∙◌, arith}
+use Rattle.std.specs.Str.{chars}
+use Rattle.fisb_time.specs.declared.form.TimeForm.{TimeForm}
+use Rattle.fisb_time.specs.declared.form.TimeForm.TheVariants.{Minute, Second, DayMinute, DaySecond}
+use Rattle.dlac_text.specs.Refusal.{TextRefusal, text_refusal, longest_text}
+use Rattle.life_table.specs.LifeTable.{LifeTable, TextRow, text_row}
+use Rattle.life_table.specs.Rules.{IsTable, IsWithinForm}
+use Rattle.text_reports.specs.TextKey.{TextKey, text_key}
+use Rattle.picture_core.specs.Key.{Key, text_report}
+use Rattle.ground_core.specs.Update.{text}
+use Rattle.ground_core.specs.Refusal.{GiveRefusal, text_fault_refusal, version_refusal}
+use Rattle.ground_core.specs.declared.fault.GiveFault.{GiveFault}
+use Rattle.ground_core.specs.Piece.{Latest}
+use Rattle.ground_core.specs.Told.{IsTold, IsToldAt, refusal_by, key_refusal_by, weather_refusal_by, count_refusal, latest_version}
+use Rattle.ground_core.proofs.Accepted.{text_weather, by_row_is}
+
+life_by_form : (late : ℕ) (form : TimeForm) (life : ℕ) → IsWithinForm late form life → life ≤ 2592000
+life_by_form late Minute life h = omega arith
+life_by_form late Second life h = omega arith
+life_by_form late DayMinute life h = h
+life_by_form late DaySecond life h = h
+
+-- a life is at most thirty days
+pub life_within : (table : LifeTable) (word : List ℕ) (row : TextRow) → IsTable table → text_row table word ≡ Some row → row.life ≤ 2592000
+life_within table word row h e = life_by_form table.late row.form row.life (h.texts word row e).within
+
+-- a text that can be sent is refused for what follows
+pub told_behind : (refusal : Option TextRefusal) (later : Option GiveRefusal) (fault : GiveFault) → refusal ≡ None → IsTold later fault → IsTold (text_fault_refusal refusal later) fault
+told_behind None later fault e h = h
+told_behind (Some bad) later fault e h = absurd (cc)
+
+-- with a key and a row, what stands against the version and the file is what stands against the text
+pub judged_by : (table : LifeTable) (latest : Key → Option Latest) (count : ℕ → ℕ → ℕ) (moment version : ℕ) (text_chars : List ℕ) (key : TextKey) (row : TextRow)
+    → text_refusal (chars text_chars) ≡ None → text_key table text_chars ≡ Ok key → text_row table key.kind ≡ Some row
+    → refusal_by table latest count moment (text version text_chars)
+    ≡ version_refusal moment (text_weather key row version text_chars) (latest_version (latest (text_report key)))
+    (count_refusal (text_weather key row version text_chars) (count version 413))
+judged_by table latest count moment version text_chars key row s k r =
+    ap (λ f. text_fault_refusal f (key_refusal_by table latest count moment version text_chars (text_key table text_chars))) s
+    ∙ ap (key_refusal_by table latest count moment version text_chars) k
+    ∙ ap (weather_refusal_by latest count moment key) (by_row_is table version text_chars key row k r)
+
+-- a payload has few bytes
+pub few_bytes : (size count : ℕ) → size ≡ (6 * (count + 1) + 7) / 8 → count ≤ longest_text → size ≤ 65536
+few_bytes size count e h = omega arith
+
+pub count_below : (b : Bool) (count file : ℕ) → file ≡ (if b then count else 0) → file < 1024 → b ≡ true → count < 1024
+count_below true count file e h t = omega arith
+count_below false count file e h t = cc
+
+pub told_in_time : (last : Option ℕ) (refusal : Option GiveRefusal) (fault : GiveFault) → last ≡ None → IsTold refusal fault → IsToldAt last refusal fault
+told_in_time None refusal fault e h = h
+told_in_time (Some last) refusal fault e h = absurd (cc)

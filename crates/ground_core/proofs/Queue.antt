@@ -1,0 +1,236 @@
+-- What is live of the queue is what waits: at a later moment, behind a frame that was filled, and behind an item that was given.
+use Rattle.std.proofs.Common.{◌≡◌, ℕ, zero, suc, ◌+◌, ◌-◌, ◌<◌, ◌≤◌, Bool, true, false, not, ◌||◌, ◌&&◌, ◌==◌, nat_lt, nat_le, if◌then◌else◌, List, [], ◌∷◌, ◌++◌, length, map, filter, flat_map, Option, Some, None, refl, sym, ap, ◌∙◌, inl, inr, arith, append-nil}
+use Rattle.std.specs.List.{list_any, range_with_len}
+use Rattle.std.proofs.lemmas.Bool.{cases_Bool, lt-ltb, ltb-true, and_parts, and_from}
+use Rattle.std.proofs.lemmas.Bool.Decides.{nat_tests}
+use Rattle.std.proofs.lemmas.List.{map-append}
+use Rattle.std.proofs.lemmas.List.Elements.{filter-append}
+use Rattle.life_table.specs.LifeTable.{LifeTable}
+use Rattle.uplink_frame.specs.declared.station.StationId.{StationId}
+use Rattle.uplink_frame.specs.Station.{same_station}
+use Rattle.picture_core.specs.Key.{Key}
+use Rattle.ground_core.specs.Item.{Weather, Item, Segment, segments_of, segment_of, same_item, same_segment, room_of}
+use Rattle.ground_core.specs.History.{Event, accepted, fill, items, new_items, items_made, item_of}
+use Rattle.ground_core.specs.Update.{Update, weather_of}
+use Rattle.ground_core.specs.Airing.{log, airing, waiting, fitting, is_live, has_key}
+use Rattle.ground_core.specs.Piece.{Piece, Latest, piece_of, has_serial, live_by, fitting_pieces, left_pieces}
+use Rattle.ground_core.specs.StandsFor.{latest_of, latest_of_item}
+use Rattle.ground_core.proofs.ListLemmas.{Each, Each-weaker, Each-in, Each-all, Each-map, filter_same, filter_all, filter_less, filter-map}
+use Rattle.ground_core.proofs.Order.{last_places, segments_in, stands_in, waiting_is, turned, Once, last_places-append, last_places_once}
+use Rattle.ground_core.proofs.Serials.{Numbered, numbered_items, serial_in, IsLogged, logged, of_its_item, log_given, log_filled, Each-last_places, live_same, latest_push}
+
+-- the pieces of segments that were given are live where their items are
+pub pieces_live : (all : List Item) (moment : ℕ) (segments : List Segment) → Numbered 0 all → Each (IsLogged all) segments
+    → filter (live_by (latest_of all) moment) (map piece_of segments) ≡ map piece_of (filter (λ s. is_live all moment s.item) segments)
+pieces_live all moment segments n h =
+    filter-map (live_by (latest_of all) moment) piece_of segments
+    ∙ ap (map piece_of) (filter_same _ (λ s. is_live all moment s.item) segments
+    (Each-weaker _ _ (λ s k. live_same all moment s n k.item) segments h))
+
+abbrev pub places : LifeTable → StationId → List Event → List Segment
+places table station history = last_places (segments_in (log table station history))
+
+pub logged_places : (table : LifeTable) (station : StationId) (history : List Event)
+    → Each (IsLogged (items table station history)) (places table station history)
+logged_places table station history = Each-last_places _ _ (logged table station history)
+
+pub waits_are : (table : LifeTable) (station : StationId) (history : List Event) (moment : ℕ)
+    → map piece_of (waiting (items table station history) (log table station history) moment)
+    ≡ filter (live_by (latest_of (items table station history)) moment) (map piece_of (places table station history))
+waits_are table station history moment =
+    ap (map piece_of) (waiting_is (items table station history) (log table station history) moment)
+    ∙ sym (pieces_live (items table station history) moment (places table station history) (numbered_items table station history) (logged_places table station history))
+
+-- a test that passes less
+pub less_same : (p q : Piece → Bool) (xs ys : List Piece) → Each (λ x. q x ≡ true → p x ≡ true) xs → Each (λ x. q x ≡ true → p x ≡ true) ys
+    → filter p xs ≡ filter p ys → filter q xs ≡ filter q ys
+less_same p q xs ys h k e = sym (filter_less p q xs h) ∙ ap (filter q) e ∙ filter_less p q ys k
+
+later_lives : (latest : Key → Option Latest) (clock moment : ℕ) (p : Piece) → clock ≤ moment → live_by latest moment p ≡ true → live_by latest clock p ≡ true
+later_lives latest clock moment p le h =
+    let both = and_parts (nat_lt moment p.until) (list_any (λ key. has_serial p.serial (latest key)) p.keys) h in
+    and_from (nat_lt clock p.until) _ (lt-ltb clock p.until (omega (arith, ltb-true moment p.until both.0))) both.1
+
+-- at a later moment
+pub line_later : (table : LifeTable) (station : StationId) (history : List Event) (clock moment : ℕ) (line : List Piece) → clock ≤ moment
+    → filter (live_by (latest_of (items table station history)) clock) line ≡ map piece_of (waiting (items table station history) (log table station history) clock)
+    → filter (live_by (latest_of (items table station history)) moment) line ≡ map piece_of (waiting (items table station history) (log table station history) moment)
+line_later table station history clock moment line le e =
+    let latest : Key → Option Latest = latest_of (items table station history) in
+    let less : (xs : List Piece) → Each (λ x. live_by latest moment x ≡ true → live_by latest clock x ≡ true) xs
+    = λ (xs : List Piece). Each-all _ (λ x. later_lives latest clock moment x le) xs in
+    less_same (live_by latest clock) (live_by latest moment) line (map piece_of (places table station history)) (less line) (less _)
+    (e ∙ waits_are table station history clock) ∙ sym (waits_are table station history moment)
+
+-- pieces fit as their segments do
+pub fitting_pieces_are : (room : ℕ) (xs : List Segment) → map piece_of (fitting room xs) ≡ fitting_pieces room (map piece_of xs)
+fitting_pieces_are room [] = refl
+fitting_pieces_are room (x ∷ xs) = elim (cases_Bool (nat_le (room_of x) room)) [
+  | inl t ↦ rw t (ap (λ l. piece_of x ∷ l) (fitting_pieces_are (room - room_of x) xs))
+  | inr f ↦ rw f refl
+]
+
+abbrev pub left : ℕ → List Segment → List Segment
+left room [] = []
+left room (s ∷ more) = if nat_le (room_of s) room then left (room - room_of s) more else s ∷ more
+
+pub left_pieces_are : (room : ℕ) (xs : List Segment) → map piece_of (left room xs) ≡ left_pieces room (map piece_of xs)
+left_pieces_are room [] = refl
+left_pieces_are room (x ∷ xs) = elim (cases_Bool (nat_le (room_of x) room)) [
+  | inl t ↦ rw t (left_pieces_are (room - room_of x) xs)
+  | inr f ↦ rw f refl
+]
+
+pub fitting_left : (room : ℕ) (xs : List Segment) → xs ≡ fitting room xs ++ left room xs
+fitting_left room [] = refl
+fitting_left room (x ∷ xs) = elim (cases_Bool (nat_le (room_of x) room)) [
+  | inl t ↦ rw t (ap (λ l. x ∷ l) (fitting_left (room - room_of x) xs))
+  | inr f ↦ rw f refl
+]
+
+-- behind a fill
+pub record IsFilled (table : LifeTable) (station : StationId) (past : List Event) (moment slot : ℕ) (old new : List Piece) : Type 0 where
+  pub aired : map piece_of (airing (items table station past) (log table station past) moment)
+      ≡ fitting_pieces 424 (filter (live_by (latest_of (items table station past)) moment) old)
+  pub line : filter (live_by (latest_of (items table station past)) moment) new
+      ≡ map piece_of (waiting (items table station (fill moment slot ∷ past)) (log table station (fill moment slot ∷ past)) moment)
+
+-- what waits behind a fill: what was left, and then what was aired
+pub waiting_filled : (table : LifeTable) (station : StationId) (past : List Event) (moment slot : ℕ)
+    → waiting (items table station (fill moment slot ∷ past)) (log table station (fill moment slot ∷ past)) moment
+    ≡ left 424 (waiting (items table station past) (log table station past) moment)
+    ++ airing (items table station past) (log table station past) moment
+waiting_filled table station past moment slot =
+    let all : List Item = items table station past in
+    let before : List Segment = segments_in (log table station past) in
+    let now : List Segment = waiting all (log table station past) moment in
+    let front : List Segment = fitting 424 now in
+    let live : Segment → Bool = λ s. is_live all moment s.item in
+    let cut : filter live (last_places before) ≡ front ++ left 424 now = sym (waiting_is all (log table station past) moment) ∙ fitting_left 424 now in
+    waiting_is (all ++ []) (log table station (fill moment slot ∷ past)) moment
+    ∙ ap (λ is. filter (λ s. is_live is moment s.item) (last_places (segments_in (log table station (fill moment slot ∷ past))))) (append-nil all)
+    ∙ ap (λ l. filter live (last_places l)) (log_filled table station past moment slot)
+    ∙ turned live before front (left 424 now) cut
+
+pub filled : (table : LifeTable) (station : StationId) (past : List Event) (clock moment slot : ℕ) (old new : List Piece) → clock ≤ moment
+    → filter (live_by (latest_of (items table station past)) clock) old ≡ map piece_of (waiting (items table station past) (log table station past) clock)
+    → filter (live_by (latest_of (items table station past)) moment) new
+    ≡ left_pieces 424 (filter (live_by (latest_of (items table station past)) moment) old)
+    ++ fitting_pieces 424 (filter (live_by (latest_of (items table station past)) moment) old)
+    → IsFilled table station past moment slot old new
+filled table station past clock moment slot old new le e n =
+    let all : List Item = items table station past in
+    let now : List Segment = waiting all (log table station past) moment in
+    let live : filter (live_by (latest_of all) moment) old ≡ map piece_of now = line_later table station past clock moment old le e in
+    record {
+      aired = fitting_pieces_are 424 now ∙ ap (fitting_pieces 424) (sym live);
+      line = n ∙ ap (λ l. left_pieces 424 l ++ fitting_pieces 424 l) live
+          ∙ ap (λ l. l ++ fitting_pieces 424 (map piece_of now)) (sym (left_pieces_are 424 now))
+          ∙ ap (λ l. map piece_of (left 424 now) ++ l) (sym (fitting_pieces_are 424 now))
+          ∙ sym (map-append piece_of (left 424 now) (fitting 424 now))
+          ∙ ap (map piece_of) (sym (waiting_filled table station past moment slot));
+    }
+
+and_false : (a b : Bool) → b ≡ false → (a && b) ≡ false
+and_false true b h = h
+and_false false b h = refl
+
+or_right : (a b : Bool) → b ≡ true → (a || b) ≡ true
+or_right true b h = refl
+or_right false b h = h
+
+-- segments of one item are told apart by their numbers
+none_below : (item : Item) (low at n : ℕ) → low < at → stands_in (map (segment_of item) (range_with_len at n)) (segment_of item low) ≡ false
+none_below item low at zero lt = refl
+none_below item low at (suc n) lt =
+    let head : same_segment (segment_of item low) (segment_of item at) ≡ false = and_false (same_item item item) (low == at) (grind (arith, nat_tests)) in
+    rw head (none_below item low (at + 1) n (omega arith))
+
+once_numbers : (item : Item) (at n : ℕ) → Once (map (segment_of item) (range_with_len at n))
+once_numbers item at zero = tt
+once_numbers item at (suc n) = (none_below item at (at + 1) n (omega arith), once_numbers item (at + 1) n)
+
+-- a segment of another serial is none of an item's
+none_of_item : (s : Segment) (serial : ℕ) (xs : List Segment) → s.item.serial < serial → Each (λ x. x.item.serial ≡ serial) xs → stands_in xs s ≡ false
+none_of_item s serial [] lt h = refl
+none_of_item s serial (x ∷ xs) lt h =
+    let other : (s.item.serial == x.item.serial) ≡ false = rw h.0 (grind (arith, nat_tests)) in
+    let head : same_segment s x ≡ false = ap (λ b. b && (s.number == x.number)) (and_false (same_station s.item.station x.item.station) (s.item.serial == x.item.serial) other) in
+    rw head (none_of_item s serial xs lt h.1)
+
+item_of_each : (item : Item) → Each (λ x. x.item.serial ≡ item.serial) (segments_of item)
+item_of_each item = Each-in _ (segments_of item) (λ x i. ap (λ (z : Item). z.serial) (of_its_item item x i))
+
+-- the segments of a new item stand behind all others
+pub places_given : (all : List Item) (before : List Segment) (item : Item) → item.serial ≡ length all → Numbered 0 all → Each (IsLogged all) before
+    → last_places (before ++ segments_of item) ≡ last_places before ++ segments_of item
+places_given all before item e n h =
+    let new : List Segment = segments_of item in
+    last_places-append before new
+    ∙ ap (λ l. filter (λ s. not (stands_in new s)) (last_places before) ++ l) (last_places_once new (once_numbers item 1 _))
+    ∙ ap (λ l. l ++ new) (filter_all (λ s. not (stands_in new s)) (last_places before) (Each-weaker _ _ (λ s k.
+    let below = (serial_in 0 all s.item n k.item).1 in
+    ap not (none_of_item s item.serial new (omega arith) (item_of_each item))) (last_places before) (Each-last_places _ before h)))
+
+list_any-weaker : {X : Type 0} (p q : X → Bool) → ((x : X) → p x ≡ true → q x ≡ true) → (xs : List X) → list_any p xs ≡ true → list_any q xs ≡ true
+list_any-weaker p q f [] h = h
+list_any-weaker p q f (x ∷ xs) h = elim (cases_Bool (p x)) [
+  | inl t ↦ rw (f x t) refl
+  | inr g ↦ (let rest : list_any q xs ≡ true = list_any-weaker p q f xs (ap (λ b. b || list_any p xs) (sym g) ∙ h) in or_right (q x) (list_any q xs) rest)
+]
+
+-- an older piece is live behind a new item only where it was live before
+older_serial : (all : List Item) (item : Item) (serial : ℕ) (key : Key) → item.serial ≡ length all → serial < length all
+    → has_serial serial (latest_of (all ++ item ∷ []) key) ≡ true → has_serial serial (latest_of all key) ≡ true
+older_serial all item serial key e lt h =
+    let k = ap (has_serial serial) (sym (latest_push key all item None)) ∙ h in
+    elim (cases_Bool (has_key key item)) [
+      | inl t ↦ (
+          let bad : (item.serial == serial) ≡ true = ap (λ b. has_serial serial (if b then Some (latest_of_item item) else latest_of all key)) (sym t) ∙ k in
+          let no : (item.serial == serial) ≡ false = grind (arith, nat_tests) in
+          absurd (cc))
+      | inr f ↦ ap (λ b. has_serial serial (if b then Some (latest_of_item item) else latest_of all key)) (sym f) ∙ k
+    ]
+
+pub older_lives : (all : List Item) (item : Item) (clock moment : ℕ) (p : Piece) → item.serial ≡ length all → clock ≤ moment → p.serial < length all
+    → live_by (latest_of (all ++ item ∷ [])) moment p ≡ true → live_by (latest_of all) clock p ≡ true
+older_lives all item clock moment p e le lt h =
+    let both = and_parts (nat_lt moment p.until) (list_any (λ key. has_serial p.serial (latest_of (all ++ item ∷ []) key)) p.keys) h in
+    and_from (nat_lt clock p.until) _ (lt-ltb clock p.until (omega (arith, ltb-true moment p.until both.0)))
+    (list_any-weaker (λ key. has_serial p.serial (latest_of (all ++ item ∷ []) key)) (λ key. has_serial p.serial (latest_of all key))
+    (λ key k. older_serial all item p.serial key e lt k) p.keys both.1)
+
+-- what waits behind an item that was given
+pub given_line : (table : LifeTable) (station : StationId) (past : List Event) (moment : ℕ) (update : Update) (w : Weather) (clock : ℕ) (old new : List Piece)
+    → weather_of table update ≡ w ∷ [] → clock ≤ moment
+    → Each (λ p. p.serial < length (items table station past)) old
+    → filter (live_by (latest_of (items table station past)) clock) old ≡ map piece_of (waiting (items table station past) (log table station past) clock)
+    → new ≡ old ++ map piece_of (segments_of (item_of table station moment (items table station past) w))
+    → filter (live_by (latest_of (items table station (accepted moment update ∷ past))) moment) new
+    ≡ map piece_of (waiting (items table station (accepted moment update ∷ past)) (log table station (accepted moment update ∷ past)) moment)
+given_line table station past moment update w clock old new we le low e n =
+    let all : List Item = items table station past in
+    let item : Item = item_of table station moment all w in
+    let history : List Event = accepted moment update ∷ past in
+    let segments : List Segment = segments_of item in
+    let before : List Segment = segments_in (log table station past) in
+    let made : new_items table station all (accepted moment update) ≡ item ∷ [] = ap (items_made table station moment all) we in
+    let items_are : items table station history ≡ all ++ item ∷ [] = ap (λ l. all ++ l) made in
+    let logs : segments_in (log table station history) ≡ before ++ segments
+    = log_given table station past moment update ∙ ap (λ l. before ++ flat_map segments_of l) made ∙ ap (λ l. before ++ l) (append-nil segments) in
+    let order : places table station history ≡ places table station past ++ segments
+    = ap last_places logs ∙ places_given all before item refl (numbered_items table station past) (logged table station past) in
+    let test : Piece → Bool = live_by (latest_of (all ++ item ∷ [])) moment in
+    let older : filter test old ≡ filter test (map piece_of (places table station past))
+    = less_same (live_by (latest_of all) clock) test old (map piece_of (places table station past))
+    (Each-weaker _ _ (λ p lt. older_lives all item clock moment p refl le lt) old low)
+    (Each-map _ piece_of (places table station past) (Each-weaker _ _ (λ s k.
+    older_lives all item clock moment (piece_of s) refl le (let b = serial_in 0 all s.item (numbered_items table station past) k.item in omega (arith, b.1))) (places table station past) (logged_places table station past)))
+    (e ∙ waits_are table station past clock) in
+    ap (λ is. filter (live_by (latest_of is) moment) new) items_are
+    ∙ ap (filter test) n ∙ filter-append test old (map piece_of segments)
+    ∙ ap (λ l. l ++ filter test (map piece_of segments)) older
+    ∙ sym (filter-append test (map piece_of (places table station past)) (map piece_of segments))
+    ∙ ap (filter test) (sym (map-append piece_of (places table station past) segments) ∙ ap (map piece_of) (sym order))
+    ∙ ap (λ is. filter (live_by (latest_of is) moment) (map piece_of (places table station history))) (sym items_are)
+    ∙ sym (waits_are table station history moment)

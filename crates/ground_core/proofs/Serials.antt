@@ -1,0 +1,197 @@
+-- Items are numbered by their place, and what is logged are segments of items that were given.
+use Rattle.std.proofs.Common.{◌≡◌, ℕ, ◌+◌, ◌-◌, ◌<◌, ◌≤◌, Bool, true, false, not, ◌&&◌, nat_lt, nat_le, if◌then◌else◌, List, [], ◌∷◌, ◌++◌, length, map, flat_map, Option, Some, None, refl, sym, ap, subst, ◌∙◌, inl, inr, arith, length-append}
+use Rattle.std.specs.List.{list_any}
+use Rattle.std.proofs.lemmas.Bool.{cases_Bool, lt-ltb}
+use Rattle.std.proofs.lemmas.Bool.Decides.{nat_tests}
+use Rattle.std.proofs.lemmas.List.{map-append}
+use Rattle.list_members.specs.Membership.{IsIn}
+use Rattle.list_members.proofs.Members.{IsIn-before, IsIn-after}
+use Rattle.list_members.proofs.ListMembers.{in_flat_map, in_map, in_any}
+use Rattle.life_table.specs.LifeTable.{LifeTable}
+use Rattle.uplink_frame.specs.declared.station.StationId.{StationId}
+use Rattle.std.specs.Ordering.{nat_cmp}
+use Rattle.std.specs.declared.cmp.Ordering.TheVariants.{Equal}
+use Rattle.std.proofs.lemmas.Cmp.{nat_cmp_total, tied_itself}
+use Rattle.radar_core.specs.Keys.{bit}
+use Rattle.picture_core.specs.Key.{Key, radar_block, text_report, same_key}
+use Rattle.picture_core.specs.Entry.{Entry}
+use Rattle.ground_core.specs.Item.{Weather, Item, Segment, segments_of, segment_of, end_of, room_of}
+use Rattle.ground_core.specs.History.{Event, accepted, fill, items, new_items, items_made, item_of}
+use Rattle.ground_core.specs.Update.{Update, weather_of}
+use Rattle.ground_core.specs.Airing.{Touch, touch, log, airing, waiting, fitting, frame_room, has_key, is_newest_for, is_live}
+use Rattle.ground_core.specs.Piece.{Latest, piece_of, has_serial, live_by}
+use Rattle.ground_core.specs.StandsFor.{latest_after, latest_of, latest_of_item}
+use Rattle.ground_core.proofs.KeyLemmas.{text_key_itself}
+use Rattle.ground_core.proofs.ListLemmas.{Each, Each-append, Each-weaker, Each-filter, Each-in, list_any-map, list_any-same}
+use Rattle.ground_core.proofs.Order.{last_places, segments_in, stands_in, waiting_is}
+
+abbrev pub Numbered : ℕ → List Item → Type 0
+Numbered n [] = Unit {0}
+Numbered n (item ∷ more) = (item.serial ≡ n) × Numbered (n + 1) more
+
+pub Numbered-append : (n : ℕ) (xs ys : List Item) → Numbered n xs → Numbered (n + length xs) ys → Numbered n (xs ++ ys)
+Numbered-append n [] ys h k = let e : n + 0 ≡ n = omega arith in subst (λ m. Numbered m ys) e k
+Numbered-append n (x ∷ xs) ys h k = let e : n + length (x ∷ xs) ≡ (n + 1) + length xs = omega arith in
+    (h.0, Numbered-append (n + 1) xs ys h.1 (subst (λ m. Numbered m ys) e k))
+
+numbered_made : (table : LifeTable) (station : StationId) (moment : ℕ) (before : List Item) (ws : List Weather)
+    → Numbered (length before) (items_made table station moment before ws)
+numbered_made table station moment before [] = tt
+numbered_made table station moment before (w ∷ more) =
+    let item : Item = item_of table station moment before w in (
+      refl,
+      subst (λ n. Numbered n (items_made table station moment (before ++ item ∷ []) more)) (length-append before (item ∷ []))
+          (numbered_made table station moment (before ++ item ∷ []) more),
+    )
+
+pub numbered_items : (table : LifeTable) (station : StationId) (history : List Event) → Numbered 0 (items table station history)
+numbered_items table station [] = tt
+numbered_items table station (accepted moment update ∷ past) =
+    let before : List Item = items table station past in
+    let e : 0 + length before ≡ length before = omega arith in
+    Numbered-append 0 before _ (numbered_items table station past)
+    (subst (λ n. Numbered n (items_made table station moment before (weather_of table update))) (sym e) (numbered_made table station moment before (weather_of table update)))
+numbered_items table station (fill moment slot ∷ past) = Numbered-append 0 (items table station past) [] (numbered_items table station past) tt
+
+pub serial_in : (n : ℕ) (xs : List Item) (x : Item) → Numbered n xs → IsIn x xs → (n ≤ x.serial) × (x.serial < n + length xs)
+serial_in n [] x h i = absurd i
+serial_in n (y ∷ ys) x h i = elim i [
+  | inl e ↦ (let s : x.serial ≡ n = ap (λ (z : Item). z.serial) e ∙ h.0 in (omega arith, omega arith))
+  | inr k ↦ (let both = serial_in (n + 1) ys x h.1 k in (omega (arith, both.0), omega (arith, both.1)))
+]
+
+-- what was given
+pub record IsLogged (all : List Item) (s : Segment) : Type 0 where
+  pub item : IsIn s.item all
+  pub of_item : IsIn s (segments_of s.item)
+
+pub logged_more : (all more : List Item) (s : Segment) → IsLogged all s → IsLogged (all ++ more) s
+logged_more all more s h = record { item = IsIn-before s.item all more h.item; of_item = h.of_item }
+
+pub of_its_item : (item : Item) (s : Segment) → IsIn s (segments_of item) → s.item ≡ item
+of_its_item item s h = let w = in_map (segment_of item) s _ h in ap (λ (z : Segment). z.item) w.2
+
+pub logged_new : (all new : List Item) → Each (IsLogged (all ++ new)) (flat_map segments_of new)
+logged_new all new = Each-in _ (flat_map segments_of new) (λ s i.
+    let w = in_flat_map segments_of s new i in
+    let same : s.item ≡ w.0 = of_its_item w.0 s w.2 in
+    record {
+      item = IsIn-after s.item all new (subst (λ x. IsIn x new) (sym same) w.1);
+      of_item = subst (λ x. IsIn s (segments_of x)) (sym same) w.2;
+    })
+
+pub segments_of_touches : (aired : Option ℕ) (xs : List Segment) → segments_in (map (touch aired) xs) ≡ xs
+segments_of_touches aired [] = refl
+segments_of_touches aired (x ∷ xs) = ap (λ l. x ∷ l) (segments_of_touches aired xs)
+
+pub Each-last_places : (P : Segment → Type 0) (xs : List Segment) → Each P xs → Each P (last_places xs)
+Each-last_places P [] h = tt
+Each-last_places P (x ∷ xs) h = elim (cases_Bool (stands_in xs x)) [
+  | inl t ↦ rw t (Each-last_places P xs h.1)
+  | inr f ↦ rw f (h.0, Each-last_places P xs h.1)
+]
+
+pub Each-fitting : (P : Segment → Type 0) (room : ℕ) (xs : List Segment) → Each P xs → Each P (fitting room xs)
+Each-fitting P room [] h = tt
+Each-fitting P room (x ∷ xs) h = elim (cases_Bool (nat_le (room_of x) room)) [
+  | inl t ↦ rw t (h.0, Each-fitting P (room - room_of x) xs h.1)
+  | inr f ↦ rw f tt
+]
+
+-- the segments that an event adds
+pub log_given : (table : LifeTable) (station : StationId) (past : List Event) (moment : ℕ) (update : Update)
+    → segments_in (log table station (accepted moment update ∷ past))
+    ≡ segments_in (log table station past) ++ flat_map segments_of (new_items table station (items table station past) (accepted moment update))
+log_given table station past moment update =
+    let new : List Segment = flat_map segments_of (new_items table station (items table station past) (accepted moment update)) in
+    map-append (λ (t : Touch). t.segment) (log table station past) (map (touch None) new)
+    ∙ ap (λ l. segments_in (log table station past) ++ l) (segments_of_touches None new)
+
+pub log_filled : (table : LifeTable) (station : StationId) (past : List Event) (moment slot : ℕ)
+    → segments_in (log table station (fill moment slot ∷ past))
+    ≡ segments_in (log table station past) ++ airing (items table station past) (log table station past) moment
+log_filled table station past moment slot =
+    let new : List Segment = airing (items table station past) (log table station past) moment in
+    map-append (λ (t : Touch). t.segment) (log table station past) (map (touch (Some moment)) new)
+    ∙ ap (λ l. segments_in (log table station past) ++ l) (segments_of_touches (Some moment) new)
+
+pub Each-waiting : (P : Segment → Type 0) (all : List Item) (touched : List Touch) (moment : ℕ) → Each P (segments_in touched) → Each P (waiting all touched moment)
+Each-waiting P all touched moment h = subst (Each P) (sym (waiting_is all touched moment))
+    (Each-filter P (λ s. is_live all moment s.item) _ (Each-last_places P (segments_in touched) h))
+
+pub logged : (table : LifeTable) (station : StationId) (history : List Event)
+    → Each (IsLogged (items table station history)) (segments_in (log table station history))
+logged table station [] = tt
+logged table station (accepted moment update ∷ past) =
+    let all : List Item = items table station past in
+    let new : List Item = new_items table station all (accepted moment update) in
+    subst (Each (IsLogged (all ++ new))) (sym (log_given table station past moment update))
+    (Each-append _ (segments_in (log table station past)) (flat_map segments_of new)
+    (Each-weaker _ _ (logged_more all new) _ (logged table station past)) (logged_new all new))
+logged table station (fill moment slot ∷ past) =
+    let all : List Item = items table station past in
+    let before = logged table station past in
+    subst (Each (IsLogged (all ++ []))) (sym (log_filled table station past moment slot))
+    (Each-weaker _ _ (logged_more all []) _
+    (Each-append _ (segments_in (log table station past)) _ before
+    (Each-fitting _ frame_room _ (Each-waiting _ all (log table station past) moment before))))
+
+-- the last item with a key has the serial of an item that has the key exactly where no later one has it
+other_serial : (s n : ℕ) (key : Key) (later : List Item) (before : Option Latest) → s < n → Numbered n later → has_serial s before ≡ false
+    → has_serial s (latest_after key later before) ≡ false
+other_serial s n key [] before lt h e = e
+other_serial s n key (o ∷ more) before lt h e =
+    other_serial s (n + 1) key more (if has_key key o then Some (latest_of_item o) else before) (omega arith) h.1
+    (elim (cases_Bool (has_key key o)) [
+      | inl t ↦ rw t (rw h.0 (grind (arith, nat_tests)))
+      | inr f ↦ rw f e
+    ])
+
+abbrev is_later : ℕ → Key → Item → Bool
+is_later s key other = nat_lt s other.serial && has_key key other
+
+after_it : (s n : ℕ) (key : Key) (later : List Item) (before : Option Latest) → s < n → Numbered n later → has_serial s before ≡ true
+    → has_serial s (latest_after key later before) ≡ not (list_any (is_later s key) later)
+after_it s n key [] before lt h e = e
+after_it s n key (o ∷ more) before lt h e =
+    let later : nat_lt s o.serial ≡ true = rw h.0 (lt-ltb s n lt) in
+    elim (cases_Bool (has_key key o)) [
+      | inl t ↦ rw (later, t) (other_serial s (n + 1) key more (Some (latest_of_item o)) (omega arith) h.1 (rw h.0 (grind (arith, nat_tests))))
+      | inr f ↦ rw (later, f) (after_it s (n + 1) key more before (omega arith) h.1 e)
+    ]
+
+pub latest_is : (n : ℕ) (key : Key) (all : List Item) (before : Option Latest) (item : Item) → Numbered n all → IsIn item all → has_key key item ≡ true
+    → has_serial item.serial (latest_after key all before) ≡ not (list_any (is_later item.serial key) all)
+latest_is n key [] before item h i k = absurd i
+latest_is n key (o ∷ more) before item h i k = elim i [
+  | inl e ↦ (
+      let own : has_key key o ≡ true = subst (λ (z : Item). has_key key z ≡ true) e k in
+      let s : item.serial ≡ n = ap (λ (z : Item). z.serial) e ∙ h.0 in
+      let head : nat_lt item.serial o.serial ≡ false = rw (s, h.0) (grind (arith, nat_tests)) in
+      rw (own, head) (after_it item.serial (n + 1) key more (Some (latest_of_item o)) (omega arith) h.1 (rw (s, h.0) (grind (arith, nat_tests)))))
+  | inr j ↦ (
+      let above = (serial_in (n + 1) more item h.1 j).0 in
+      let head : nat_lt item.serial o.serial ≡ false = rw h.0 (grind (arith, nat_tests)) in
+      rw head (latest_is (n + 1) key more (if has_key key o then Some (latest_of_item o) else before) item h.1 j k))
+]
+
+itself_cmp : (n : ℕ) → nat_cmp n n ≡ Equal
+itself_cmp n = tied_itself nat_cmp_total n
+
+same_key_itself : (key : Key) → same_key key key ≡ true
+same_key_itself (radar_block key) = rw (itself_cmp key.product, itself_cmp key.scale, itself_cmp (bit key.south), itself_cmp key.number) refl
+same_key_itself (text_report key) = text_key_itself key
+
+-- so the last serials of its keys tell whether an item is live
+pub live_same : (all : List Item) (moment : ℕ) (s : Segment) → Numbered 0 all → IsIn s.item all
+    → live_by (latest_of all) moment (piece_of s) ≡ is_live all moment s.item
+live_same all moment s h i =
+    ap (λ b. nat_lt moment (end_of s.item.weather) && b)
+    (list_any-map (λ key. has_serial s.item.serial (latest_of all key)) (λ (entry : Entry). entry.key) s.item.weather.entries
+    ∙ list_any-same _ (λ entry. is_newest_for all s.item entry.key) s.item.weather.entries (Each-in _ s.item.weather.entries (λ entry j.
+    latest_is 0 entry.key all None s.item h i (in_any (λ e. same_key entry.key e.key) entry s.item.weather.entries j (same_key_itself entry.key)))))
+
+pub latest_push : (key : Key) (xs : List Item) (item : Item) (before : Option Latest)
+    → latest_after key (xs ++ item ∷ []) before ≡ (if has_key key item then Some (latest_of_item item) else latest_after key xs before)
+latest_push key [] item before = refl
+latest_push key (x ∷ xs) item before = latest_push key xs item (if has_key key x then Some (latest_of_item x) else before)

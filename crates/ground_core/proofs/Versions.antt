@@ -1,0 +1,156 @@
+-- The last item with a key has the greatest version of the key, and what is kept tells the first reason against an update.
+use Rattle.std.proofs.Common.{◌≡◌, ℕ, ◌+◌, ◌<◌, Bool, true, false, not, ◌||◌, ◌&&◌, nat_lt, nat_le, max, fold, cond, if◌then◌else◌, List, [], ◌∷◌, ◌++◌, length, map, filter, Option, Some, None, is_none, unwrap_or, Result, Ok, Err, refl, sym, ap, subst, ◌∙◌, inl, inr, arith, append-nil}
+use Rattle.std.specs.Str.{chars}
+use Rattle.std.proofs.lemmas.Bool.{cases_Bool, leb-false}
+use Rattle.std.proofs.lemmas.List.{map-append}
+use Rattle.std.proofs.lemmas.List.Sums.{fold-append}
+use Rattle.std.proofs.lemmas.List.Elements.{filter-append}
+use Rattle.fisb_time.specs.TimeForm.{shows}
+use Rattle.dlac_text.specs.Refusal.{text_refusal}
+use Rattle.life_table.specs.LifeTable.{LifeTable, TextRow, text_row, greatest_of, longest}
+use Rattle.uplink_frame.specs.declared.station.StationId.{StationId}
+use Rattle.text_reports.specs.TextKey.{TextKey, KeyFault, text_key}
+use Rattle.picture_core.specs.Key.{Key, radar_block, text_report, same_key}
+use Rattle.picture_core.specs.Contents.{report_entries}
+use Rattle.ground_core.specs.Item.{Weather, Item, is_segmented, end_of}
+use Rattle.ground_core.specs.Update.{text, weather_by_row}
+use Rattle.ground_core.specs.History.{Event, accepted, fill, items, items_made, item_of, file_numbers}
+use Rattle.ground_core.specs.Airing.{has_key}
+use Rattle.ground_core.specs.Refusal.{GiveRefusal, coarse, ahead, expired, no_file, give_refusal, age_refusal, version_refusal, file_refusal, given_version, text_fault_refusal, key_refusal, weather_refusal}
+use Rattle.ground_core.specs.Broadcast.{IsHistory}
+use Rattle.ground_core.specs.StandsFor.{latest_of, latest_of_item}
+use Rattle.ground_core.specs.Told.{latest_version, count_refusal, weather_refusal_by, key_refusal_by, refusal_by}
+use Rattle.ground_core.proofs.KeyLemmas.{text_key_is}
+use Rattle.ground_core.proofs.Accepted.{clear, text_weather, weather_is, by_row_is}
+use Rattle.ground_core.proofs.Serials.{latest_push}
+use Rattle.ground_core.proofs.Numbers.{LivesAreLongest, AreCounted, filed, file_is_count, counted}
+
+pub or-none : (b : Bool) → (b || false) ≡ b
+or-none true = refl
+or-none false = refl
+
+-- which keys the item of a text has: its own
+pub has_key_of_text : (table : LifeTable) (station : StationId) (moment version : ℕ) (chars : List ℕ) (before : List Item) (key : TextKey) (row : TextRow) (other : Key)
+    → has_key other (item_of table station moment before (text_weather key row version chars)) ≡ same_key other (text_report key)
+has_key_of_text table station moment version chars before key row other = or-none (same_key other (text_report key))
+
+same_key_is : (other : Key) (key : TextKey) → same_key other (text_report key) ≡ true → other ≡ text_report key
+same_key_is (radar_block other) key h = absurd (cc)
+same_key_is (text_report other) key h = ap text_report (text_key_is other key h)
+
+older : (n k : ℕ) → age_refusal n (Some k) None ≡ None → k < n
+older n k h = elim (cases_Bool (nat_le n k)) [
+  | inl t ↦ absurd (cc (rw t at h))
+  | inr f ↦ leb-false n k f
+]
+
+greatest_of-push : (ns : List ℕ) (n : ℕ) → age_refusal n (greatest_of ns) None ≡ None → greatest_of (ns ++ n ∷ []) ≡ Some n
+greatest_of-push [] n h = refl
+greatest_of-push (m ∷ ms) n h =
+    let lt : fold max m ms < n = older n (fold max m ms) h in
+    let most : max (fold max m ms) n ≡ n = omega arith in
+    ap Some (fold-append max m ms (n ∷ []) ∙ most)
+
+version_in : Item → ℕ
+version_in item = item.weather.version
+
+greatest_push : (key : Key) (all : List Item) (item : Item)
+    → (has_key key item ≡ true → age_refusal item.weather.version (given_version key all) None ≡ None)
+    → given_version key all ≡ latest_version (latest_of all key)
+    → given_version key (all ++ item ∷ []) ≡ latest_version (latest_of (all ++ item ∷ []) key)
+greatest_push key all item newer before =
+    let after : latest_version (latest_of (all ++ item ∷ []) key) ≡ latest_version (if has_key key item then Some (latest_of_item item) else latest_of all key)
+    = ap latest_version (latest_push key all item None) in
+    let parts : given_version key (all ++ item ∷ []) ≡ greatest_of (map (λ i. i.weather.version) (filter (has_key key) all ++ filter (has_key key) (item ∷ [])))
+    = ap (λ is. greatest_of (map (λ (i : Item). i.weather.version) is)) (filter-append (has_key key) all (item ∷ [])) in
+    elim (cases_Bool (has_key key item)) [
+      | inl t ↦ (
+          parts ∙ ap (λ b. greatest_of (map (λ (i : Item). i.weather.version) (filter (has_key key) all ++ cond b (item ∷ []) []))) t
+          ∙ ap greatest_of (map-append (λ (i : Item). i.weather.version) (filter (has_key key) all) (item ∷ []))
+          ∙ greatest_of-push (map (λ (i : Item). i.weather.version) (filter (has_key key) all)) item.weather.version (newer t)
+          ∙ sym (after ∙ ap (λ b. latest_version (if b then Some (latest_of_item item) else latest_of all key)) t))
+      | inr f ↦ (
+          parts ∙ ap (λ b. greatest_of (map (λ (i : Item). i.weather.version) (filter (has_key key) all ++ cond b (item ∷ []) []))) f
+          ∙ ap (λ is. greatest_of (map (λ (i : Item). i.weather.version) is)) (append-nil (filter (has_key key) all)) ∙ before
+          ∙ sym (after ∙ ap (λ b. latest_version (if b then Some (latest_of_item item) else latest_of all key)) f))
+    ]
+
+pub given_version_is : (table : LifeTable) (station : StationId) (history : List Event) (key : Key) → IsHistory table station history
+    → given_version key (items table station history) ≡ latest_version (latest_of (items table station history) key)
+given_version_is table station [] key h = refl
+given_version_is table station (fill moment slot ∷ past) key h =
+    subst (λ is. given_version key is ≡ latest_version (latest_of is key)) (sym (append-nil (items table station past))) (given_version_is table station past key h.1)
+given_version_is table station (accepted moment (text version chars) ∷ past) key h =
+    let all : List Item = items table station past in
+    let c = clear table all moment version chars h.0.is_accepted.1 in
+    let item : Item = item_of table station moment all (text_weather c.key c.row version chars) in
+    let items_are : items table station (accepted moment (text version chars) ∷ past) ≡ all ++ item ∷ []
+    = ap (λ ws. all ++ items_made table station moment all ws) (weather_is table version chars c.key c.row c.key_is c.row_is) in
+    subst (λ is. given_version key is ≡ latest_version (latest_of is key)) (sym items_are)
+    (greatest_push key all item (λ t.
+    let own : key ≡ text_report c.key = same_key_is key c.key (sym (has_key_of_text table station moment version chars all c.key c.row key) ∙ t) in
+    subst (λ k. age_refusal version (given_version k all) None ≡ None) (sym own) c.newer)
+    (given_version_is table station past key h.1))
+
+if_alike : (b : Bool) (x y z : Option GiveRefusal) → (b ≡ false → y ≡ z) → (if b then x else y) ≡ (if b then x else z)
+if_alike true x y z f = refl
+if_alike false x y z f = f refl
+
+age_alike : (version : ℕ) (kept : Option ℕ) (a b : Option GiveRefusal) → a ≡ b → age_refusal version kept a ≡ age_refusal version kept b
+age_alike version kept a b e = ap (age_refusal version kept) e
+
+version_alike : (moment : ℕ) (w : Weather) (kept : Option ℕ) (a b : Option GiveRefusal) → (moment < end_of w → a ≡ b)
+    → version_refusal moment w kept a ≡ version_refusal moment w kept b
+version_alike moment w kept a b f =
+    if_alike (not (shows w.form w.version)) (Some coarse) _ _ (λ _. if_alike (nat_lt (moment + 60) w.version) (Some ahead) _ _ (λ _.
+    if_alike (nat_le (end_of w) moment) (Some expired) _ _ (λ g. age_alike w.version kept a b (f (leb-false (end_of w) moment g)))))
+
+none_there : (count : ℕ) → is_none (if nat_lt count file_numbers then Some count else None) ≡ not (nat_lt count file_numbers)
+none_there count = elim (cases_Bool (nat_lt count file_numbers)) [
+  | inl t ↦ rw t refl
+  | inr f ↦ rw f refl
+]
+
+file_alike : (table : LifeTable) (before : List Item) (moment : ℕ) (w : Weather) → moment < w.version + unwrap_or (longest table w.product) 0 → AreCounted before
+    → count_refusal w (length (filed w.version w.product before)) ≡ file_refusal table before moment w
+file_alike table before moment w lt h =
+    ap (λ b. if is_segmented w && b then Some no_file else None)
+    (sym (none_there (length (filed w.version w.product before))) ∙ ap is_none (sym (file_is_count table moment before w lt h)))
+
+row_alike : (table : LifeTable) (before : List Item) (moment : ℕ) (key : TextKey) (w : Weather) → AreCounted before
+    → (moment < end_of w → moment < w.version + unwrap_or (longest table w.product) 0)
+    → given_version (text_report key) before ≡ latest_version (latest_of before (text_report key))
+    → weather_refusal_by (latest_of before) (λ v p. length (filed v p before)) moment key (w ∷ []) ≡ weather_refusal table before moment key (w ∷ [])
+row_alike table before moment key w h f e =
+    version_alike moment w (latest_version (latest_of before (text_report key))) (count_refusal w (length (filed w.version w.product before))) (file_refusal table before moment w) (λ lt. file_alike table before moment w (f lt) h)
+    ∙ ap (λ k. version_refusal moment w k (file_refusal table before moment w)) (sym e)
+
+listed_alike : (table : LifeTable) (before : List Item) (moment version : ℕ) (chars : List ℕ) (key : TextKey) (row : Option TextRow) → LivesAreLongest → AreCounted before
+    → text_key table chars ≡ Ok key → text_row table key.kind ≡ row
+    → given_version (text_report key) before ≡ latest_version (latest_of before (text_report key))
+    → weather_refusal_by (latest_of before) (λ v p. length (filed v p before)) moment key (weather_by_row version chars (report_entries table version chars) (text_row table key.kind))
+    ≡ weather_refusal table before moment key (weather_by_row version chars (report_entries table version chars) (text_row table key.kind))
+listed_alike table before moment version chars key None law h ek er e = rw er refl
+listed_alike table before moment version chars key (Some row) law h ek er e =
+    let l = law table key.kind row er in
+    let long : unwrap_or (longest table 413) 0 ≡ l.0 = ap (λ o. unwrap_or o 0) l.1 in
+    let ws = by_row_is table version chars key row ek er in
+    ap (weather_refusal_by (latest_of before) (λ v p. length (filed v p before)) moment key) ws
+    ∙ row_alike table before moment key (text_weather key row version chars) h (λ lt. omega (arith, l.2, long)) e
+    ∙ ap (weather_refusal table before moment key) (sym ws)
+
+key_alike : (table : LifeTable) (before : List Item) (moment version : ℕ) (chars : List ℕ) (key : Result TextKey KeyFault) → LivesAreLongest → AreCounted before
+    → text_key table chars ≡ key
+    → ((k : Key) → given_version k before ≡ latest_version (latest_of before k))
+    → key_refusal_by table (latest_of before) (λ v p. length (filed v p before)) moment version chars key ≡ key_refusal table before moment version chars key
+key_alike table before moment version chars (Err fault) law h ek e = refl
+key_alike table before moment version chars (Ok key) law h ek e = listed_alike table before moment version chars key (text_row table key.kind) law h ek refl (e (text_report key))
+
+-- what is kept tells the first reason against a text
+pub refusal_alike : (table : LifeTable) (station : StationId) (history : List Event) (moment version : ℕ) (text_chars : List ℕ) → LivesAreLongest → IsHistory table station history
+    → refusal_by table (latest_of (items table station history)) (λ v p. length (filed v p (items table station history))) moment (text version text_chars)
+    ≡ give_refusal table (items table station history) moment (text version text_chars)
+unfolding give_refusal
+refusal_alike table station history moment version text_chars law h =
+    ap (text_fault_refusal (text_refusal (chars text_chars)))
+    (key_alike table (items table station history) moment version text_chars (text_key table text_chars) law (counted table station history law h) refl (λ k. given_version_is table station history k h))

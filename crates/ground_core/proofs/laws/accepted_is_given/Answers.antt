@@ -1,0 +1,12 @@
+use Rattle.ground_core.proofs.Given.{accepted-given}
+use Rattle.ground_core.proofs.laws.accepted_is_given.Goals as goal
+
+pub returns : goal.returns
+returns c = accepted-given (record {
+  sendable = c.refused_texts.ensures;
+  size = c.payload_size.ensures.size;
+  bytes = c.payload_size.ensures.bytes;
+  reads = c.reading_undoes_writing.ensures.text;
+  longest_life = c.longest_is_greatest.ensures.texts;
+  same = c.order_of_keys.ensures.same;
+})

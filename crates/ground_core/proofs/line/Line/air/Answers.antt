@@ -1,0 +1,45 @@
+use Rattle.std.proofs.Common.{◌+◌, ◌<◌, ◌≤◌, length, sym, subst, rules}
+use Rattle.ground_core.specs.Piece.{live_by}
+use Rattle.ground_core.specs.Views.{latest_at, pieces_in}
+use Rattle.ground_core.proofs.Turns.{IsTurned, IsDone, turned_drop, turned_air, turned_stops, turned_ends, turns_left, turns_ahead}
+use Rattle.ground_core.proofs.line.Line.air.Goals as goal
+use Rattle.ground_core.proofs.line.Line.air.Goals.{in-Dropped, in-Aired}
+
+done_at : (c : goal.In-Stopped) → IsDone (live_by (latest_at c.args.newest.now) c.args.moment) (pieces_in c.args.self.now) c.turn.new.frames (pieces_in c.turn.new.self) c.loop-turn.aired
+done_at c = turned_stops _ _ c.loop-turn._turn c.loop-turn.frames c.turn.new.frames (pieces_in c.loop-turn.self) (pieces_in c.turn.new.self) c.loop-turn.aired c.loop-turn.invariant c.in-Stopped.ensures
+
+pub returns-in-Stopped-clause-number : goal.returns-in-Stopped-clause-number
+returns-in-Stopped-clause-number c = (done_at c).number
+
+pub returns-in-Stopped-clause-frames : goal.returns-in-Stopped-clause-frames
+returns-in-Stopped-clause-frames c = (done_at c).frames_are
+
+pub returns-in-Stopped-clause-line : goal.returns-in-Stopped-clause-line
+returns-in-Stopped-clause-line c = (done_at c).line
+
+pub returns-in-Stopped-clause-among : goal.returns-in-Stopped-clause-among
+returns-in-Stopped-clause-among c = (done_at c).among
+
+pub loop-turn-preserved : goal.loop-turn-preserved
+loop-turn-preserved c =
+    let some : c.loop-turn._turn < length (pieces_in c.args.self.now) = turns_ahead c.args.self.now.places.items c.loop-turn._turn (search rules) in
+    let live = live_by (latest_at c.args.newest.now) c.args.moment in
+    let start = pieces_in c.args.self.now in
+    elim c.match-turn.branch [
+      | in-Dropped w ↦ subst (IsTurned live start (c.loop-turn._turn + 1) c.turn.new.frames (pieces_in c.turn.new.self)) (sym w.aired-is)
+          (turned_drop live start c.loop-turn._turn c.loop-turn.frames c.turn.new.frames (pieces_in c.loop-turn.self) (pieces_in c.turn.new.self) c.loop-turn.aired
+          c.loop-turn.invariant some w.in-Dropped.ensures)
+      | in-Aired w ↦ subst (IsTurned live start (c.loop-turn._turn + 1) c.turn.new.frames (pieces_in c.turn.new.self)) (sym w.aired-is)
+          (turned_air live start c.loop-turn._turn c.loop-turn.frames c.turn.new.frames (pieces_in c.loop-turn.self) (pieces_in c.turn.new.self) c.loop-turn.aired
+          c.loop-turn.invariant some w.in-Aired.ensures)
+    ]
+
+pub returns-clause-line : goal.returns-clause-line
+returns-clause-line c =
+    let all : length (pieces_in c.args.self.now) ≤ c.loop-turn._turn = turns_left c.args.self.now.places.items c.loop-turn._turn (search rules) in
+    (turned_ends _ _ c.loop-turn._turn c.loop-turn.frames (pieces_in c.loop-turn.self) c.loop-turn.aired c.loop-turn.invariant all).line
+
+pub returns-clause-among : goal.returns-clause-among
+returns-clause-among c =
+    let all : length (pieces_in c.args.self.now) ≤ c.loop-turn._turn = turns_left c.args.self.now.places.items c.loop-turn._turn (search rules) in
+    (turned_ends _ _ c.loop-turn._turn c.loop-turn.frames (pieces_in c.loop-turn.self) c.loop-turn.aired c.loop-turn.invariant all).among

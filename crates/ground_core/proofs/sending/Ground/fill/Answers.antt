@@ -1,0 +1,40 @@
+use Rattle.std.proofs.Common.{◌≡◌, None, refl, ap, ◌∙◌, map, length, rules}
+use Rattle.uplink_frame.specs.UplinkFrame.{fisb_frame, payload_of, spelled_frames}
+use Rattle.uplink_frame.specs.Station.{header_of}
+use Rattle.uplink_weave.specs.Functions.{woven}
+use Rattle.ground_core.specs.Item.{body_of}
+use Rattle.ground_core.specs.Told.{early}
+use Rattle.ground_core.specs.StandsFor.{clock_of}
+use Rattle.ground_core.specs.Views.{pieces_in}
+use Rattle.ground_core.proofs.State.{fill_stands}
+use Rattle.ground_core.proofs.OnAir.{sent_of, aired_pieces, frames_are, used_is, bodies_are}
+use Rattle.ground_core.proofs.sending.Ground.fill.Goals as goal
+
+pub returns-clause-filled : goal.returns-clause-filled
+returns-clause-filled c table station history s =
+    let in_time : early (clock_of history) c.args.moment ≡ None = search rules in
+    fill_stands table station history c.args.moment c.args.slot c.args.self.now _ s in_time c.requires c.later_clock.ensures.in_range (record {
+      table = refl;
+      station = refl;
+      clock = refl;
+      given = refl;
+      newest = refl;
+      files = refl;
+      line = c.air-bodies.ensures.line;
+      among = c.air-bodies.ensures.among;
+    })
+
+pub returns-clause-frame : goal.returns-clause-frame
+returns-clause-frame c table station history s =
+    let in_time : early (clock_of history) c.args.moment ≡ None = search rules in
+    let sent = sent_of table station history c.args.moment in
+    let pieces = aired_pieces table station history c.args.moment c.args.slot c.args.self.now (pieces_in c.air-bodies.new.self) s in_time c.air-bodies.ensures.line in
+    let frames = c.air-bodies.ensures.frames ∙ frames_are _ sent pieces in
+    record {
+      moment = refl;
+      slot = refl;
+      bodies = c.air-bodies.ensures.number ∙ bodies_are _ sent pieces;
+      used = c.used.ensures.used ∙ ap (λ f. length (spelled_frames f)) frames ∙ used_is c.apdu_reads_back.ensures.size sent;
+      air = c.air_of.ensures ∙ ap (λ f. woven (payload_of (header_of c.args.self.now.station c.args.slot) f)) frames
+          ∙ ap (λ p. woven (payload_of (header_of p c.args.slot) (map (λ x. fisb_frame (body_of x)) sent))) s.station_is;
+    }

@@ -1,0 +1,17 @@
+pub mod Item
+pub mod Update
+pub mod History
+pub mod Airing
+pub mod Refusal
+pub mod Broadcast
+pub mod Sound
+pub mod Sent
+pub mod Piece
+pub mod Views
+pub mod Newest
+pub mod Turn
+pub mod Putting
+pub mod OnAir
+pub mod StandsFor
+pub mod Told
+pub mod Starving

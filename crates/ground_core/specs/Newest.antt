@@ -1,0 +1,15 @@
+-- Where room was made, so that what is put there takes no memory.
+use Rattle.std.specs.Prelude.{ℕ, IsSome}
+use Rattle.std.specs.BTreeMap.{get}
+use Rattle.std.specs.Ordering.{nat_cmp, ordering_then}
+use Rattle.text_reports.specs.declared.key.TextKey.{TextKey}
+use Rattle.text_reports.specs.contracts.key.TextKeyOrd.TheImpl as order
+use Rattle.ground_core.specs.declared.newest.Newest.{Newest}
+use Rattle.ground_core.specs.declared.files.Files.{Files}
+
+abbrev pub HasRoom : Newest → TextKey → Type 0
+HasRoom newest key = IsSome (get order.ghosts.cmp newest.versions key)
+
+abbrev pub HasCount : Files → ℕ → ℕ → Type 0
+HasCount files version product =
+    IsSome (get (λ x y. ordering_then (nat_cmp x.0 y.0) (nat_cmp x.1 y.1)) files.counts (version, product))

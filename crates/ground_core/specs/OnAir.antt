@@ -1,0 +1,19 @@
+-- The moment of the last event of a history, and a frame as it goes on the air.
+use Rattle.std.specs.Prelude.{◌≡◌, ℕ, List, [], ◌∷◌, length, Option, Some, None}
+use Rattle.uplink_weave.specs.Functions.{woven}
+use Rattle.ground_core.specs.History.{Event, moment_of}
+use Rattle.ground_core.specs.Airing.{Frame, used_room, frame_payload}
+use Rattle.ground_core.specs.declared.air_frame.AirFrame.{AirFrame}
+
+-- the moment of the last event
+abbrev pub clock_of : List Event → Option ℕ
+clock_of [] = None
+clock_of (event ∷ past) = Some (moment_of event)
+
+-- the frame is this one, woven
+pub record IsOnAir (sent : Frame) (frame : AirFrame) : Type 0 where
+  pub moment : frame.moment ≡ sent.moment
+  pub slot : frame.slot ≡ sent.slot
+  pub bodies : frame.bodies ≡ length sent.segments
+  pub used : frame.used ≡ used_room sent
+  pub air : frame.air ≡ woven (frame_payload sent)

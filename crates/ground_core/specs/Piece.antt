@@ -1,0 +1,61 @@
+-- What of a segment counts for sending it: which item it is of, for which keys, until when, and what is sent.
+use Rattle.std.specs.Prelude.{ℕ, ◌+◌, ◌-◌, Bool, false, ◌&&◌, ◌==◌, nat_lt, nat_le, if◌then◌else◌, List, [], ◌∷◌, map, length, Option, Some, None}
+use Rattle.std.specs.List.{list_any}
+use Rattle.apdu_core.specs.Apdu.{apdu_bytes, header_length}
+use Rattle.segment_core.specs.File.{File, part_of, apdu_of_segment}
+use Rattle.segment_core.specs.File as files
+use Rattle.picture_core.specs.Key.{Key}
+use Rattle.ground_core.specs.Item.{Item, Segment, file_of, end_of}
+
+pub record Piece : Type 0 where
+  pub serial : ℕ
+  pub keys : List Key
+  pub until : ℕ
+  pub file : File
+  pub number : ℕ
+
+abbrev pub keys_of : Item → List Key
+keys_of item = map (λ entry. entry.key) item.weather.entries
+
+abbrev pub piece_of : Segment → Piece
+piece_of s = record {
+  serial = s.item.serial;
+  keys = keys_of s.item;
+  until = end_of s.item.weather;
+  file = file_of s.item;
+  number = s.number;
+}
+
+-- the body in which it is sent, and how many bytes of a frame it takes
+abbrev pub body_of_piece : Piece → List ℕ
+body_of_piece p = apdu_bytes (apdu_of_segment p.file p.number)
+
+abbrev pub room_of_piece : Piece → ℕ
+room_of_piece p = header_length p.file.form (files.is_segmented p.file.form p.file.payload)
+    + length (part_of p.file p.number) + 2
+
+-- the longest prefix that fits the room, and what stands behind it
+abbrev pub fitting_pieces : ℕ → List Piece → List Piece
+fitting_pieces room [] = []
+fitting_pieces room (p ∷ more) = if nat_le (room_of_piece p) room
+    then p ∷ fitting_pieces (room - room_of_piece p) more
+    else []
+
+abbrev pub left_pieces : ℕ → List Piece → List Piece
+left_pieces room [] = []
+left_pieces room (p ∷ more) = if nat_le (room_of_piece p) room
+    then left_pieces (room - room_of_piece p) more
+    else p ∷ more
+
+-- the version and the serial of the last item that was given with a key
+pub record Latest : Type 0 where
+  pub version : ℕ
+  pub serial : ℕ
+
+abbrev pub has_serial : ℕ → Option Latest → Bool
+has_serial serial None = false
+has_serial serial (Some latest) = latest.serial == serial
+
+-- a piece is live before the end of its life, while its item is the last one of one of its keys
+abbrev pub live_by : (Key → Option Latest) → ℕ → Piece → Bool
+live_by latest moment p = nat_lt moment p.until && list_any (λ key. has_serial p.serial (latest key)) p.keys

@@ -1,0 +1,78 @@
+-- By which fault a refusal is told, and the refusal by what is kept.
+use Rattle.std.specs.Prelude.{◌≡◌, ⊤, ℕ, not, ◌&&◌, nat_lt, if◌then◌else◌, List, [], ◌∷◌, Option, Some, None, option_map, Result, Ok, Err}
+use Rattle.std.specs.Str.{chars}
+use Rattle.dlac_text.specs.declared.text_fault.TextFault.{TextFault}
+use Rattle.dlac_text.specs.declared.text_fault.TextFault.TheVariants.{BadCharacter, TooLong, NoMemory as NoMemoryForText}
+use Rattle.dlac_text.specs.Refusal.{bad_character, too_long, text_refusal}
+use Rattle.life_table.specs.LifeTable.{LifeTable, text_row}
+use Rattle.text_reports.specs.TextKey.{TextKey, KeyFault, few_words, unlisted, text_key}
+use Rattle.picture_core.specs.Key.{Key, text_report}
+use Rattle.picture_core.specs.Contents.{report_entries}
+use Rattle.ground_core.specs.Item.{Weather, is_segmented}
+use Rattle.ground_core.specs.Update.{Update, text, weather_by_row}
+use Rattle.ground_core.specs.History.{file_numbers}
+use Rattle.ground_core.specs.Refusal.{GiveRefusal, bad_text, no_key, coarse, ahead, expired, not_newer, no_file, version_refusal, text_fault_refusal}
+use Rattle.ground_core.specs.Piece.{Latest}
+use Rattle.ground_core.specs.declared.fault.FillFault.{FillFault}
+use Rattle.ground_core.specs.declared.fault.FillFault.TheVariants.{Clock as FillClock}
+use Rattle.ground_core.specs.declared.fault.GiveFault.{GiveFault}
+use Rattle.ground_core.specs.declared.fault.GiveFault.TheVariants.{Clock, BadText, FewWords, Unlisted, Coarse, Ahead, Expired, NotNewer, NoFile, NoMemory}
+
+-- the last moment, where this one is below it
+abbrev pub early : Option ℕ → ℕ → Option ℕ
+early None moment = None
+early (Some last) moment = if nat_lt moment last then Some last else None
+
+-- want of memory is never told as a fault of the text
+abbrev pub IsToldOfText : Option GiveRefusal → TextFault → Type 0
+IsToldOfText refusal (BadCharacter place) = refusal ≡ Some (bad_text (bad_character place))
+IsToldOfText refusal TooLong = refusal ≡ Some (bad_text too_long)
+IsToldOfText refusal NoMemoryForText = ⊥
+
+-- the fault is the one of this refusal; want of memory may come at any
+abbrev pub IsTold : Option GiveRefusal → GiveFault → Type 0
+IsTold refusal (Clock kept) = ⊥
+IsTold refusal (BadText fault) = IsToldOfText refusal fault
+IsTold refusal FewWords = refusal ≡ Some (no_key few_words)
+IsTold refusal Unlisted = refusal ≡ Some (no_key unlisted)
+IsTold refusal Coarse = refusal ≡ Some coarse
+IsTold refusal Ahead = refusal ≡ Some ahead
+IsTold refusal Expired = refusal ≡ Some expired
+IsTold refusal (NotNewer kept) = refusal ≡ Some (not_newer kept)
+IsTold refusal NoFile = refusal ≡ Some no_file
+IsTold refusal NoMemory = ⊤
+
+-- at a moment that is too early that alone is told
+abbrev pub IsToldAt : Option ℕ → Option GiveRefusal → GiveFault → Type 0
+IsToldAt None refusal fault = IsTold refusal fault
+IsToldAt (Some last) refusal fault = fault ≡ Clock last
+
+-- a test that found nothing, or this fault
+abbrev pub Tells : Option GiveFault → Option GiveRefusal → Type 0
+Tells None refusal = refusal ≡ None
+Tells (Some fault) refusal = IsTold refusal fault
+
+-- the last moment that a fill was refused for
+abbrev pub kept_told : FillFault → ℕ
+kept_told (FillClock kept) = kept
+
+-- the refusal by the last version of each key and by how many items in segments a version and a product had
+abbrev pub latest_version : Option Latest → Option ℕ
+latest_version latest = option_map (λ l. l.version) latest
+
+abbrev pub count_refusal : Weather → ℕ → Option GiveRefusal
+count_refusal w count = if is_segmented w && not (nat_lt count file_numbers) then Some no_file else None
+
+abbrev pub weather_refusal_by : (Key → Option Latest) → (ℕ → ℕ → ℕ) → ℕ → TextKey → List Weather → Option GiveRefusal
+weather_refusal_by latest count moment key [] = Some (no_key unlisted)
+weather_refusal_by latest count moment key (w ∷ more) = version_refusal moment w (latest_version (latest (text_report key)))
+    (count_refusal w (count w.version w.product))
+
+abbrev pub key_refusal_by : LifeTable → (Key → Option Latest) → (ℕ → ℕ → ℕ) → ℕ → ℕ → List ℕ → Result TextKey KeyFault → Option GiveRefusal
+key_refusal_by table latest count moment version chars (Err fault) = Some (no_key fault)
+key_refusal_by table latest count moment version chars (Ok key) = weather_refusal_by latest count moment key
+    (weather_by_row version chars (report_entries table version chars) (text_row table key.kind))
+
+abbrev pub refusal_by : LifeTable → (Key → Option Latest) → (ℕ → ℕ → ℕ) → ℕ → Update → Option GiveRefusal
+refusal_by table latest count moment (text version text_chars) = text_fault_refusal (text_refusal (chars text_chars))
+    (key_refusal_by table latest count moment version text_chars (text_key table text_chars))

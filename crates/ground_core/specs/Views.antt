@@ -1,0 +1,63 @@
+-- What the values of the code stand for.
+use Rattle.std.specs.Prelude.{ℕ, List, [], ◌∷◌, map, Option, Some, None, unwrap_or}
+use Rattle.std.specs.BTreeMap.{get}
+use Rattle.std.specs.Ordering.{nat_cmp, ordering_then}
+use Rattle.text_reports.specs.Views.{key_view}
+use Rattle.text_reports.specs.TextKey.{TextKey}
+use Rattle.text_reports.specs.declared.key.TextKey.{TextKey as GivenKey}
+use Rattle.text_reports.specs.contracts.key.TextKeyOrd.TheImpl as order
+use Rattle.segment_core.specs.File.{File}
+use Rattle.picture_core.specs.Key.{Key, radar_block, text_report}
+use Rattle.ground_core.specs.Piece.{Piece, Latest}
+use Rattle.ground_core.specs.declared.item.SentItem.{SentItem}
+use Rattle.ground_core.specs.declared.place.Place.{Place}
+use Rattle.ground_core.specs.declared.line.Line.{Line}
+use Rattle.ground_core.specs.declared.newest.Given.{Given}
+use Rattle.ground_core.specs.declared.newest.Newest.{Newest}
+use Rattle.ground_core.specs.declared.files.Files.{Files}
+
+abbrev pub file_at : SentItem → File
+file_at item = record {
+  product = item.product;
+  form = item.form;
+  version = item.version;
+  number = item.file;
+  payload = item.payload;
+}
+
+-- a piece of an item that is sent
+abbrev pub piece_at : SentItem → ℕ → Piece
+piece_at item number = record {
+  serial = item.serial;
+  keys = text_report (key_view item.key) ∷ [];
+  until = item.until;
+  file = file_at item;
+  number = number;
+}
+
+abbrev pub place_view : Place → Piece
+place_view place = piece_at place.item.value place.number
+
+abbrev pub pieces_in : Line → List Piece
+pieces_in line = map place_view line.places.items
+
+abbrev pub given_view : Given → Latest
+given_view g = record { version = g.version; serial = g.serial }
+
+abbrev pub given_key : TextKey → GivenKey
+given_key key = record { kind = key.kind; place = key.place; third = key.third }
+
+abbrev pub latest_in : Option (Option Given) → Option Latest
+latest_in None = None
+latest_in (Some None) = None
+latest_in (Some (Some g)) = Some (given_view g)
+
+-- what is kept of a key; room that was made for it counts for nothing
+abbrev pub latest_at : Newest → Key → Option Latest
+latest_at newest (radar_block key) = None
+latest_at newest (text_report key) = latest_in (get order.ghosts.cmp newest.versions (given_key key))
+
+-- how many items in segments are counted of a version and a product
+abbrev pub count_at : Files → ℕ → ℕ → ℕ
+count_at files version product =
+    unwrap_or (get (λ x y. ordering_then (nat_cmp x.0 y.0) (nat_cmp x.1 y.1)) files.counts (version, product)) 0

@@ -1,0 +1,105 @@
+//! Whether a text may be given: each reason against it.
+ghost use Rattle.std.specs.Prelude.{◌≡◌, ℕ, ◌+◌, ◌≤◌, ◌<◌, ◌^◌, Option, None, Some, Ok, List, length, IfOk, IfErr, IfSome, IfNone, OnOk, IsTrue, if◌then◌else◌};
+ghost use Rattle.std.specs.Str.{chars};
+ghost use Rattle.fisb_time.specs.TimeForm.{shows};
+ghost use Rattle.dlac_text.specs.Payload.{text_payload};
+ghost use Rattle.dlac_text.specs.Refusal.{IsSendable, text_refusal};
+ghost use Rattle.text_reports.specs.TextKey.{text_key};
+ghost use Rattle.text_reports.specs.Views.{key_view};
+ghost use Rattle.picture_core.specs.Key.{Key};
+ghost use Rattle.ground_core.specs.Item.{Weather};
+ghost use Rattle.ground_core.specs.Item as items;
+ghost use Rattle.ground_core.specs.Refusal.{GiveRefusal, text_fault_refusal, version_refusal};
+ghost use Rattle.ground_core.specs.Piece.{Latest};
+ghost use Rattle.ground_core.specs.Told.{IsTold, Tells, key_refusal_by, count_refusal};
+
+use crate::fault::GiveFault;
+use dlac_text::{TextFault, encode_text};
+use fisb_time::{Moment, TimeForm, shows};
+use fisb_wire::Bytes;
+use life_table::LifeTable;
+use std::alloc::Global;
+use text_reports::{KeyFault, TextKey, key_of};
+
+/// How many file numbers there are.
+const FILE_NUMBERS: u64 = 1024;
+
+/// The payload of a text, or why it cannot be sent.
+pub(crate) fn encoded(alloc: Global, text: &str) -> Result<Bytes, GiveFault>
+    requires { length text.now < 2 ^ 32 }
+    ensures payload { IfOk result (λ bytes. bytes ≡ text_payload text.now) }
+    ensures sendable { IfOk result (λ _. IsSendable text.now) }
+    ensures none { IfOk result (λ _. text_refusal (chars text.now) ≡ None) }
+    ensures fault { IfErr result (λ fault. (later : Option GiveRefusal)
+        → IsTold (text_fault_refusal (text_refusal (chars text.now)) later) fault) }
+{
+    match encode_text(alloc, text) {
+        Ok(payload) => Ok(payload),
+        Err(TextFault::NoMemory) => Err(GiveFault::NoMemory),
+        Err(fault) => Err(GiveFault::BadText(fault)),
+    }
+}
+
+/// The key of a text, or why it has none.
+pub(crate) fn keyed(alloc: Global, table: &LifeTable, text: &str) -> Result<TextKey, GiveFault>
+    ensures key { IfOk result (λ key. text_key table.now text.now ≡ Ok (key_view key)) }
+    ensures fault { IfErr result (λ fault. (latest : Key → Option Latest) (count : ℕ → ℕ → ℕ) (moment version : ℕ)
+        → IsTold (key_refusal_by table.now latest count moment version text.now (text_key table.now text.now)) fault) }
+{
+    match key_of(alloc, table, text) {
+        Ok(key) => Ok(key),
+        Err(KeyFault::FewWords) => Err(GiveFault::FewWords),
+        Err(KeyFault::Unlisted) => Err(GiveFault::Unlisted),
+        Err(KeyFault::NoMemory) => Err(GiveFault::NoMemory),
+    }
+}
+
+/// What stands against a version of a text: the form does not show it, it is too far ahead, its life is over, or it is not
+/// above the version that is kept of its key.
+pub(crate) fn version_fault(
+    moment: Moment,
+    version: Moment,
+    form: TimeForm,
+    life: u64,
+    kept: Option<Moment>,
+) -> Option<GiveFault>
+    requires { life ≤ 2592000 }
+    ensures tells { (w : Weather) (later : Option GiveRefusal) → w.form ≡ form → w.version ≡ version → w.life ≡ life
+        → IfSome result (λ fault. IsTold (version_refusal moment w kept later) fault) }
+    ensures passes { (w : Weather) (later : Option GiveRefusal) → w.form ≡ form → w.version ≡ version → w.life ≡ life
+        → IfNone result (version_refusal moment w kept later ≡ later) }
+    ensures shown { IfNone result (IsTrue (shows form version)) }
+{
+    if !shows(form, version) {
+        return Some(GiveFault::Coarse);
+    }
+    if moment.seconds() + 60 < version.seconds() {
+        return Some(GiveFault::Ahead);
+    }
+    if version.seconds() + life <= moment.seconds() {
+        return Some(GiveFault::Expired);
+    }
+    if let Some(kept) = kept {
+        if version.seconds() <= kept.seconds() {
+            return Some(GiveFault::NotNewer { kept });
+        }
+    }
+    None
+}
+
+/// The file number of a payload, by how many items in segments there were; 0 where it is sent whole.
+pub(crate) fn file_number(is_segmented: bool, count: u64) -> Result<u16, GiveFault>
+    ensures number { IfOk result (λ number. number ≡ (if is_segmented then count else 0)) }
+    ensures few { IfOk result (λ number. number < 1024) }
+    ensures none { (w : Weather) → is_segmented ≡ items.is_segmented w → OnOk result (count_refusal w count ≡ None) }
+    ensures fault { (w : Weather) → is_segmented ≡ items.is_segmented w → IfErr result (IsTold (count_refusal w count)) }
+{
+    if !is_segmented {
+        return Ok(0);
+    }
+    if count < FILE_NUMBERS {
+        Ok(count as u16)
+    } else {
+        Err(GiveFault::NoFile)
+    }
+}

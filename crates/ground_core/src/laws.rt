@@ -1,0 +1,52 @@
+//! Laws of histories and of broadcasts, for the crates above: each is the contract of a function that does nothing but call
+//! the laws of lower crates.
+ghost use Rattle.ground_core.specs.Sound.{AcceptedIsGiven, HistoriesHaveItems};
+ghost use Rattle.ground_core.specs.Sent.{ItemsAreOfStations, FramesReadBack};
+
+use apdu_core::apdu_reads_back;
+use dlac_text::{payload_size, reading_undoes_writing, refused_texts};
+use life_table::longest_is_greatest;
+use picture_core::laws::order_of_keys;
+use uplink_frame::{bodies_read_back, stations_are_told};
+
+/// The law that what an accepted update says is sound weather, given in time.
+#[inline]
+pub fn accepted_is_given()
+    ensures { AcceptedIsGiven }
+{
+    refused_texts();
+    payload_size();
+    reading_undoes_writing();
+    longest_is_greatest();
+    order_of_keys();
+}
+
+/// The law of the items of a history: file numbers are unique, and so are serials, and key and version.
+#[inline]
+pub fn histories_have_items()
+    ensures { HistoriesHaveItems }
+{
+    accepted_is_given();
+    order_of_keys();
+}
+
+/// The law that the items of a broadcast are those of its stations.
+#[inline]
+pub fn items_are_of_stations()
+    ensures { ItemsAreOfStations }
+{
+    stations_are_told();
+}
+
+/// The law that each frame of a broadcast airs segments of live items, as many as fit, and that its payload reads back as its
+/// station, its slot and their bodies.
+#[inline]
+pub fn frames_read_back()
+    ensures { FramesReadBack }
+{
+    stations_are_told();
+    bodies_read_back();
+    apdu_reads_back();
+    accepted_is_given();
+    histories_have_items();
+}

@@ -1,0 +1,26 @@
+//! The ground of weather: it takes updates, and fills frames with what is to be sent.
+#![tactic(auto)]
+
+mod air_frame;
+mod fault;
+mod files;
+mod item;
+mod judging;
+mod laws;
+mod line;
+mod newest;
+mod place;
+mod queue_laws;
+mod sending;
+
+pub use air_frame::AirFrame;
+pub use fault::{FillFault, GiveFault};
+pub use laws::{accepted_is_given, frames_read_back, histories_have_items, items_are_of_stations};
+pub use queue_laws::no_starvation;
+pub use sending::Ground;
+
+/// The station of a ground.
+pub type Station = uplink_frame::StationId;
+
+#[cfg(test)]
+mod tests;

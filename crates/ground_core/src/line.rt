@@ -1,0 +1,143 @@
+//! The queue of segments that wait.
+ghost use Rattle.std.specs.Prelude.{◌≡◌, ℕ, ◌+◌, ◌-◌, ◌*◌, ◌≤◌, ◌∷◌, [], ◌++◌, List, length, map, filter, drop, take, IfOk, OnOk, OnErr};
+ghost use Rattle.std.specs.List.{range_with_len};
+ghost use Rattle.list_members.specs.Membership.{IsIn};
+ghost use Rattle.uplink_frame.specs.UplinkFrame.{fisb_frame};
+ghost use Rattle.ground_core.specs.Views.{latest_at, piece_at};
+ghost use Rattle.ground_core.specs.Piece.{live_by};
+
+use crate::item::SentItem;
+use crate::newest::Newest;
+use crate::place::Place;
+use fisb_time::Moment;
+use std::alloc::{AllocError, Global};
+use std::collections::VecDeque;
+use std::rc::Rc;
+use uplink_frame::AppData;
+
+/// What a look at the front of the queue did.
+#[derive(Clone, Copy)]
+pub(crate) enum Turn {
+    /// The front was dead and is gone.
+    Dropped,
+    /// It was aired, and stands last now.
+    Aired,
+    /// It does not fit the frame, or there is none.
+    Stopped,
+}
+
+/// The segments that wait, in the order in which they are sent. What has ended or was superseded lies among them until it
+/// comes to the front.
+#[derive(Drop)]
+pub(crate) struct Line {
+    places: VecDeque<Place>,
+}
+
+impl Line {
+    ghost use Rattle.ground_core.specs.Views.{pieces_in};
+    ghost use Rattle.ground_core.specs.Piece.{Piece, fitting_pieces, left_pieces, body_of_piece};
+    ghost use Rattle.ground_core.specs.Turn.{IsTurn};
+
+    /// Nothing waits.
+    pub(crate) fn new(alloc: Global) -> Line
+        ensures { pieces_in result ≡ [] }
+    {
+        Line {
+            places: VecDeque::new(alloc),
+        }
+    }
+
+    /// Puts the segments of an item behind all others.
+    pub(crate) fn put(&mut self, item: &Rc<SentItem>) -> Result<(), AllocError>
+        ensures ok { OnOk result (pieces_in self.new
+            ≡ pieces_in self.old ++ map (piece_at item.now.value) (range_with_len 1 item.now.value.count)) }
+        ensures err { OnErr result (pieces_in self.new ≡ pieces_in self.old) }
+    {
+        let before = self.places.len();
+        if self.push_all(item).is_err() {
+            self.places.truncate(before);
+            return Err(AllocError);
+        }
+        Ok(())
+    }
+
+    /// Pushes the segments of an item, or some of them.
+    fn push_all(&mut self, item: &Rc<SentItem>) -> Result<(), AllocError>
+        ensures ok { OnOk result (pieces_in self.new
+            ≡ pieces_in self.old ++ map (piece_at item.now.value) (range_with_len 1 item.now.value.count)) }
+        ensures others { take (length self.old.places.items) self.new.places.items ≡ self.old.places.items }
+    {
+        let count = item.count;
+        for number in 0..count {
+            let place = Place {
+                item: item.clone()?,
+                number: number + 1,
+            };
+            let Ok(()) = self.places.push_back(place) else {
+                return Err(AllocError);
+            };
+        }
+        Ok(())
+    }
+
+    /// Airs the longest front of what is live that fits the frame, which stands last then, and answers how many it aired.
+    pub(crate) fn air(&mut self, newest: &Newest, moment: Moment, frames: &mut AppData) -> usize
+        requires { frames.old ≡ [] }
+        ensures number { result ≡ length (fitting_pieces 424 (filter (live_by (latest_at newest.now) moment) (pieces_in self.old))) }
+        ensures frames { frames.new ≡ map (λ p. fisb_frame (body_of_piece p))
+            (fitting_pieces 424 (filter (live_by (latest_at newest.now) moment) (pieces_in self.old))) }
+        ensures few { 2 * result ≤ 424 }
+        ensures line { filter (live_by (latest_at newest.now) moment) (pieces_in self.new)
+            ≡ left_pieces 424 (filter (live_by (latest_at newest.now) moment) (pieces_in self.old))
+            ++ fitting_pieces 424 (filter (live_by (latest_at newest.now) moment) (pieces_in self.old)) }
+        ensures among { (p : Piece) → IsIn p (pieces_in self.new) → IsIn p (pieces_in self.old) }
+    {
+        let mut room = [0; 422];
+        let mut aired = 0;
+        for _turn in 0..self.places.len() {
+            match self.turn(newest, moment, &mut room, frames) {
+                Turn::Dropped => {}
+                Turn::Aired => aired += 1,
+                Turn::Stopped => return aired,
+            }
+        }
+        aired
+    }
+
+    /// Looks at the front: drops it where it is dead, and airs it where it fits.
+    fn turn(
+        &mut self,
+        newest: &Newest,
+        moment: Moment,
+        room: &mut [u8; 422],
+        frames: &mut AppData,
+    ) -> Turn
+        ensures { IsTurn (live_by (latest_at newest.now) moment) (pieces_in self.old) frames.old (pieces_in self.new) frames.new result }
+    {
+        let Some(front) = self.places.front() else {
+            return Turn::Stopped;
+        };
+        if !is_live(&front.item, newest, moment) {
+            let _ = self.places.pop_front();
+            return Turn::Dropped;
+        }
+        if !front.is_pushed(room, frames) {
+            return Turn::Stopped;
+        }
+        self.places.rotate_left(1);
+        Turn::Aired
+    }
+}
+
+/// Whether an item is live: its life is not over, and it was given last under its key.
+fn is_live(item: &SentItem, newest: &Newest, moment: Moment) -> bool
+    ensures { (number : ℕ) → result ≡ live_by (latest_at newest.now) moment (piece_at item.now number) }
+{
+    if item.until <= moment.seconds() {
+        return false;
+    }
+    match newest.of(&item.key) {
+        Some(given) => given.serial == item.serial,
+        None => false,
+    }
+}

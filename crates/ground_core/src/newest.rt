@@ -1,0 +1,83 @@
+//! The newest version of each key.
+ghost use Rattle.std.specs.Prelude.{◌≡◌, if◌then◌else◌, option_map, IfOk, OnOk, IsSome, Some};
+ghost use Rattle.text_reports.specs.Views.{key_view};
+ghost use Rattle.picture_core.specs.Key.{Key, text_report, same_key};
+
+use fisb_time::Moment;
+use std::alloc::{AllocError, Global};
+use std::collections::BTreeMap;
+use text_reports::TextKey;
+
+/// What was given last under a key: its version and its serial.
+#[derive(Clone, Copy)]
+pub(crate) struct Given {
+    pub(crate) version: Moment,
+    pub(crate) serial: u64,
+}
+
+/// What was given last under each key. `None` is room for a key that nothing was given under.
+#[derive(Drop)]
+pub(crate) struct Newest {
+    versions: BTreeMap<TextKey, Option<Given>>,
+}
+
+impl Newest {
+    ghost use Rattle.ground_core.specs.Views.{latest_at, given_view, given_key};
+    ghost use Rattle.ground_core.specs.Newest.{HasRoom};
+    ghost use Rattle.ground_core.specs.Told.{latest_version};
+
+    /// Nothing was given.
+    pub(crate) fn new(alloc: Global) -> Newest
+        ensures { (key : Key) → latest_at result key ≡ None }
+    {
+        Newest {
+            versions: BTreeMap::new(alloc),
+        }
+    }
+
+    /// What was given last under a key.
+    pub(crate) fn of(&self, key: &TextKey) -> Option<Given>
+        ensures { option_map given_view result ≡ latest_at self.now (text_report (key_view key.now)) }
+    {
+        match self.versions.get(key) {
+            Some(given) => *given,
+            None => None,
+        }
+    }
+
+    /// The version that was given last under a key.
+    pub(crate) fn version_of(&self, key: &TextKey) -> Option<Moment>
+        ensures { result ≡ latest_version (latest_at self.now (text_report (key_view key.now))) }
+    {
+        match self.of(key) {
+            Some(given) => Some(given.version),
+            None => None,
+        }
+    }
+
+    /// Makes room for a key.
+    pub(crate) fn reserve(&mut self, alloc: Global, key: &TextKey) -> Result<(), AllocError>
+        ensures same { (other : Key) → latest_at self.new other ≡ latest_at self.old other }
+        ensures room { OnOk result (HasRoom self.new key.now) }
+    {
+        if self.versions.contains_key(key) {
+            return Ok(());
+        }
+        let key = key.copy(alloc)?;
+        let Ok(_) = self.versions.insert(key, None) else {
+            return Err(AllocError);
+        };
+        Ok(())
+    }
+
+    /// Puts what was given last under a key that there is room for.
+    pub(crate) fn put(&mut self, key: &TextKey, given: Given)
+        requires { HasRoom self.old key.now }
+        ensures { (other : Key) → latest_at self.new other
+            ≡ (if same_key (text_report (key_view key.now)) other then Some (given_view given) else latest_at self.old other) }
+    {
+        if let Some(kept) = self.versions.get_mut(key) {
+            *kept = Some(given);
+        }
+    }
+}

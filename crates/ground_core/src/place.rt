@@ -1,0 +1,73 @@
+//! A place in the queue.
+ghost use Rattle.std.specs.Prelude.{◌≡◌, ◌≤◌, ◌<◌, ◌+◌, ◌-◌, ◌∷◌, [], ◌++◌, nat_lt, nat_le, length, drop, IsTrue};
+ghost use Rattle.std.specs.Bool.{OnTrue, OnFalse};
+ghost use Rattle.uplink_frame.specs.UplinkFrame.{fisb_frame, spelled_frames};
+
+use crate::item::SentItem;
+use apdu_core::{Apdu, Seg, apdu_reads_back, shown_fits, write_apdu};
+use fisb_time::fields_of;
+use std::rc::Rc;
+use uplink_frame::AppData;
+
+/// A segment that waits, numbered from 1.
+#[derive(Drop)]
+pub(crate) struct Place {
+    pub(crate) item: Rc<SentItem>,
+    pub(crate) number: u16,
+    ghost in_range: { 1 ≤ number × (number ≤ item.value.count) },
+}
+
+impl Place {
+    ghost use Rattle.ground_core.specs.Views.{place_view};
+    ghost use Rattle.ground_core.specs.Piece.{body_of_piece, room_of_piece};
+    ghost use Rattle.segment_core.specs.File.{segmentation_of};
+
+    /// Which segment it is, where the header says so.
+    fn seg(&self) -> Option<Seg>
+        ensures { result ≡ segmentation_of (place_view self.now).file self.now.number }
+    {
+        if !self.item.is_segmented() {
+            return None;
+        }
+        Some(Seg {
+            file: self.item.file,
+            count: self.item.count,
+            number: self.number,
+        })
+    }
+
+    /// Writes its body at the front of a room, and answers how many bytes it has.
+    fn write_body(&self, room: &mut [u8; 422]) -> usize
+        ensures written { room.new ≡ body_of_piece (place_view self.now)
+            ++ drop (length (body_of_piece (place_view self.now))) room.old }
+        ensures number { result ≡ length (body_of_piece (place_view self.now)) }
+        ensures size { result + 2 ≡ room_of_piece (place_view self.now) }
+        ensures within { result ≤ 422 }
+    {
+        apdu_reads_back();
+        shown_fits();
+        let item = &*self.item;
+        let _seconds = item.version.seconds();
+        let apdu = Apdu {
+            product: item.product,
+            form: item.form,
+            time: fields_of(item.form, item.version),
+            seg: self.seg(),
+            payload: item.part(self.number),
+        };
+        write_apdu(&apdu, room)
+    }
+
+    /// Puts its information frame behind the others, where it fits, and answers whether it did.
+    pub(crate) fn is_pushed(&self, room: &mut [u8; 422], frames: &mut AppData) -> bool
+        ensures answer { result ≡ nat_le (room_of_piece (place_view self.now)) (424 - length (spelled_frames frames.old)) }
+        ensures pushed { OnTrue result (frames.new ≡ frames.old ++ fisb_frame (body_of_piece (place_view self.now)) ∷ []) }
+        ensures used { OnTrue result (length (spelled_frames frames.new)
+            ≡ length (spelled_frames frames.old) + room_of_piece (place_view self.now)) }
+        ensures left { OnFalse result (frames.new ≡ frames.old) }
+    {
+        let length = self.write_body(room);
+        let (body, _) = room.split_at(length);
+        frames.push(0, body).is_ok()
+    }
+}
