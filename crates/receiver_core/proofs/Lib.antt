@@ -1,0 +1,6 @@
+mod Lives
+mod Taking
+mod Puts
+mod Frames
+mod Receptions
+mod Hears

@@ -1,0 +1,30 @@
+-- Entries that are put one after another, and lists of which nothing is left.
+use Rattle.std.proofs.Common.{◌≡◌, List, [], ◌∷◌, ◌++◌, map, flat_map, refl, sym, ap, ◌∙◌}
+use Rattle.std.proofs.lemmas.List.{append_assoc, append-nil, map-append}
+use Rattle.picture_core.specs.Entry.{Entry}
+use Rattle.picture_core.specs.Kept.{put, put_all}
+
+pub put_all_append : (xs ys kept : List Entry) → put_all (xs ++ ys) kept ≡ put_all ys (put_all xs kept)
+put_all_append [] ys kept = refl
+put_all_append (x ∷ xs) ys kept = put_all_append xs ys (put x kept)
+
+pub put_one_more : (xs ys all kept now : List Entry) → all ≡ put_all (xs ++ ys) kept → now ≡ put_all xs kept
+    → all ≡ put_all ys now
+put_one_more xs ys all kept now whole is = whole ∙ put_all_append xs ys kept ∙ ap (put_all ys) (sym is)
+
+pub tell_one_more : {A : Type 0} (xs ys all told now : List A) → all ≡ told ++ (xs ++ ys) → now ≡ told ++ xs → all ≡ now ++ ys
+tell_one_more xs ys all told now whole is = whole ∙ sym (append_assoc told xs ys) ∙ ap (λ ts. ts ++ ys) (sym is)
+
+-- where nothing is left, all is put, and all is told
+pub all_put : {A : Type 0} (f : A → List Entry) (left : List A) (all now : List Entry)
+    → left ≡ [] → all ≡ put_all (flat_map f left) now → now ≡ all
+all_put f left all now none same = sym (same ∙ ap (λ xs. put_all (flat_map f xs) now) none)
+
+pub all_told : {A B : Type 0} (f : A → List B) (left : List A) (all now : List B)
+    → left ≡ [] → all ≡ now ++ flat_map f left → now ≡ all
+all_told f left all now none same = sym (same ∙ ap (λ xs. now ++ flat_map f xs) none ∙ append-nil now)
+
+pub map_flat : {A B C : Type 0} (g : B → C) (f : A → List B) (xs : List A) → flat_map (λ x. map g (f x)) xs ≡ map g
+    (flat_map f xs)
+map_flat g f [] = refl
+map_flat g f (x ∷ xs) = ap (λ ts. map g (f x) ++ ts) (map_flat g f xs) ∙ sym (map-append g (f x) (flat_map f xs))

@@ -1,0 +1,89 @@
+-- What a joiner answers, and what a frame brings by it.
+use Rattle.std.proofs.Common.{◌≡◌, ℕ, Bool, true, false, not, ◌&&◌, if◌then◌else◌, List, [], ◌∷◌, ◌++◌, Option, Some, None, Result, Ok, Err, refl, sym, ap, subst, ◌∙◌}
+use Rattle.std.proofs.lemmas.List.{append-nil}
+use Rattle.std.specs.List.{list_all}
+use Rattle.apdu_core.specs.declared.unit.Seg.{Seg}
+use Rattle.life_table.specs.LifeTable.{LifeTable}
+use Rattle.segment_core.specs.Arrival.{Arrival, completes, has_piece, joined, other_numbers, whole_with}
+use Rattle.segment_core.specs.Store.{StandsFor, Store, answer_of, is_live, live_answer, taken_with}
+use Rattle.segment_core.specs.Views.{arrival_view}
+use Rattle.segment_core.specs.declared.arrived.Arrived.{Arrived}
+use Rattle.segment_core.specs.declared.arrived.Longest.{Longest}
+use Rattle.segment_core.specs.declared.arrived.Taken.{Taken}
+use Rattle.segment_core.specs.declared.arrived.Taken.TheVariants as taken
+use Rattle.receiver_core.specs.Steps.{arrived_with, counted, entries_of_whole, frame_entries, taken_reasons, whole_taken}
+use Rattle.receiver_core.specs.UnreadParts.{frame_reasons, whole_reasons}
+use Rattle.receiver_core.specs.declared.unread.UnreadReason.{UnreadReason}
+use Rattle.receiver_core.specs.declared.unread.UnreadReason.TheVariants as reasons
+
+whole_by : (again last : Bool) (a : Arrival) (payload : List ℕ)
+    → whole_taken a (if again then taken.Again else (if last then taken.Whole payload else taken.Waits))
+    ≡ (if not again && last then Some (whole_with a payload) else None)
+whole_by true last a payload = refl
+whole_by false true a payload = refl
+whole_by false false a payload = refl
+
+told_by : (table : LifeTable) (again last : Bool) (a : Arrival) (payload : List ℕ)
+    → taken_reasons table a (if again then taken.Again else (if last then taken.Whole payload else taken.Waits))
+    ≡ whole_reasons table (if not again && last then Some (whole_with a payload) else None)
+told_by table true last a payload = refl
+told_by table false true a payload = refl
+told_by table false false a payload = refl
+
+live_whole : (before : List Arrival) (a : Arrival) (s : Option Seg) → whole_taken a
+    (live_answer before a s) ≡ completes before a s
+live_whole before a None = refl
+live_whole before a (Some s) =
+    whole_by (has_piece before a s s.number) (list_all (has_piece before a s) (other_numbers s)) a
+    (joined (before ++ a ∷ []) a s)
+
+live_told : (table : LifeTable) (before : List Arrival) (a : Arrival) (s : Option Seg)
+    → taken_reasons table a (live_answer before a s) ≡ whole_reasons table (completes before a s)
+live_told table before a None = refl
+live_told table before a (Some s) =
+    told_by table (has_piece before a s s.number) (list_all (has_piece before a s) (other_numbers s)) a
+    (joined (before ++ a ∷ []) a s)
+
+entries_by : (table : LifeTable) (before : List Arrival) (a : Arrival) (live : Bool)
+    → entries_of_whole table (whole_taken a (if live then live_answer before a a.segmentation else taken.Stale))
+    ≡ frame_entries table before (if live then Ok a else Err reasons.Stale)
+entries_by table before a true = ap (entries_of_whole table) (live_whole before a a.segmentation)
+entries_by table before a false = refl
+
+reasons_by : (table : LifeTable) (before : List Arrival) (a : Arrival) (live : Bool)
+    → taken_reasons table a (if live then live_answer before a a.segmentation else taken.Stale)
+    ≡ frame_reasons table before (if live then Ok a else Err reasons.Stale)
+reasons_by table before a true = live_told table before a a.segmentation
+reasons_by table before a false = refl
+
+joined_by : (before : List Arrival) (a : Arrival) (live : Bool)
+    → (if live then before ++ a ∷ [] else before) ≡ arrived_with before (if live then Ok a else Err reasons.Stale)
+joined_by before a true = refl
+joined_by before a false = sym (append-nil before)
+
+-- what is read of a frame, and what the joiner holds and answers by it
+pub joins : (lives own : Longest) (moment : ℕ) (before : List Arrival) (a : Arrived)
+    (read : Result Arrival UnreadReason) (store : Store)
+    → own ≡ lives → counted lives moment (Ok a) ≡ read → StandsFor store (taken_with own moment before (arrival_view a))
+    → StandsFor store (arrived_with before read)
+joins lives own moment before a read store same is stands =
+    subst (StandsFor store)
+    (ap (λ l. taken_with l moment before (arrival_view a)) same
+    ∙ joined_by before (arrival_view a) (is_live lives moment a.product a.version) ∙ ap (arrived_with before) is) stands
+
+pub brings : (table : LifeTable) (lives own : Longest) (moment : ℕ) (before : List Arrival) (a : Arrived)
+    (read : Result Arrival UnreadReason)
+    (answer : Taken) → own ≡ lives → counted lives moment (Ok a) ≡ read → answer ≡ answer_of own moment before (arrival_view a)
+    → entries_of_whole table (whole_taken (arrival_view a) answer) ≡ frame_entries table before read
+brings table lives own moment before a read answer same is answered =
+    ap (λ t. entries_of_whole table (whole_taken (arrival_view a) t))
+    (answered ∙ ap (λ l. answer_of l moment before (arrival_view a)) same)
+    ∙ entries_by table before (arrival_view a) (is_live lives moment a.product a.version) ∙ ap (frame_entries table before) is
+
+pub tells : (table : LifeTable) (lives own : Longest) (moment : ℕ) (before : List Arrival) (a : Arrived)
+    (read : Result Arrival UnreadReason)
+    (answer : Taken) → own ≡ lives → counted lives moment (Ok a) ≡ read → answer ≡ answer_of own moment before (arrival_view a)
+    → taken_reasons table (arrival_view a) answer ≡ frame_reasons table before read
+tells table lives own moment before a read answer same is answered =
+    ap (taken_reasons table (arrival_view a)) (answered ∙ ap (λ l. answer_of l moment before (arrival_view a)) same)
+    ∙ reasons_by table before (arrival_view a) (is_live lives moment a.product a.version) ∙ ap (frame_reasons table before) is

@@ -1,0 +1,30 @@
+use Rattle.std.proofs.Common.{◌++◌, map, ap, ◌∙◌}
+use Rattle.uplink_frame.specs.Views.{frame_view}
+use Rattle.picture_core.specs.Kept.{put_all}
+use Rattle.receiver_core.specs.Hearing.{unread_view}
+use Rattle.receiver_core.specs.StandsFor.{longest_lives}
+use Rattle.receiver_core.specs.UnreadParts.{part_in}
+use Rattle.receiver_core.proofs.Taking.{brings, joins, tells}
+use Rattle.receiver_core.proofs.hearing.take_frame.Goals as goal
+
+pub returns-clause-joined : goal.returns-clause-joined
+returns-clause-joined c = λ before stands.
+    joins (longest_lives c.args.table.now) c.args.joiner.now.store.longest c.args.moment before c.in-Ok.arrived _
+    c.take.new.self.store
+    c.requires.longest c.in-Ok.ensures.counted (c.in_ok-taken.ensures.stands before stands)
+
+pub returns-clause-entries : goal.returns-clause-entries
+returns-clause-entries c = λ before stands.
+    c.in_ok-take_answer.ensures.entries
+    ∙ ap (λ es. put_all es c.args.picture.now.entries)
+    (brings c.args.table.now (longest_lives c.args.table.now) c.args.joiner.now.store.longest c.args.moment before
+    c.in-Ok.arrived _ c.in_ok-taken.taken
+    c.requires.longest c.in-Ok.ensures.counted (c.in_ok-taken.ensures.answer before stands))
+
+pub returns-clause-unread : goal.returns-clause-unread
+returns-clause-unread c = λ before stands.
+    c.in_ok-take_answer.ensures.unread
+    ∙ ap (λ rs. map unread_view c.args.unread.now.items ++ map (part_in (frame_view c.args.frame.now)) rs)
+    (tells c.args.table.now (longest_lives c.args.table.now) c.args.joiner.now.store.longest c.args.moment before
+    c.in-Ok.arrived _ c.in_ok-taken.taken
+    c.requires.longest c.in-Ok.ensures.counted (c.in_ok-taken.ensures.answer before stands))

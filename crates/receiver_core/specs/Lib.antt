@@ -1,0 +1,7 @@
+pub mod Reception
+pub mod UnreadParts
+pub mod Hearing
+pub mod StandsFor
+pub mod Answers
+pub mod Steps
+pub mod Laws

@@ -1,0 +1,93 @@
+-- What a receiver learns from the payloads that it hears (RTCA DO-358). Receptions have the newest first; arrivals, whole
+-- payloads and entries have the oldest first.
+use Rattle.std.specs.Prelude.{ℕ, ◌+◌, Bool, false, ◌||◌, ◌==◌, nat_lt, if◌then◌else◌, List, [], ◌∷◌, ◌++◌, flat_map, filter_map, Option, Some, None, Result, Ok, Err}
+use Rattle.std.specs.Result.{result_ok}
+use Rattle.fisb_time.specs.Naming.{named}
+use Rattle.uplink_frame.specs.declared.station.StationId.{StationId}
+use Rattle.uplink_frame.specs.Station.{station_of}
+use Rattle.uplink_frame.specs.UplinkFrame.{InformationFrame, information_frames, header_in}
+use Rattle.apdu_core.specs.declared.unit.Seg.{Seg}
+use Rattle.apdu_core.specs.declared.fault.ApduFault.{ApduFault}
+use Rattle.apdu_core.specs.declared.fault.ApduFault.TheVariants as faults
+use Rattle.apdu_core.specs.Apdu.{Apdu, apdu_of}
+use Rattle.life_table.specs.LifeTable.{LifeTable, longest}
+use Rattle.segment_core.specs.Arrival.{Arrival, Whole, completed}
+use Rattle.picture_core.specs.Contents.{text_product, payload_entries}
+use Rattle.picture_core.specs.Entry.{Entry}
+use Rattle.picture_core.specs.Picture.{picture}
+use Rattle.receiver_core.specs.declared.unread.UnreadReason.{UnreadReason}
+use Rattle.receiver_core.specs.declared.unread.UnreadReason.TheVariants.{Kind, Short, Flagged, Segment, Product, NoRow, Files, Time, Stale}
+
+-- a payload, and the moment at which it was heard
+pub record Reception : Type 0 where
+  pub moment : ℕ
+  pub payload : List ℕ
+
+abbrev pub fault_reason : ApduFault → UnreadReason
+fault_reason faults.Short = Short
+fault_reason faults.Flagged = Flagged
+fault_reason faults.BadSegment = Segment
+
+-- the radar products and text
+abbrev pub is_known_product : ℕ → Bool
+is_known_product product = (product == 63) || (product == 64) || (product == text_product)
+
+-- the most segments of a file
+abbrev pub segment_limit : ℕ
+segment_limit = 64
+
+abbrev pub is_large : Option Seg → Bool
+is_large None = false
+is_large (Some s) = nat_lt segment_limit s.count
+
+-- its time names the version; it counts before the longest life of its product has passed
+abbrev pub arrival_named : StationId → ℕ → Apdu → ℕ → Option ℕ → Result Arrival UnreadReason
+arrival_named station received a life None = Err Time
+arrival_named station received a life (Some version) = if nat_lt received (version + life)
+    then Ok (record {
+      station = station;
+      product = a.product;
+      version = version;
+      segmentation = a.segmentation;
+      payload = a.payload;
+    })
+    else Err Stale
+
+abbrev pub arrival_with_row : StationId → ℕ → Apdu → Option ℕ → Result Arrival UnreadReason
+arrival_with_row station received a None = Err NoRow
+arrival_with_row station received a (Some life) = if is_large a.segmentation then Err Files
+    else arrival_named station received a life (named a.form a.time received)
+
+abbrev pub arrival_of_apdu : LifeTable → StationId → ℕ → Result Apdu ApduFault → Result Arrival UnreadReason
+arrival_of_apdu table station received (Err fault) = Err (fault_reason fault)
+arrival_of_apdu table station received (Ok a) = if is_known_product a.product
+    then arrival_with_row station received a (longest table a.product)
+    else Err Product
+
+-- the arrival that an information frame is, or why it is none
+abbrev pub arrival_in : LifeTable → StationId → ℕ → InformationFrame → Result Arrival UnreadReason
+arrival_in table station received frame = if frame.kind == 0
+    then arrival_of_apdu table station received (apdu_of frame.body)
+    else Err Kind
+
+-- the station that its header names
+abbrev pub station_heard : Reception → StationId
+station_heard heard = station_of (header_in heard.payload)
+
+abbrev pub arrivals_in : LifeTable → Reception → List Arrival
+arrivals_in table heard = filter_map (λ frame. result_ok (arrival_in table (station_heard heard) heard.moment frame))
+    (information_frames heard.payload)
+
+abbrev pub arrivals : LifeTable → List Reception → List Arrival
+arrivals table [] = []
+arrivals table (heard ∷ past) = arrivals table past ++ arrivals_in table heard
+
+abbrev pub whole_entries : LifeTable → Whole → List Entry
+whole_entries table whole = payload_entries table whole.product whole.version whole.payload
+
+-- what a list of receptions brought, and the picture of it
+abbrev pub contents : LifeTable → List Reception → List Entry
+contents table heard = flat_map (whole_entries table) (completed (arrivals table heard))
+
+abbrev pub received_picture : LifeTable → List Reception → ℕ → List Entry
+received_picture table heard moment = picture (contents table heard) moment

@@ -1,0 +1,43 @@
+-- What a receiver holds, and the receptions for which it stands.
+use Rattle.std.specs.Prelude.{◌≡◌, ℕ, List, None}
+use Rattle.std.specs.Option.{unwrap_or}
+use Rattle.life_table.specs.LifeTable.{LifeTable, longest}
+use Rattle.segment_core.specs.declared.arrived.Longest.{Longest}
+use Rattle.segment_core.specs.Store.{MarkedStore, StandsFor as StandsForArrivals}
+use Rattle.picture_core.specs.Kept.{IsStore}
+use Rattle.picture_core.specs.Marked.{MarkedEntries}
+use Rattle.receiver_core.specs.Hearing.{AreReceptions, clock_of}
+use Rattle.receiver_core.specs.Reception.{Reception, arrivals, contents}
+
+-- the table by which it reads, the segments that it joins, and the entries that it shows
+pub record Held : Type 0 where
+  pub table : LifeTable
+  pub joiner : MarkedStore
+  pub picture : MarkedEntries
+
+-- the longest life of each product that is read; 0 where the table has no row of it
+abbrev pub longest_lives : LifeTable → Longest
+longest_lives table = record {
+  regional = unwrap_or (longest table 63) 0;
+  conus = unwrap_or (longest table 64) 0;
+  text = unwrap_or (longest table 413) 0;
+}
+
+-- between two calls no mark stands, and the joiner knows the lives of the table
+pub record IsSettled (held : Held) : Type 0 where
+  pub longest : held.joiner.store.longest ≡ longest_lives held.table
+  pub no_segments_marked : held.joiner.mark ≡ None
+  pub no_entries_marked : held.picture.mark ≡ None
+
+-- the moment of the last reception; 0 before the first
+abbrev pub last_moment : List Reception → ℕ
+last_moment heard = unwrap_or (clock_of heard) 0
+
+-- A receiver stands for the receptions that it heard, the newest first: its joiner stands for what arrived, and its entries
+-- are the picture of all that became whole, from the last reception on.
+pub record StandsFor (table : LifeTable) (held : Held) (heard : List Reception) : Type 0 where
+  pub reads_by : held.table ≡ table
+  pub receptions : AreReceptions heard
+  pub clock : held.joiner.store.clock ≡ clock_of heard
+  pub joins : StandsForArrivals held.joiner.store (arrivals table heard)
+  pub shows : IsStore (last_moment heard) (contents table heard) held.picture.entries

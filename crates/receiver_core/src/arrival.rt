@@ -1,0 +1,77 @@
+//! The arrival that an information frame is.
+ghost use Rattle.std.specs.Prelude.{◌≡◌, ℕ, IfOk, true};
+ghost use Rattle.uplink_frame.specs.Views.{frame_view};
+ghost use Rattle.segment_core.specs.Store.{FitsFile, is_read_product};
+ghost use Rattle.receiver_core.specs.Reception.{arrival_in, is_known_product, is_large};
+ghost use Rattle.receiver_core.specs.StandsFor.{longest_lives};
+ghost use Rattle.receiver_core.specs.Steps.{counted};
+
+use crate::unread::UnreadReason;
+use apdu_core::{Apdu, ApduFault, Seg, read_apdu};
+use fisb_time::{Moment, resolve};
+use life_table::LifeTable;
+use segment_core::Arrived;
+use uplink_frame::{InfoFrame, StationId};
+
+/// The most segments of a file.
+const MOST_SEGMENTS: u16 = 64;
+
+/// What arrives with an information frame, if it is not stale, or the first reason for which
+/// nothing does.
+pub(crate) fn read_arrival<'a>(
+    table: &LifeTable,
+    station: StationId,
+    moment: Moment,
+    frame: &InfoFrame<'a>,
+) -> Result<Arrived<'a>, UnreadReason>
+    ensures counted { counted (longest_lives table.now) moment result
+        ≡ arrival_in table.now station moment (frame_view frame.now) }
+    ensures product { IfOk result (λ a. is_read_product a.product ≡ true) }
+    ensures segment { IfOk result (λ a. FitsFile a.seg) }
+{
+    if frame.kind != 0 {
+        return Err(UnreadReason::Kind);
+    }
+    let apdu = match read_apdu(frame.body) {
+        Ok(apdu) => apdu,
+        Err(ApduFault::Short) => return Err(UnreadReason::Short),
+        Err(ApduFault::Flagged) => return Err(UnreadReason::Flagged),
+        Err(ApduFault::BadSegment) => return Err(UnreadReason::Segment),
+    };
+    if !is_known_product(apdu.product) {
+        return Err(UnreadReason::Product);
+    }
+    if table.longest(apdu.product).is_none() {
+        return Err(UnreadReason::NoRow);
+    }
+    if is_large(&apdu.seg) {
+        return Err(UnreadReason::Files);
+    }
+    let Some(version) = resolve(apdu.form, &apdu.time, moment) else {
+        return Err(UnreadReason::Time);
+    };
+    Ok(Arrived {
+        station,
+        product: apdu.product,
+        version,
+        seg: apdu.seg,
+        payload: apdu.payload,
+    })
+}
+
+/// Whether the product is radar or text.
+fn is_known_product(product: u16) -> bool
+    ensures { result ≡ is_known_product product }
+{
+    product == 63 || product == 64 || product == 413
+}
+
+/// Whether the file has too many segments.
+fn is_large(seg: &Option<Seg>) -> bool
+    ensures { result ≡ is_large seg.now }
+{
+    match seg {
+        Some(seg) => MOST_SEGMENTS < seg.count,
+        None => false,
+    }
+}

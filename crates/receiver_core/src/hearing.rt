@@ -1,0 +1,149 @@
+//! What the information frames of a payload bring, and what of them is passed on unread.
+ghost use Rattle.std.specs.Prelude.{◌≡◌, ◌≤◌, ◌++◌, List, IfOk, OnOk, length, map};
+ghost use Rattle.uplink_frame.specs.UplinkFrame.{information_frames};
+ghost use Rattle.uplink_frame.specs.Views.{frame_view};
+ghost use Rattle.picture_core.specs.Kept.{put_all};
+ghost use Rattle.segment_core.specs.Arrival.{Arrival};
+ghost use Rattle.segment_core.specs.Store.{IsNotBefore, StandsFor};
+ghost use Rattle.segment_core.specs.Views.{arrival_view};
+ghost use Rattle.receiver_core.specs.Hearing.{unread_view};
+ghost use Rattle.receiver_core.specs.Reception.{arrival_in};
+ghost use Rattle.receiver_core.specs.StandsFor.{longest_lives};
+ghost use Rattle.receiver_core.specs.Steps.{arrivals_after, arrived_with, entries_after};
+ghost use Rattle.receiver_core.specs.Steps.{entries_of_whole, frame_entries};
+ghost use Rattle.receiver_core.specs.Steps.{taken_reasons, whole_taken};
+ghost use Rattle.receiver_core.specs.UnreadParts.{frame_reasons, part_in, unread_after};
+
+use crate::arrival::read_arrival;
+use crate::reports::take_whole;
+use crate::unread::{Unread, UnreadReason};
+use fisb_time::Moment;
+use life_table::LifeTable;
+use picture_core::Picture;
+use segment_core::{Arrived, Joiner, Taken};
+use std::alloc::{AllocError, Global};
+use uplink_frame::{InfoFrame, StationId, frames};
+
+/// Takes the information frames of a payload in their order, and lists what is passed on unread.
+/// Where memory runs out, some of them may have been taken.
+pub(crate) fn take_frames(
+    alloc: Global,
+    table: &LifeTable,
+    station: StationId,
+    moment: Moment,
+    payload: &[u8; 432],
+    joiner: &mut Joiner,
+    picture: &mut Picture,
+) -> Result<Vec<Unread>, AllocError>
+    requires moment { IsNotBefore joiner.old.store.clock moment }
+    requires longest { joiner.old.store.longest ≡ longest_lives table.now }
+    ensures joined { (before : List Arrival) → StandsFor joiner.old.store before
+        → OnOk result (StandsFor joiner.new.store (arrivals_after table.now station moment before
+        (information_frames payload.now))) }
+    ensures entries { (before : List Arrival) → StandsFor joiner.old.store before
+        → OnOk result (picture.new.entries ≡ put_all (entries_after table.now station moment before
+        (information_frames payload.now)) picture.old.entries) }
+    ensures unread { (before : List Arrival) → StandsFor joiner.old.store before
+        → IfOk result (λ unread. map unread_view unread.items ≡ unread_after table.now station
+        moment before (information_frames payload.now)) }
+    ensures clock { IsNotBefore joiner.new.store.clock moment }
+    ensures longest { joiner.new.store.longest ≡ joiner.old.store.longest }
+    ensures joiner_mark { joiner.new.mark ≡ joiner.old.mark }
+    ensures picture_mark { picture.new.mark ≡ picture.old.mark }
+{
+    let mut unread = Vec::new(alloc);
+    for frame in frames(payload) {
+        take_frame(
+            alloc,
+            table,
+            station,
+            moment,
+            &frame,
+            joiner,
+            picture,
+            &mut unread,
+        )?;
+    }
+    Ok(unread)
+}
+
+/// Takes an information frame.
+fn take_frame(
+    alloc: Global,
+    table: &LifeTable,
+    station: StationId,
+    moment: Moment,
+    frame: &InfoFrame<'_>,
+    joiner: &mut Joiner,
+    picture: &mut Picture,
+    unread: &mut Vec<Unread>,
+) -> Result<(), AllocError>
+    requires short { length frame.now.body.now ≤ 424 }
+    requires moment { IsNotBefore joiner.old.store.clock moment }
+    requires longest { joiner.old.store.longest ≡ longest_lives table.now }
+    ensures joined { (before : List Arrival) → StandsFor joiner.old.store before
+        → OnOk result (StandsFor joiner.new.store (arrived_with before
+        (arrival_in table.now station moment (frame_view frame.now)))) }
+    ensures entries { (before : List Arrival) → StandsFor joiner.old.store before
+        → OnOk result (picture.new.entries ≡ put_all (frame_entries table.now before
+        (arrival_in table.now station moment (frame_view frame.now))) picture.old.entries) }
+    ensures unread { (before : List Arrival) → StandsFor joiner.old.store before
+        → OnOk result (map unread_view unread.new.items
+        ≡ map unread_view unread.old.items ++ map (part_in (frame_view frame.now))
+        (frame_reasons table.now before
+        (arrival_in table.now station moment (frame_view frame.now)))) }
+    ensures clock { IsNotBefore joiner.new.store.clock moment }
+    ensures longest { joiner.new.store.longest ≡ joiner.old.store.longest }
+    ensures joiner_mark { joiner.new.mark ≡ joiner.old.mark }
+    ensures picture_mark { picture.new.mark ≡ picture.old.mark }
+{
+    let arrived = match read_arrival(table, station, moment, frame) {
+        Ok(arrived) => arrived,
+        Err(reason) => {
+            unread.push(Unread::of(frame, reason))?;
+            return Ok(());
+        }
+    };
+    let taken = joiner.take(moment, &arrived)?;
+    take_answer(alloc, table, frame, &arrived, taken, picture, unread)?;
+    Ok(())
+}
+
+/// Takes what the joiner answered to an arrival.
+fn take_answer(
+    alloc: Global,
+    table: &LifeTable,
+    frame: &InfoFrame<'_>,
+    arrived: &Arrived<'_>,
+    taken: Taken,
+    picture: &mut Picture,
+    unread: &mut Vec<Unread>,
+) -> Result<(), AllocError>
+    requires { length frame.now.body.now ≤ 424 }
+    ensures entries { OnOk result (picture.new.entries ≡ put_all
+        (entries_of_whole table.now (whole_taken (arrival_view arrived.now) taken))
+        picture.old.entries) }
+    ensures unread { OnOk result (map unread_view unread.new.items
+        ≡ map unread_view unread.old.items ++ map (part_in (frame_view frame.now))
+        (taken_reasons table.now (arrival_view arrived.now) taken)) }
+    ensures mark { picture.new.mark ≡ picture.old.mark }
+{
+    match taken {
+        Taken::Whole(payload) => {
+            let (product, version) = (arrived.product, arrived.version);
+            take_whole(
+                alloc,
+                table,
+                frame,
+                product,
+                version,
+                payload.all(),
+                picture,
+                unread,
+            )?;
+        }
+        Taken::Stale => unread.push(Unread::of(frame, UnreadReason::Stale))?,
+        Taken::Waits | Taken::Again => {}
+    }
+    Ok(())
+}
