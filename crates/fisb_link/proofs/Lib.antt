@@ -1,0 +1,10 @@
+pub mod Layers
+pub mod Numbers
+pub mod StationItems
+pub mod ReadSegments
+pub mod HeardSegments
+pub mod WholeItems
+pub mod Complete
+pub mod Agree
+pub mod StillHeard
+pub mod Scenes

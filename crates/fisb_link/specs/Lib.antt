@@ -1,0 +1,3 @@
+pub mod LinkPicture
+pub mod Hearing
+pub mod PicturesAgree

@@ -1,0 +1,7 @@
+//! What a link promises, and the law that what is received is that: laws alone, above ground and
+//! receiver.
+#![tactic(auto)]
+
+mod laws;
+
+pub use laws::{hearings_stay, pictures_agree};
