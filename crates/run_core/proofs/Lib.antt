@@ -1,0 +1,14 @@
+pub mod Sending
+pub mod Newlines
+pub mod LineCuts
+pub mod Openings
+pub mod Stable
+pub mod Agrees
+pub mod Parts
+pub mod Decided
+pub mod Ends
+pub mod Steps
+pub mod Complete
+pub mod Turns
+pub mod Starts
+pub mod Searching

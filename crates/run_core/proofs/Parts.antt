@@ -1,0 +1,41 @@
+-- The part of an input within the limit.
+use Rattle.std.proofs.Common.{◌≡◌, ℕ, ◌+◌, ◌-◌, ◌≤◌, List, [], ◌∷◌, ◌++◌, length, take, arith, ap, ◌∙◌}
+use Rattle.std.proofs.lemmas.List.{take-append-le, take_all}
+use Rattle.std.proofs.Math.Seq.{take-append-add}
+use Rattle.run_core.specs.Limits.{input_limit}
+use Rattle.run_core.specs.Run.{acted_part}
+
+take-short : (limit : ℕ) (text : List ℕ) → length text ≤ limit → take limit text ≡ text
+take-short limit text within = take_all limit text within
+
+-- of bytes within the limit it is all
+pub part-within : (text : List ℕ) → length text ≤ input_limit → acted_part text ≡ text
+unfolding acted_part
+part-within text within = take-short input_limit text within
+
+-- what comes after the limit is no part of it
+pub part-full : (text more : List ℕ) → input_limit ≤ length text → acted_part (text ++ more) ≡ acted_part text
+unfolding acted_part
+part-full text more full = take-append-le input_limit text more full
+
+take-past : (limit : ℕ) (text more : List ℕ) → length text ≤ limit
+    → take limit (text ++ more) ≡ text ++ take (limit - length text) more
+take-past limit text more within =
+    let same : limit ≡ length text + (limit - length text) = omega (arith, within) in
+    ap (λ n. take n (text ++ more)) same ∙ take-append-add text more (limit - length text)
+
+-- bytes within the limit are the first of it
+pub part-past : (text more : List ℕ) → length text ≤ input_limit
+    → acted_part (text ++ more) ≡ text ++ take (input_limit - length text) more
+unfolding acted_part
+part-past text more within = take-past input_limit text more within
+
+part-over : (limit : ℕ) (text : List ℕ) (byte : ℕ) → length text ≡ limit → take limit (text ++ byte ∷ []) ≡ text
+part-over limit text byte full =
+    let within : limit ≤ length text = omega (arith, full) in
+    take-append-le limit text (byte ∷ []) within ∙ take_all limit text (omega (arith, full))
+
+-- the byte past the limit is not acted on
+pub part-one-over : (text : List ℕ) (byte : ℕ) → length text ≡ input_limit → acted_part (text ++ byte ∷ []) ≡ text
+unfolding acted_part
+part-one-over text byte full = part-over input_limit text byte full

@@ -1,0 +1,157 @@
+-- How the search for the end of the table goes on, and how it ends.
+use Rattle.std.proofs.Common.{◌≡◌, ℕ, ◌+◌, ◌-◌, ◌<◌, ◌≤◌, Bool, true, false, List, [], Option, Some, None, option_map, length, drop, refl, sym, ap, subst, ◌∙◌, arith, append-nil, length-append}
+use Rattle.std.proofs.KnownBytes.{Consumes-trans}
+use Rattle.std.specs.Io.KnownBytes.{Consumes, IsAtEnd}
+use Rattle.fisb_wire.specs.Faults.{Rose}
+use Rattle.run_core.specs.declared.input.Input.{Input}
+use Rattle.run_core.specs.declared.search.TableEnd.{TableEnd}
+use Rattle.run_core.specs.declared.search.TableEnd.TheVariants as ways
+use Rattle.run_core.specs.Limits.{ring_limit}
+use Rattle.run_core.specs.Lines.{lines_in}
+use Rattle.run_core.specs.Opening.{opening_at}
+use Rattle.run_core.specs.Reading.{IsWithin, HasGrown, newline_in}
+use Rattle.run_core.specs.Running.{IsSought}
+use Rattle.run_core.specs.Searched.{IsHeld, IsFound, IsLast, IsLooked, HasSearched, is_end_here}
+use Rattle.run_core.proofs.Turns.{IsSearch, clear-more, found-from, none-from, sought-more, sought-line, sought-found, sought-long, sought-none, sought-last, sought-missing}
+
+module _ (lb : Option (List ℕ)) (rb : ℕ) where
+  pub search-moved : (la : Option (List ℕ)) (ra : ℕ) (input after : Input) (place number : ℕ) (may : Bool)
+      → after ≡ input → IsSearch lb la rb ra input place number may → IsSearch lb la rb ra after place number may
+  search-moved la ra input after place number may same s = subst (λ i. IsSearch lb la rb ra i place number may) (sym same) s
+
+  -- bytes were read
+  pub search-read : (mid la : Option (List ℕ)) (rm ra : ℕ) (input now after : Input) (place number : ℕ)
+      (may may' : Bool) (piece : List ℕ) → now ≡ input → IsSearch lb mid rb rm input place number may
+      → HasGrown now after mid la rm ra piece → IsWithin after
+      → (may' ≡ false → newline_in (drop place after.ring.items) ≡ None) → IsSearch lb la rb ra after place number may'
+  search-read mid la rm ra input now after place number may may' piece same before g within clear =
+      let s = search-moved mid rm input now place number may same before in
+      let size = ap length g.items ∙ length-append now.ring.items piece in
+      let taken = s.held.taken in
+      let all = g.taken in record {
+        within = within;
+        held = record {
+          taken = omega (arith, size, taken, all);
+          consumed = subst (Consumes lb la) (sym g.items) (Consumes-trans _ _ _ _ _ s.held.consumed g.consumed);
+        };
+        sought = subst (λ xs. IsSought xs place number) (sym g.items)
+            (sought-more now.ring.items piece place number s.sought);
+        clear = clear;
+        unfailed = g.unfailed ∙ s.unfailed;
+      }
+
+  module _ (la : Option (List ℕ)) (ra : ℕ) (input now : Input) (place number : ℕ) (may : Bool) (same : now ≡ input)
+      (before : IsSearch lb la rb ra input place number may) where
+    here : IsSearch lb la rb ra now place number may
+    here = search-moved la ra input now place number may same before
+
+    told : (found : Option ℕ) → found ≡ option_map (λ end. place + end) (newline_in (drop place input.ring.items))
+        → found ≡ option_map (λ end. place + end) (newline_in (drop place now.ring.items))
+    told found is = is ∙ ap (λ (i : Input). option_map (λ end. place + end) (newline_in (drop place i.ring.items)))
+        (sym same)
+
+    size-of : (e k : ℕ) → e ≡ place + k → e - place ≡ k
+    size-of e k is = omega (arith, is)
+
+    -- a line ended, and it ends the table
+    pub search-found : (after : Input) (e : ℕ) → after ≡ now
+        → Some e ≡ option_map (λ end. place + end) (newline_in (drop place input.ring.items))
+        → is_end_here now.ring.items place (e - place) ≡ true
+        → IsHeld lb la after × IsFound after.ring.items place number × (ra ≡ rb)
+    search-found after e moved is matched =
+        let k = found-from place e (newline_in (drop place now.ring.items)) (told (Some e) is) in
+        let test = subst (λ n. is_end_here now.ring.items place n ≡ true) (size-of e k.0 k.2) matched in
+        let found = sought-found now.ring.items place number k.0 here.sought k.1 test in (
+          subst (IsHeld lb la) (sym moved) here.held,
+          subst (λ (i : Input). IsFound i.ring.items place number)
+              (sym moved) found,
+          here.unfailed,
+        )
+
+    -- it does not
+    pub search-line : (after : Input) (e : ℕ) → after ≡ now
+        → Some e ≡ option_map (λ end. place + end) (newline_in (drop place input.ring.items))
+        → is_end_here now.ring.items place (e - place) ≡ false
+        → IsSearch lb la rb ra after (e + 1) (number + 1) true
+    search-line after e moved is other =
+        let k = found-from place e (newline_in (drop place now.ring.items)) (told (Some e) is) in
+        let test = subst (λ n. is_end_here now.ring.items place n ≡ false) (size-of e k.0 k.2) other in
+        let next : place + k.0 + 1 ≡ e + 1 = (let is = k.2 in omega (arith, is)) in
+        let line = subst (λ n. IsSought now.ring.items n (number + 1)) next
+        (sought-line now.ring.items place number k.0 here.sought k.1 test) in
+        search-moved la ra now after (e + 1) (number + 1) true moved (record {
+          within = here.within;
+          held = here.held;
+          sought = line;
+          clear = λ e. cc;
+          unfailed = here.unfailed;
+        })
+
+    none-here : None ≡ option_map (λ end. place + end) (newline_in (drop place input.ring.items))
+        → newline_in (drop place now.ring.items) ≡ None
+    none-here is = none-from place (newline_in (drop place now.ring.items)) (told None is)
+
+    -- so many bytes have none that none can come
+    pub search-long : None ≡ option_map (λ end. place + end) (newline_in (drop place input.ring.items))
+        → ring_limit ≤ length now.ring.items → HasSearched lb la rb ra now ways.Long
+    search-long none long =
+        let fits = here.within.items in (
+          here.held,
+          sought-long now.ring.items place number here.sought (none-here none) long,
+          omega
+              (arith, long, fits),
+          here.unfailed,
+        )
+
+    pub held-after : (left : Option (List ℕ)) (after : Input) → after ≡ now → Consumes la left [] → IsHeld lb left after
+    held-after left after moved none = subst (IsHeld lb left) (sym moved) (record {
+      taken = here.held.taken;
+      consumed = subst (Consumes lb left) (append-nil now.ring.items) (Consumes-trans _ _ _ _ _ here.held.consumed none);
+    })
+
+    -- a read failed
+    pub search-failed : (left : Option (List ℕ)) (reads : ℕ) (after : Input) → after ≡ now
+        → None ≡ option_map (λ end. place + end) (newline_in (drop place input.ring.items))
+        → length now.ring.items < ring_limit
+        → Consumes la left [] → Rose ra reads → HasSearched lb left rb reads after ways.Failed
+    search-failed left reads after moved none short taken rose = (
+      held-after left after moved taken,
+      subst (λ (i : Input). opening_at 0 1 (lines_in false i.ring.items) ≡ None) (sym moved)
+          (sought-none now.ring.items place number here.sought (none-here none)),
+      subst (λ (i : Input). length i.ring.items < ring_limit) (sym moved) short,
+      (let unfailed = here.unfailed in omega (arith, rose, unfailed)),
+    )
+
+    -- the input ended
+    ended : (left : Option (List ℕ)) (reads : ℕ) (result : TableEnd) → newline_in (drop place now.ring.items) ≡ None
+        → length now.ring.items < ring_limit → Consumes la left [] → IsAtEnd left → reads ≡ ra
+        → IsLooked now.ring.items place number result → HasSearched lb left rb reads now result
+    ended left reads (ways.Found size line) none short taken end unfailed looked = absurd looked
+    ended left reads (ways.Last size line) none short taken end unfailed looked = (
+      held-after left now refl taken,
+      subst (λ n. IsLast now.ring.items size n) (sym looked.1)
+          (subst (λ n. IsLast now.ring.items n number) (sym looked.0)
+          (sought-last now.ring.items place number here.sought none looked.2)),
+      end,
+      unfailed ∙ here.unfailed,
+    )
+    ended left reads ways.Missing none short taken end unfailed looked =
+        (held-after left now refl taken, sought-missing now.ring.items place number here.sought none looked, short, end, unfailed ∙ here.unfailed)
+    ended left reads ways.Long none short taken end unfailed looked = absurd looked
+    ended left reads ways.Failed none short taken end unfailed looked = absurd looked
+
+    pub search-ended : (left : Option (List ℕ)) (reads : ℕ) (after final : Input) (result : TableEnd) → after ≡ now
+        → final ≡ after → None ≡ option_map (λ end. place + end) (newline_in (drop place input.ring.items))
+        → length now.ring.items < ring_limit → Consumes la left [] → IsAtEnd left → reads ≡ ra
+        → IsLooked after.ring.items place number result → HasSearched lb left rb reads final result
+    search-ended left reads after final result moved last none short taken end unfailed looked =
+        let seen = subst (λ (i : Input). IsLooked i.ring.items place number result) moved looked in
+        subst (λ i. HasSearched lb left rb reads i result) (sym (last ∙ moved))
+        (ended left reads result (none-here none) short taken end unfailed seen)
+
+    pub search-clear : (left : Option (List ℕ)) (reads : ℕ) (after : Input) (piece : List ℕ)
+        → HasGrown now after la left ra reads piece
+        → None ≡ option_map (λ end. place + end) (newline_in (drop place input.ring.items))
+        → newline_in piece ≡ None → newline_in (drop place after.ring.items) ≡ None
+    search-clear left reads after piece g none clean =
+        clear-more place now now after la left ra reads piece refl g here.sought.within (none-here none) clean

@@ -1,0 +1,261 @@
+-- What the two loops keep, and how a read and a line keep it.
+use Rattle.std.proofs.Common.{◌≡◌, ℕ, zero, suc, ◌+◌, ◌-◌, ◌≤◌, Bool, true, false, List, [], ◌∷◌, ◌++◌, Option, Some, None, option_map, length, take, drop, refl, sym, ap, subst, ◌∙◌, arith, append-nil, append_assoc, length-append, length-take, length-drop}
+use Rattle.std.proofs.lemmas.List.{drop-append-le, drop-drop, take_all}
+use Rattle.std.proofs.KnownBytes.{Consumes-trans}
+use Rattle.std.specs.Io.KnownBytes.{Consumes}
+use Rattle.run_core.specs.declared.input.Input.{Input}
+use Rattle.run_core.specs.Limits.{ring_limit}
+use Rattle.run_core.specs.Work.{Work}
+use Rattle.run_core.specs.Lines.{lines_in, part_line}
+use Rattle.run_core.specs.Opening.{opening_at}
+use Rattle.run_core.specs.Reading.{IsWithin, HasGrown, newline_in}
+use Rattle.run_core.specs.Run.{Ends, ends}
+use Rattle.run_core.specs.Running.{IsAt, IsSought}
+use Rattle.run_core.specs.Searched.{IsHeld, IsFound, IsLast, is_end_here}
+use Rattle.run_core.proofs.LineCuts.{lines-cut, part-cut, no-line, last-line, no-last}
+use Rattle.run_core.proofs.Newlines.{found-at, none-append}
+use Rattle.run_core.proofs.Openings.{opening-pass, opening-here, opening-long}
+
+-- what the loop over lines keeps beside where it stands
+pub record IsTurn (input : Input) (number : ℕ) (may_end : Bool) (spare reach_before reach_now : Option ℕ) : Type 0 where
+  pub within : IsWithin input
+  pub count : number + length input.ring.items ≤ input.taken + 2
+  pub clear : may_end ≡ false → newline_in (drop 0 input.ring.items) ≡ None
+  pub asks_none : spare ≡ None
+  pub reach_is : reach_now ≡ reach_before
+
+-- what the search keeps
+pub record IsSearch (lb la : Option (List ℕ)) (rb ra : ℕ) (input : Input) (place number : ℕ) (may_end : Bool) : Type 0 where
+  pub within : IsWithin input
+  pub held : IsHeld lb la input
+  pub sought : IsSought input.ring.items place number
+  pub clear : may_end ≡ false → newline_in (drop place input.ring.items) ≡ None
+  pub unfailed : ra ≡ rb
+
+-- the first newline at or after a place, as the ring tells it
+pub found-from : (from e : ℕ) (found : Option ℕ) → Some e ≡ option_map (λ end. from + end) found
+    → (k : ℕ) × (found ≡ Some k) × (e ≡ from + k)
+found-from from e None is = cc
+found-from from e (Some k) is = (k, refl, (let same : e ≡ from + k = cc in same))
+
+pub none-from : (from : ℕ) (found : Option ℕ) → None ≡ option_map (λ end. from + end) found → found ≡ None
+none-from from None is = refl
+none-from from (Some k) is = cc
+
+pub found-first : (e : ℕ) (xs : List ℕ) → Some e ≡ option_map (λ end. 0 + end) (newline_in xs) → newline_in xs ≡ Some e
+found-first e xs is =
+    let k = found-from 0 e (newline_in xs) is in
+    k.1 ∙ ap Some (let same = k.2 in omega (arith, same))
+
+-- the same bytes are held
+pub moved : (work : Work) (table : List ℕ) (stands : List (List ℕ) → Type 0) (number : ℕ) (old now : Ends)
+    (input after : Input) → after ≡ input
+    → IsAt work table stands number old now input → IsAt work table stands number old now after
+moved work table stands number old now input after same a = subst (IsAt work table stands number old now) (sym same) a
+
+pub moved-within : (input after : Input) → after ≡ input → IsWithin input → IsWithin after
+moved-within input after same w = subst IsWithin (sym same) w
+
+-- a read that found the end
+pub at-end-read : (work : Work) (table : List ℕ) (stands : List (List ℕ) → Type 0) (number : ℕ) (old : Ends)
+    (lb la : Option (List ℕ)) (rb ra : ℕ) (written : Option (List ℕ)) (writes : ℕ) (input : Input)
+    → Consumes lb la [] → ra ≡ rb → IsAt work table stands number old (ends lb rb written writes) input
+    → IsAt work table stands number old (ends la ra written writes) input
+at-end-read work table stands number old lb la rb ra written writes input none same a = record {
+  past = a.past;
+  start = a.start;
+  text = a.text;
+  so_far = a.so_far;
+  stands_for = a.stands_for;
+  fault = a.fault;
+  gives = a.gives;
+  place = a.place;
+  taken = a.taken;
+  consumed = subst (Consumes old.left la) (append-nil a.text) (Consumes-trans _ _ _ _ _ a.consumed none);
+  written = a.written;
+  reads = same ∙ a.reads;
+  writes = a.writes;
+}
+
+pub count-more : (number limit : ℕ) (input now after : Input) (lb la : Option (List ℕ)) (rb ra : ℕ) (piece : List ℕ)
+    → now ≡ input → HasGrown now after lb la rb ra piece
+    → number + length input.ring.items ≤ input.taken + limit → number + length after.ring.items ≤ after.taken + limit
+count-more number limit input now after lb la rb ra piece same g count =
+    let items = ap (λ (i : Input). length i.ring.items) same in
+    let taken = ap (λ (i : Input). i.taken) same in
+    let size = ap length g.items ∙ length-append now.ring.items piece in
+    let all = g.taken in
+    omega (arith, items, taken, size, all, count)
+
+pub clear-more : (place : ℕ) (input now after : Input) (lb la : Option (List ℕ)) (rb ra : ℕ) (piece : List ℕ)
+    → now ≡ input → HasGrown now after lb la rb ra piece → place ≤ length input.ring.items
+    → newline_in (drop place input.ring.items) ≡ None → newline_in piece ≡ None
+    → newline_in (drop place after.ring.items) ≡ None
+clear-more place input now after lb la rb ra piece same g within none piece_none =
+    let items : after.ring.items ≡ input.ring.items ++ piece = g.items ∙ ap (λ (i : Input). i.ring.items ++ piece) same in
+    ap (λ xs. newline_in (drop place xs)) items ∙ ap newline_in (drop-append-le place input.ring.items piece within)
+    ∙ none-append (drop place input.ring.items) piece none piece_none
+
+pub count-less : (number limit : ℕ) (input now after : Input) (e : ℕ) → now ≡ input
+    → newline_in now.ring.items ≡ Some e → after.ring.items ≡ drop (e + 1) now.ring.items → after.taken ≡ now.taken
+    → number + length input.ring.items ≤ input.taken + limit → number + 1 + length after.ring.items ≤ after.taken + limit
+count-less number limit input now after e same found dropped taken count =
+    let items = ap (λ (i : Input). length i.ring.items) same in
+    let all = ap (λ (i : Input). i.taken) same in
+    let size = ap length dropped ∙ length-drop (e + 1) now.ring.items in
+    let at = found-at e now.ring.items found in
+    let a = at.0 in
+    let b = at.1 in
+    omega (arith, items, all, size, taken, count, a, b)
+
+pub within-less : (input now after : Input) (count : ℕ) → now ≡ input → after.ring.items ≡ drop count now.ring.items
+    → after.ring.capacity ≡ now.ring.capacity → after.taken ≡ now.taken
+    → IsWithin input → IsWithin after
+within-less input now after count same dropped capacity taken w =
+    let items = ap (λ (i : Input). length i.ring.items) same in
+    let all = ap (λ (i : Input). i.taken) same in
+    let size = ap length dropped ∙ length-drop count now.ring.items in
+    let a = w.items in
+    let b = w.held in
+    let d = w.taken in record {
+      capacity = capacity ∙ ap (λ (i : Input). i.ring.capacity) same ∙ w.capacity;
+      items = omega (arith, items, size, a);
+      held = omega (arith, items, all, size, taken, b);
+      taken = omega (arith, all, taken, d);
+    }
+
+-- ---- the search
+
+pub sought-start : (text : List ℕ) → text ≡ [] → IsSought text 0 1
+sought-start text none = record
+    { opened = λ ended more. refl; part = λ ended more. refl; within = omega arith; count = omega arith }
+
+-- after a read
+pub sought-more : (text piece : List ℕ) (place number : ℕ) → IsSought text place number
+    → IsSought (text ++ piece) place number
+sought-more text piece place number s =
+    let rest : (more : List ℕ) → drop place text ++ (piece ++ more) ≡ drop place (text ++ piece) ++ more =
+    (λ more. sym (append_assoc (drop place text) piece more)
+    ∙ ap (λ xs. xs ++ more) (sym (drop-append-le place text piece s.within))) in
+    let size = length-append text piece in
+    let within = s.within in record {
+      opened = λ ended more. ap (λ xs. opening_at 0 1 (lines_in ended xs)) (append_assoc text piece more)
+          ∙ s.opened ended (piece ++ more)
+          ∙ ap (λ xs. opening_at place number (lines_in ended xs)) (rest more);
+      part = λ ended more. ap (part_line ended) (append_assoc text piece more) ∙ s.part ended (piece ++ more)
+          ∙ ap (part_line ended) (rest more);
+      within = omega (arith, size, within);
+      count = s.count;
+    }
+
+-- the line from the place on: its bytes and what comes after it
+rest-drop : (text more : List ℕ) (place k : ℕ) → drop (k + 1) (drop place text) ++ more ≡ drop (place + k + 1) text ++ more
+rest-drop text more place k =
+    let same : place + (k + 1) ≡ place + k + 1 = omega arith in
+    ap (λ xs. xs ++ more) (drop-drop (k + 1) place text ∙ ap (λ n. drop n text) same)
+
+-- after a line that does not end the table
+pub sought-line : (text : List ℕ) (place number k : ℕ) → IsSought text place number
+    → newline_in (drop place text) ≡ Some k → is_end_here text place k ≡ false → IsSought text (place + k + 1) (number + 1)
+sought-line text place number k s found other =
+    let at = found-at k (drop place text) found in
+    let size = length-drop place text in
+    let line = length-take k (drop place text) in
+    let a = at.0 in
+    let b = at.1 in
+    let within = s.within in
+    let count = s.count in
+    let next : place + (length (take k (drop place text)) + 1) ≡ place + k + 1 = omega (arith, a, b, line) in record {
+      opened = λ ended more. s.opened ended more
+          ∙ ap (opening_at place number) (lines-cut ended k (drop place text) more found)
+          ∙ opening-pass place number (take k (drop place text))
+          (lines_in ended (drop (k + 1) (drop place text) ++ more)) other
+          ∙ ap (λ n. opening_at n (number + 1) (lines_in ended (drop (k + 1) (drop place text) ++ more))) next
+          ∙ ap (λ xs. opening_at (place + k + 1) (number + 1) (lines_in ended xs)) (rest-drop text more place k);
+      part = λ ended more. s.part ended more ∙ part-cut ended k (drop place text) more found
+          ∙ ap (part_line ended) (rest-drop text more place k);
+      within = omega (arith, a, b, size, within);
+      count = omega (arith, count);
+    }
+
+-- at a line that ends it
+pub sought-found : (text : List ℕ) (place number k : ℕ) → IsSought text place number
+    → newline_in (drop place text) ≡ Some k → is_end_here text place k ≡ true → IsFound text place number
+sought-found text place number k s found matched =
+    let at = found-at k (drop place text) found in
+    let size = length-drop place text in
+    let line = length-take k (drop place text) in
+    let three = (opening-here place number (take k (drop place text)) [] matched).1 in
+    let a = at.0 in
+    let b = at.1 in
+    let within = s.within in
+    let four : place + k + 1 ≡ place + 4 = omega (arith, a, b, line, three) in
+    let rest : (more : List ℕ) → drop (k + 1) (drop place text) ++ more ≡ drop (place + 4) text ++ more =
+    (λ more. rest-drop text more place k ∙ ap (λ n. drop n text ++ more) four) in record {
+      opened = λ ended more. s.opened ended more
+          ∙ ap (opening_at place number) (lines-cut ended k (drop place text) more found)
+          ∙ (opening-here place number (take k (drop place text))
+          (lines_in ended (drop (k + 1) (drop place text) ++ more)) matched).0
+          ∙ ap (λ xs. Some (record { size = place; number = number; later = lines_in ended xs })) (rest more);
+      part = λ ended more. s.part ended more ∙ part-cut ended k (drop place text) more found
+          ∙ ap (part_line ended) (rest more);
+      within = omega (arith, a, b, size, within, four);
+      count = s.count;
+    }
+
+-- so many bytes without it
+pub sought-long : (text : List ℕ) (place number : ℕ) → IsSought text place number
+    → newline_in (drop place text) ≡ None → ring_limit ≤ length text
+    → (ended : Bool) (more : List ℕ) → opening_at 0 1 (lines_in ended (text ++ more)) ≡ None
+sought-long text place number s none long ended more =
+    let size = length-drop place text in
+    let within = s.within in
+    s.opened ended more ∙ opening-long place number ended (drop place text) more none (omega (arith, size, within, long))
+
+whole-opened : (ended : Bool) (text : List ℕ) (place number : ℕ) → IsSought text place number
+    → opening_at 0 1 (lines_in ended text) ≡ opening_at place number (lines_in ended (drop place text))
+whole-opened ended text place number s =
+    ap (λ xs. opening_at 0 1 (lines_in ended xs)) (sym (append-nil text)) ∙ s.opened ended []
+    ∙ ap (λ xs. opening_at place number (lines_in ended xs)) (append-nil (drop place text))
+
+-- a read failed
+pub sought-none : (text : List ℕ) (place number : ℕ) → IsSought text place number
+    → newline_in (drop place text) ≡ None → opening_at 0 1 (lines_in false text) ≡ None
+sought-none text place number s none = whole-opened false text place number s
+    ∙ ap (opening_at place number) (no-line (drop place text) none)
+
+-- the input ended
+last-all : (text : List ℕ) (place : ℕ) → take (length text - place) (drop place text) ≡ drop place text
+last-all text place = take_all (length text - place) (drop place text)
+    (let size = length-drop place text in omega (arith, size))
+
+pub sought-last : (text : List ℕ) (place number : ℕ) → IsSought text place number
+    → newline_in (drop place text) ≡ None → is_end_here text place (length text - place) ≡ true → IsLast text place number
+sought-last text place number s none matched =
+    let line = take (length text - place) (drop place text) in
+    let here = opening-here place number line [] matched in
+    let three = here.1 in
+    let same = ap length (last-all text place) in record {
+      opened = whole-opened true text place number s
+          ∙ ap (opening_at place number) (last-line (drop place text) none (omega (arith, three, same))
+          ∙ ap (λ l. l ∷ []) (sym (last-all text place))) ∙ here.0;
+      within = s.within;
+      count = s.count;
+    }
+
+missing-by : (text : List ℕ) (place number : ℕ) (size : ℕ) → size ≡ length (drop place text)
+    → IsSought text place number → newline_in (drop place text) ≡ None
+    → is_end_here text place (length text - place) ≡ false
+    → opening_at 0 1 (lines_in true text) ≡ None
+missing-by text place number zero empty s none other = whole-opened true text place number s
+    ∙ ap (opening_at place number) (no-last (drop place text) (sym empty))
+missing-by text place number (suc size) some s none other =
+    whole-opened true text place number s
+    ∙ ap (opening_at place number) (last-line (drop place text) none (omega (arith, some))
+    ∙ ap (λ l. l ∷ []) (sym (last-all text place)))
+    ∙ opening-pass place number (take (length text - place) (drop place text)) [] other
+
+pub sought-missing : (text : List ℕ) (place number : ℕ) → IsSought text place number
+    → newline_in (drop place text) ≡ None → is_end_here text place (length text - place) ≡ false
+    → opening_at 0 1 (lines_in true text) ≡ None
+sought-missing text place number s none other = missing-by text place number (length (drop place text)) refl s none other

@@ -1,0 +1,13 @@
+pub mod Limits
+pub mod Work
+pub mod Lines
+pub mod Opening
+pub mod Acted
+pub mod Status
+pub mod Run
+pub mod Laws
+pub mod Actor
+pub mod Reading
+pub mod Acting
+pub mod Running
+pub mod Searched

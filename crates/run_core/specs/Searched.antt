@@ -1,0 +1,63 @@
+-- What the search for the line that ends the table leaves.
+use Rattle.std.specs.Prelude.{◌≡◌, ℕ, ◌+◌, ◌-◌, ◌<◌, ◌≤◌, Bool, true, false, ◌&&◌, nat_le, List, [], ◌++◌, length, take, drop, Option, Some, None}
+use Rattle.std.specs.Io.KnownBytes.{Consumes, IsAtEnd}
+use Rattle.fisb_wire.specs.Faults.{Rose}
+use Rattle.run_core.specs.declared.input.Input.{Input}
+use Rattle.run_core.specs.declared.search.TableEnd.{TableEnd}
+use Rattle.run_core.specs.declared.search.TableEnd.TheVariants.{Found, Last, Missing, Long, Failed}
+use Rattle.run_core.specs.Limits.{table_limit, ring_limit}
+use Rattle.run_core.specs.Lines.{lines_in, part_line}
+use Rattle.run_core.specs.Opening.{opening_at, is_table_end}
+
+-- the line that begins at a place and has so many bytes ends the table
+abbrev pub is_end_here : List ℕ → ℕ → ℕ → Bool
+is_end_here bytes place size = nat_le place table_limit && is_table_end (take size (drop place bytes))
+
+-- all that was taken is in the ring
+pub record IsHeld (lb la : Option (List ℕ)) (input : Input) : Type 0 where
+  pub taken : input.taken ≡ length input.ring.items
+  pub consumed : Consumes lb la input.ring.items
+
+-- the table has so many bytes, whatever comes after the bytes taken
+pub record IsFound (text : List ℕ) (size number : ℕ) : Type 0 where
+  pub opened : (ended : Bool) (more : List ℕ) → opening_at 0 1 (lines_in ended (text ++ more))
+      ≡ Some (record {
+        size = size;
+        number = number;
+        later = lines_in ended (drop (size + 4) text ++ more);
+      })
+  pub part : (ended : Bool) (more : List ℕ) → part_line ended (text ++ more)
+      ≡ part_line ended (drop (size + 4) text ++ more)
+  pub within : size + 4 ≤ length text
+  pub count : number ≤ size + 1
+
+-- the last line, which has no newline, ends the table
+pub record IsLast (text : List ℕ) (size number : ℕ) : Type 0 where
+  pub opened : opening_at 0 1 (lines_in true text)
+      ≡ Some (record { size = size; number = number; later = [] })
+  pub within : size ≤ length text
+  pub count : number ≤ size + 1
+
+abbrev pub HasSearched : Option (List ℕ) → Option (List ℕ) → ℕ → ℕ → Input → TableEnd → Type 0
+HasSearched lb la rb ra input (Found size number) =
+    IsHeld lb la input × IsFound input.ring.items size number × (ra ≡ rb)
+HasSearched lb la rb ra input (Last size number) =
+    IsHeld lb la input × IsLast input.ring.items size number × IsAtEnd la × (ra ≡ rb)
+HasSearched lb la rb ra input Missing = IsHeld lb la input
+    × (opening_at 0 1 (lines_in true input.ring.items) ≡ None)
+    × (length input.ring.items < ring_limit) × IsAtEnd la × (ra ≡ rb)
+HasSearched lb la rb ra input Long = IsHeld lb la input
+    × ((ended : Bool) (more : List ℕ) → opening_at 0 1 (lines_in ended (input.ring.items ++ more)) ≡ None)
+    × (length input.ring.items ≡ ring_limit) × (ra ≡ rb)
+HasSearched lb la rb ra input Failed = IsHeld lb la input
+    × (opening_at 0 1 (lines_in false input.ring.items) ≡ None)
+    × (length input.ring.items < ring_limit) × Rose rb ra
+
+-- at the end of the input the bytes from a place on, which has the number, are its last line
+abbrev pub IsLooked : List ℕ → ℕ → ℕ → TableEnd → Type 0
+IsLooked bytes place number (Found size line) = ⊥
+IsLooked bytes place number (Last size line) = (size ≡ place) × (line ≡ number)
+    × (is_end_here bytes place (length bytes - place) ≡ true)
+IsLooked bytes place number Missing = is_end_here bytes place (length bytes - place) ≡ false
+IsLooked bytes place number Long = ⊥
+IsLooked bytes place number Failed = ⊥

@@ -1,0 +1,92 @@
+//! Acts on the lines after the table, one after another.
+ghost use Rattle.std.specs.Prelude.{◌≡◌, ℕ, ◌+◌, ◌≤◌, ◌<◌, List, length, Option, None};
+ghost use Rattle.std.specs.Io.KnownBytes.{IsAtEnd};
+ghost use Rattle.run_core.specs.Reading.{IsWithin, newline_in};
+ghost use Rattle.run_core.specs.Run.{Ends, ends, HasRun, task_of};
+ghost use Rattle.run_core.specs.Running.{IsAt};
+
+use crate::acting::{LINE_LIMIT, act_on_front, refuse};
+use crate::actor::Actor;
+use crate::input::{Input, Read};
+use crate::status::Status;
+use fisb_wire::{Sink, Source};
+use script_core::Reason;
+use std::alloc::Global;
+
+/// Acts on the lines in the ring and on those that are still to come, of which the first has the
+/// number.
+pub(crate) fn act_on_lines<A: Actor, S: Source, K: Sink>(
+    alloc: Global,
+    mut actor: A,
+    mut number: u64,
+    mut input: Input,
+    source: &mut S,
+    sink: &mut K,
+) -> Status
+    requires spare { K.spare sink.old ≡ None }
+    requires within { IsWithin input }
+    requires count { number + length input.ring.items ≤ input.taken + 2 }
+    ensures ran { (old : Ends) (table : List ℕ)
+        → IsAt A.work table (λ past. A.stands table past actor) number old
+        (ends (S.left source.old) (S.faults source.old) (K.written sink.old) (K.faults sink.old))
+        input
+        → HasRun (task_of A.work) old
+        (ends (S.left source.new) (S.faults source.new) (K.written sink.new) (K.faults sink.new))
+        result }
+    ensures spare { K.spare sink.new ≡ None }
+    ensures reach { K.reach sink.new ≡ K.reach sink.old }
+{
+    let mut may_end = true;
+    loop {
+        if let Some(end) = input.next_end(0, may_end) {
+            let bytes = input.ring.make_contiguous();
+            if let Err(status) = act_on_front(alloc, &mut actor, number, bytes, end, sink) {
+                return status;
+            }
+            input.drop_front(end + 1);
+            number += 1;
+            may_end = true;
+            continue;
+        }
+        if input.ring.len() > LINE_LIMIT {
+            return refuse::<A, K>(alloc, number, Reason::LineLong, sink);
+        }
+        match input.read_on(source) {
+            Read::Line => may_end = true,
+            Read::More => may_end = false,
+            Read::End => return act_on_last(alloc, actor, number, input, sink),
+            Read::Failed => return Status::ReadFault,
+            Read::Full => return Status::TooLong,
+        }
+    }
+}
+
+/// Acts on the last line, which has no newline, unless nothing stands there.
+fn act_on_last<A: Actor, K: Sink>(
+    alloc: Global,
+    mut actor: A,
+    number: u64,
+    mut input: Input,
+    sink: &mut K,
+) -> Status
+    requires spare { K.spare sink.old ≡ None }
+    requires within { IsWithin input }
+    ensures ran { (old : Ends) (left : Option (List ℕ)) (reads : ℕ) (table : List ℕ)
+        → IsAt A.work table (λ past. A.stands table past actor) number old
+        (ends left reads (K.written sink.old) (K.faults sink.old)) input
+        → IsAtEnd left → newline_in input.ring.items ≡ None
+        → HasRun (task_of A.work) old (ends left reads (K.written sink.new) (K.faults sink.new))
+        result }
+    ensures spare { K.spare sink.new ≡ None }
+    ensures reach { K.reach sink.new ≡ K.reach sink.old }
+{
+    let end = input.ring.len();
+    if end == 0 {
+        return Status::Done;
+    }
+    let bytes = input.ring.make_contiguous();
+    match act_on_front(alloc, &mut actor, number, bytes, end, sink) {
+        Ok(()) => Status::Done,
+        Err(status) => status,
+    }
+}

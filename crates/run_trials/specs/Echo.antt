@@ -1,0 +1,23 @@
+-- A small command: it gives back each line that begins with a plus sign, acts on an empty one, and refuses
+-- every other.
+use Rattle.std.specs.Prelude.{ℕ, ◌==◌, if◌then◌else◌, List, [], ◌∷◌, ◌++◌, Option, Some, None, Result, Ok, Err}
+use Rattle.script_core.specs.declared.reason.Reason.{Reason}
+use Rattle.script_core.specs.declared.reason.Reason.TheVariants.{Syntax}
+use Rattle.script_core.specs.Refusal.{refusal_text}
+use Rattle.run_core.specs.Work.{Work}
+
+-- what a line gives, if it is not refused
+abbrev pub echo_text : List ℕ → Option (List ℕ)
+echo_text [] = Some []
+echo_text (b ∷ line) = if b == 43 then Some ((b ∷ line) ++ 10 ∷ []) else None
+
+abbrev pub told_text : Option (List ℕ) → Result (List ℕ) Reason
+told_text None = Err Syntax
+told_text (Some text) = Ok text
+
+abbrev pub echo_work : Work
+echo_work = record {
+  opened = λ table. None;
+  told = λ table past line. told_text (echo_text line);
+  refusal = refusal_text;
+}

@@ -1,0 +1,50 @@
+//! A small command.
+ghost use Rattle.std.specs.Prelude.{◌≡◌, IfOk};
+ghost use Rattle.run_trials.specs.Echo.{echo_text, echo_work};
+
+use fisb_wire::Bytes;
+use run_core::{Actor, Stop};
+use script_core::{Reason, print_refused};
+use std::alloc::{AllocError, Global};
+
+/// Gives back each line that begins with a plus sign, acts on an empty one, and refuses every other.
+#[derive(Drop)]
+pub struct Echo;
+
+impl Actor for Echo {
+    ghost work = { echo_work };
+
+    ghost stands = { λ table past echo. Unit {0} };
+
+    fn new(_alloc: Global, _table: &[u8]) -> Result<Echo, Stop> {
+        Ok(Echo)
+    }
+
+    fn act(&mut self, alloc: Global, line: &[u8]) -> Result<Bytes, Stop> {
+        match echo_line(alloc, line) {
+            Ok(Some(text)) => Ok(text),
+            Ok(None) => Err(Stop::Refused(Reason::Syntax)),
+            Err(AllocError) => Err(Stop::NoMemory),
+        }
+    }
+
+    fn refusal(alloc: Global, line: u64, reason: &Reason) -> Result<Bytes, AllocError> {
+        print_refused(alloc, line, reason)
+    }
+}
+
+// What a line gives, if it is not refused.
+fn echo_line(alloc: Global, line: &[u8]) -> Result<Option<Bytes>, AllocError>
+    ensures { IfOk result (λ text. text ≡ echo_text line.now) }
+{
+    let mut text = Vec::new(alloc);
+    match line {
+        [] => {}
+        [b'+', ..] => {
+            text.extend_from_slice(line)?;
+            text.push(b'\n')?;
+        }
+        _ => return Ok(None),
+    }
+    Ok(Some(Bytes::of(text)))
+}

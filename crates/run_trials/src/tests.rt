@@ -1,0 +1,216 @@
+ghost use Rattle.std.specs.Prelude.{◌<◌};
+
+use crate::Echo;
+use fisb_wire::{Bytes, FaithfulSource, MemorySink, MemorySource, Numbers, PieceSource, Source};
+use run_core::{Status, run};
+use script_core::Reason;
+use std::alloc::{AllocError, Global};
+use std::test::Fail;
+
+const SCRIPT: &[u8] = b"---\n+one\n\n+two and three\n+four";
+
+const OUTPUT: &[u8] = b"+one\n+two and three\n+four\n";
+
+fn bytes(alloc: Global, items: &[u8]) -> Result<Bytes, AllocError> {
+    Ok(Bytes::of(Vec::from_slice(alloc, items)?))
+}
+
+fn numbers(alloc: Global, items: &[u32]) -> Result<Numbers, AllocError> {
+    Ok(Numbers::of(Vec::from_slice(alloc, items)?))
+}
+
+// `before`, the byte so many times, and `after`.
+fn filled(
+    alloc: Global,
+    before: &[u8],
+    byte: u8,
+    count: usize,
+    after: &[u8],
+) -> Result<Bytes, AllocError> {
+    let mut text = Vec::from_slice(alloc, before)?;
+    text.extend_from_slice(vec![in alloc; byte; count]?.as_slice())?;
+    text.extend_from_slice(after)?;
+    Ok(Bytes::of(text))
+}
+
+// A source that gives the bytes in reads of this size, and after so many of them as the room takes.
+fn in_pieces(
+    alloc: Global,
+    input: Bytes,
+    size: u32,
+    count: usize,
+) -> Result<PieceSource, AllocError>
+    requires { 0 < size }
+{
+    let sizes = vec![in alloc; size; count]?;
+    Ok(PieceSource::new(input, Numbers::of(sizes)))
+}
+
+// The status and the output of a run whose writes do not fail.
+fn run_over<S: Source>(alloc: Global, source: &mut S) -> Result<(Status, Vec<u8>), AllocError> {
+    let mut sink = MemorySink::new(alloc, 1024, numbers(alloc, &[])?)?;
+    let status = run::<Echo, S, MemorySink>(alloc, source, &mut sink);
+    Ok((status, Vec::from_slice(alloc, sink.taken())?))
+}
+
+fn status_of(alloc: Global, input: Bytes) -> Result<Status, AllocError> {
+    let mut source = FaithfulSource::new(input);
+    Ok(run_over(alloc, &mut source)?.0)
+}
+
+fn refused(line: u64, reason: Reason) -> Status {
+    Status::Refused { line, reason }
+}
+
+#[test]
+fn a_failed_read_ends_the_run_after_the_whole_lines(rt: HostRuntime) -> Result<(), Fail> {
+    let rows = [
+        (Status::ReadFault, b"".as_slice()),
+        (Status::ReadFault, b"+one\n".as_slice()),
+        (Status::ReadFault, b"+one\n+two and three\n".as_slice()),
+        (Status::Done, OUTPUT),
+    ];
+    for (k, (status, output)) in rows.iter().enumerate() {
+        let fails = numbers(rt.alloc(), &[k as u32])?;
+        let mut source = MemorySource::new(bytes(rt.alloc(), SCRIPT)?, fails, 16);
+        let ran = run_over(rt.alloc(), &mut source)?;
+        assert_eq!(rt; ran.0, *status);
+        assert_eq!(rt; ran.1.as_slice(), *output);
+    }
+    Ok(())
+}
+
+#[test]
+fn a_failed_write_ends_the_run(rt: HostRuntime) -> Result<(), Fail> {
+    let rows = [
+        (Status::WriteFault, b"".as_slice()),
+        (Status::WriteFault, b"+one\n".as_slice()),
+        (Status::WriteFault, b"+one\n+two and three\n".as_slice()),
+        (Status::Done, OUTPUT),
+    ];
+    for (k, (status, output)) in rows.iter().enumerate() {
+        let mut source = FaithfulSource::new(bytes(rt.alloc(), SCRIPT)?);
+        let mut sink = MemorySink::new(rt.alloc(), 99, numbers(rt.alloc(), &[k as u32])?)?;
+        let ran = run::<Echo, FaithfulSource, MemorySink>(rt.alloc(), &mut source, &mut sink);
+        assert_eq!(rt; ran, *status);
+        assert_eq!(rt; sink.taken(), *output);
+    }
+    Ok(())
+}
+
+#[test]
+fn a_script_may_be_cut_after_each_byte(rt: HostRuntime) -> Result<(), Fail> {
+    for end in 0..=SCRIPT.len() {
+        let mut source = FaithfulSource::new(bytes(rt.alloc(), SCRIPT.split_at(end).0)?);
+        let ran = run_over(rt.alloc(), &mut source)?;
+        if end < 3 {
+            assert_eq!(rt; ran.0, refused(1, Reason::NoTable));
+            assert_eq!(rt; ran.1.as_slice(), b"refused 1 notable\n".as_slice());
+        } else {
+            assert_eq!(rt; ran.0, Status::Done);
+        }
+    }
+    Ok(())
+}
+
+#[test]
+fn the_sizes_of_the_reads_change_nothing(rt: HostRuntime) -> Result<(), Fail> {
+    let mut by_one = in_pieces(rt.alloc(), bytes(rt.alloc(), SCRIPT)?, 1, 31)?;
+    let ran = run_over(rt.alloc(), &mut by_one)?;
+    assert_eq!(rt; ran.0, Status::Done);
+    assert_eq!(rt; ran.1.as_slice(), OUTPUT);
+    let mut by_seven = in_pieces(rt.alloc(), bytes(rt.alloc(), SCRIPT)?, 7, 31)?;
+    let ran = run_over(rt.alloc(), &mut by_seven)?;
+    assert_eq!(rt; ran.0, Status::Done);
+    assert_eq!(rt; ran.1.as_slice(), OUTPUT);
+    let mut at_once = in_pieces(rt.alloc(), bytes(rt.alloc(), SCRIPT)?, 1000, 31)?;
+    let ran = run_over(rt.alloc(), &mut at_once)?;
+    assert_eq!(rt; ran.0, Status::Done);
+    assert_eq!(rt; ran.1.as_slice(), OUTPUT);
+    Ok(())
+}
+
+#[test]
+fn nothing_is_read_after_a_refused_line(rt: HostRuntime) -> Result<(), Fail> {
+    let input = filled(rt.alloc(), b"---\nbad\n", b'#', 8000, b"")?;
+    let mut source = in_pieces(rt.alloc(), input, 1, 8008)?;
+    let ran = run_over(rt.alloc(), &mut source)?;
+    assert_eq!(rt; ran.0, refused(2, Reason::Syntax));
+    assert_eq!(rt; ran.1.as_slice(), b"refused 2 syntax\n".as_slice());
+    assert_eq!(rt; source.rest().len(), 8000);
+    Ok(())
+}
+
+#[test]
+fn lines_and_tables_have_a_greatest_length(rt: HostRuntime) -> Result<(), Fail> {
+    let rows = [
+        (
+            b"---\n".as_slice(),
+            b'a',
+            32_769,
+            b"".as_slice(),
+            refused(2, Reason::LineLong),
+        ),
+        (
+            b"---\n".as_slice(),
+            b'a',
+            32_769,
+            b"\n".as_slice(),
+            refused(2, Reason::LineLong),
+        ),
+        (
+            b"---\n".as_slice(),
+            b'a',
+            32_768,
+            b"\n".as_slice(),
+            refused(2, Reason::Syntax),
+        ),
+        (
+            b"".as_slice(),
+            b'#',
+            65_541,
+            b"".as_slice(),
+            refused(1, Reason::TableLong),
+        ),
+        (
+            b"".as_slice(),
+            b'#',
+            65_540,
+            b"".as_slice(),
+            refused(1, Reason::NoTable),
+        ),
+        (
+            b"".as_slice(),
+            b'#',
+            65_535,
+            b"\n---\n".as_slice(),
+            Status::Done,
+        ),
+        (
+            b"".as_slice(),
+            b'#',
+            65_535,
+            b"\n---".as_slice(),
+            Status::Done,
+        ),
+        (
+            b"".as_slice(),
+            b'#',
+            65_536,
+            b"\n---\n".as_slice(),
+            refused(1, Reason::TableLong),
+        ),
+        (
+            b"".as_slice(),
+            b'#',
+            65_536,
+            b"\n---".as_slice(),
+            refused(1, Reason::NoTable),
+        ),
+    ];
+    for (before, byte, count, after, status) in rows {
+        let input = filled(rt.alloc(), before, byte, count, after)?;
+        assert_eq!(rt; status_of(rt.alloc(), input)?, status);
+    }
+    Ok(())
+}
