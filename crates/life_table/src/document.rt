@@ -12,7 +12,7 @@ use crate::entries::{integer_at, judged_radar, judged_text, member_count};
 use crate::fault::{RowFault, TableFault};
 use crate::rows::{KeptRadar, KeptText};
 use crate::table::LifeTable;
-use std::alloc::Global;
+use std::alloc::{AllocError, Global};
 use toml::Value;
 
 const TEXT_ROWS: usize = 64;
@@ -69,11 +69,10 @@ fn table_of_tree(alloc: Global, tree: &Value) -> Result<LifeTable, TableFault>
         Ok(radars) => radars,
         Err(fault) => return Err(fault),
     };
-    Ok(LifeTable {
-        late: head.late,
-        texts,
-        radars,
-    })
+    match LifeTable::of_rows(alloc, head.late, texts, radars) {
+        Ok(table) => Ok(table),
+        Err(AllocError) => Err(TableFault::NoMemory),
+    }
 }
 
 /// The document's own entries, or its first fault.

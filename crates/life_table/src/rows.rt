@@ -67,20 +67,6 @@ impl KeptText {
             form,
         })
     }
-
-    /// The same row again.
-    pub(crate) fn copy(&self, alloc: Global) -> Result<KeptText, AllocError>
-        ensures { IfOk result (λ copy. text_view copy ≡ text_view self.now) }
-    {
-        KeptText::new(
-            alloc,
-            self.word.as_str(),
-            self.kind.as_str(),
-            self.words,
-            self.life,
-            self.form,
-        )
-    }
 }
 
 /// A row of reports as a document writes it.
@@ -160,15 +146,4 @@ fn greater(best: Option<u64>, life: u64) -> u64
     ensures { result ≡ greater best life }
 {
     best.unwrap_or(0).max(life)
-}
-
-/// The same rows again.
-pub(crate) fn copied_texts(alloc: Global, rows: &[KeptText]) -> Result<Vec<KeptText>, AllocError>
-    ensures { IfOk result (λ copies. map text_view copies.items ≡ map text_view rows.now) }
-{
-    let mut copies = Vec::with_capacity(alloc, rows.len())?;
-    for row in rows {
-        copies.push(row.copy(alloc)?)?;
-    }
-    Ok(copies)
 }

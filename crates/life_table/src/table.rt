@@ -2,26 +2,27 @@
 ghost use Rattle.std.specs.Prelude.{◌≡◌, ◌≤◌, IfOk, IfSome, option_map, map};
 ghost use Rattle.life_table.specs.LifeTable as spec;
 ghost use Rattle.life_table.specs.Rules.{IsTable};
-ghost use Rattle.life_table.specs.Views.{text_view, radar_view};
+ghost use Rattle.life_table.specs.Views.{text_view, radar_view, table_of};
 
 use crate::rows::{
-    KeptRadar, KeptText, RadarRow, TextRow, copied_texts, greatest_radar_life, greatest_text_life,
-    radar_of, text_of,
+    KeptRadar, KeptText, RadarRow, TextRow, greatest_radar_life, greatest_text_life, radar_of,
+    text_of,
 };
 use fisb_time::TimeForm;
 use std::alloc::{AllocError, Global};
 use std::marker::Model;
+use std::rc::Rc;
 
 // The product of reports.
 const REPORTS: u16 = 413;
 
 /// How long weather lives, and in which form its time is sent, by type of report and by radar product. Every table keeps
-/// the rules of the format.
+/// the rules of the format. Copies share their rows.
 #[derive(Debug, Drop)]
 pub struct LifeTable {
     pub(crate) late: u64,
-    pub(crate) texts: Vec<KeptText>,
-    pub(crate) radars: Vec<KeptRadar>,
+    pub(crate) texts: Rc<Vec<KeptText>>,
+    pub(crate) radars: Rc<Vec<KeptRadar>>,
 }
 
 impl Model for LifeTable {
@@ -33,9 +34,9 @@ impl Model for LifeTable {
     ghost use Rattle.life_table.specs.Rules.{IsTable};
     ghost use Rattle.life_table.specs.Views.{text_view, radar_view, table_of};
 
-    ghost view = { λ t. table_of t.late t.texts.items t.radars.items };
+    ghost view = { λ t. table_of t.late t.texts.value.items t.radars.value.items };
 
-    ghost invariant = { λ t. IsTable (table_of t.late t.texts.items t.radars.items) };
+    ghost invariant = { λ t. IsTable (table_of t.late t.texts.value.items t.radars.value.items) };
 }
 
 impl LifeTable {
@@ -90,14 +91,14 @@ impl LifeTable {
         }
     }
 
-    /// The same table again.
+    /// The same table again: it lends the same rows.
     pub fn copy(&self, alloc: Global) -> Result<LifeTable, AllocError>
         ensures { IfOk result (λ copy. copy ≡ self.now) }
     {
         Ok(LifeTable {
             late: self.late,
-            texts: copied_texts(alloc, self.texts.as_slice())?,
-            radars: Vec::from_slice(alloc, self.radars.as_slice())?,
+            texts: self.texts.clone()?,
+            radars: self.radars.clone()?,
         })
     }
 
@@ -105,10 +106,27 @@ impl LifeTable {
     pub fn default_table(alloc: Global) -> Result<LifeTable, AllocError>
         ensures { IfOk result (λ table. table ≡ spec.default_table) }
     {
+        let texts = default_texts(alloc)?;
+        let radars = default_radars(alloc)?;
+        LifeTable::of_rows(alloc, 600, texts, radars)
+    }
+
+    /// The table of these rows, which keep the rules.
+    pub(crate) fn of_rows(
+        alloc: Global,
+        late: u64,
+        texts: Vec<KeptText>,
+        radars: Vec<KeptRadar>,
+    ) -> Result<LifeTable, AllocError>
+        requires { IsTable (table_of late texts.items radars.items) }
+        ensures { IfOk result (λ table. table ≡ table_of late texts.items radars.items) }
+    {
+        let texts = Rc::new(alloc, texts)?;
+        let radars = Rc::new(alloc, radars)?;
         Ok(LifeTable {
-            late: 600,
-            texts: default_texts(alloc)?,
-            radars: default_radars(alloc)?,
+            late,
+            texts,
+            radars,
         })
     }
 }

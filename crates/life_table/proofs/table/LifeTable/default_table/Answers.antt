@@ -1,4 +1,4 @@
-use Rattle.std.proofs.Common.{◌≡◌, List, sym, subst, refl}
+use Rattle.std.proofs.Common.{◌≡◌, List, IfOk, sym, subst, refl}
 use Rattle.life_table.specs.LifeTable.{LifeTable, TextRow, RadarRow, default_table}
 use Rattle.life_table.specs.Rules.{IsTable}
 use Rattle.life_table.proofs.Default.{default_table_keeps_the_rules}
@@ -12,8 +12,8 @@ late : default_table.late ≡ 600
 unfolding default_table
 late = refl
 
-pub invariant_of-result : goal.invariant_of-result
-invariant_of-result c = subst IsTable (sym (of_rows _ _ default_table late c.in_ok-default_texts.ensures c.in_ok-default_radars.ensures)) default_table_keeps_the_rules
+pub of_rows-requires : goal.of_rows-requires
+of_rows-requires c = subst IsTable (sym (of_rows _ _ default_table late c.in_ok-texts.ensures c.in_ok-radars.ensures)) default_table_keeps_the_rules
 
 pub returns : goal.returns
-returns c = of_rows _ _ default_table late c.in_ok-default_texts.ensures c.in_ok-default_radars.ensures
+returns c = subst (λ t. IfOk c.of_rows.result (λ table. table ≡ t)) (of_rows _ _ default_table late c.in_ok-texts.ensures c.in_ok-radars.ensures) c.of_rows.ensures
