@@ -8,6 +8,7 @@ pub mod PicturesLife
 pub mod PicturesForgotten
 pub mod KeptPairs
 pub mod KindsKept
+pub mod MarkedKept
 pub mod CodeOrder
 pub mod PicturesChanged
 pub mod PicturesCounted

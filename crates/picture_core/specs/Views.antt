@@ -1,9 +1,10 @@
 -- What the types of the code stand for.
-use Rattle.std.specs.Prelude.{◌≡◌, ℕ, Bool, true, nat_lt, List, Option, Some, None, map, All}
+use Rattle.std.specs.Prelude.{◌≡◌, ℕ, ◌≤◌, Bool, true, nat_lt, List, Option, Some, None, map, All}
 use Rattle.std.specs.Option.{option_map}
+use Rattle.list_members.specs.Membership.{IsIn}
 use Rattle.text_reports.specs.Views.{key_view as text_key_view}
 use Rattle.picture_core.specs.Key.{Key, radar_block, text_report}
-use Rattle.picture_core.specs.Entry.{Entry, Value, cells, report, AreOfKind, IsOfKind}
+use Rattle.picture_core.specs.Entry.{Entry, Value, cells, report, IsOfKind}
 use Rattle.picture_core.specs.Marked.{MarkedEntries}
 use Rattle.undo_map.specs.Marked.{Marked}
 use Rattle.picture_core.specs.declared.entry.Entry.{Entry as ShownEntry}
@@ -55,6 +56,15 @@ marked_entries marked = record {
   mark = option_map (λ pairs. map pair_entry pairs) marked.mark;
 }
 
--- the values are of the kinds of their keys, and at the mark too
+-- each entry is so, and each at the mark too
+abbrev pub AreMarked : (Entry → Type 0) → MarkedEntries → Type 0
+AreMarked IsSo marked = ((entry : Entry) → IsIn entry marked.entries → IsSo entry)
+    × ((mark : List Entry) → marked.mark ≡ Some mark → (entry : Entry) → IsIn entry mark → IsSo entry)
+
+-- the values are of the kinds of their keys
 abbrev pub AreMarkedOfKind : MarkedEntries → Type 0
-AreMarkedOfKind marked = AreOfKind marked.entries × ((mark : List Entry) → marked.mark ≡ Some mark → AreOfKind mark)
+AreMarkedOfKind = AreMarked (λ entry. IsOfKind entry.key entry.value)
+
+-- none ends before this second
+abbrev pub EndFrom : ℕ → MarkedEntries → Type 0
+EndFrom due = AreMarked (λ entry. due ≤ entry.until)

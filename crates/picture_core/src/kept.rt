@@ -4,8 +4,8 @@ ghost use Rattle.std.specs.BTreeMap.{is_at};
 ghost use Rattle.std.specs.List.Sorted.{IsStrictlySortedBy};
 ghost use Rattle.std.specs.Map.{keys_of, lookup};
 ghost use Rattle.picture_core.specs.Kept.{IsRising, keys, live_entries, put};
-ghost use Rattle.picture_core.specs.Views.{entry_view, is_newer, kept_entry, marked_entries};
-ghost use Rattle.picture_core.specs.Views.{shown_value};
+ghost use Rattle.picture_core.specs.Views.{EndFrom, entry_view, is_newer, kept_entry};
+ghost use Rattle.picture_core.specs.Views.{marked_entries, shown_value};
 
 use crate::entry::Entry;
 use crate::key::Key;
@@ -78,8 +78,37 @@ fn entry_of(alloc: Global, key: &Key, kept: &Kept) -> Result<Entry, AllocError>
     })
 }
 
+/// Drops the entries that have ended at a moment, where none ends before the second `due`, and
+/// answers such a second for those that stay.
+pub(crate) fn drop_due(kept: &mut UndoMap<Key, Kept>, due: u64, moment: Moment) -> u64
+    requires unmarked { kept.old.mark ≡ None }
+    requires due { EndFrom due (marked_entries kept.old) }
+    ensures entries { (marked_entries kept.new).entries
+        ≡ live_entries moment (marked_entries kept.old).entries }
+    ensures mark { kept.new.mark ≡ None }
+    ensures due { EndFrom result (marked_entries kept.new) }
+{
+    if moment.seconds() < due {
+        return due;
+    }
+    drop_ended(kept, moment);
+    least_end(kept)
+}
+
+/// A second before which no entry ends.
+fn least_end(kept: &UndoMap<Key, Kept>) -> u64
+    requires { kept.now.mark ≡ None }
+    ensures { EndFrom result (marked_entries kept.now) }
+{
+    let mut least = u64::MAX;
+    for (_, found) in kept.iter() {
+        least = least.min(found.until);
+    }
+    least
+}
+
 /// Drops the entries that have ended at a moment.
-pub(crate) fn drop_ended(kept: &mut UndoMap<Key, Kept>, moment: Moment)
+fn drop_ended(kept: &mut UndoMap<Key, Kept>, moment: Moment)
     requires { kept.old.mark ≡ None }
     ensures entries { (marked_entries kept.new).entries
         ≡ live_entries moment (marked_entries kept.old).entries }

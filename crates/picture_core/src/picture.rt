@@ -6,7 +6,7 @@ ghost use Rattle.picture_core.specs.Marked.{MarkedEntries};
 ghost use Rattle.picture_core.specs.Views.{entry_view, key_view, shown_value, value_view};
 
 use crate::entries::Entries;
-use crate::kept::{Kept, drop_ended, live_pairs, put_kept};
+use crate::kept::{Kept, drop_due, live_pairs, put_kept};
 use crate::key::Key;
 use crate::shown::Shown;
 use fisb_time::Moment;
@@ -18,6 +18,9 @@ use undo_map::UndoMap;
 #[derive(Drop)]
 pub struct Picture {
     kept: UndoMap<Key, Kept>,
+    /// No kept entry ends before this second, and none at the mark: until then nothing is to be
+    /// purged, and no purge has to look.
+    due: u64,
 }
 
 impl Model for Picture {
@@ -25,11 +28,12 @@ impl Model for Picture {
 
     ghost Value = { MarkedEntries };
 
-    ghost use Rattle.picture_core.specs.Views.{AreMarkedOfKind, marked_entries};
+    ghost use Rattle.picture_core.specs.Views.{AreMarkedOfKind, EndFrom, marked_entries};
 
     ghost view = { λ p. marked_entries p.kept };
 
-    ghost invariant = { λ p. AreMarkedOfKind (marked_entries p.kept) };
+    ghost invariant = { λ p.
+        AreMarkedOfKind (marked_entries p.kept) × EndFrom p.due (marked_entries p.kept) };
 }
 
 impl Picture {
@@ -39,6 +43,7 @@ impl Picture {
     {
         Picture {
             kept: UndoMap::new(alloc),
+            due: u64::MAX,
         }
     }
 
@@ -73,6 +78,7 @@ impl Picture {
         ensures mark { self.new.mark ≡ self.old.mark }
         ensures err { OnErr result (self.new ≡ self.old) }
     {
+        self.due = self.due.min(until);
         put_kept(
             &mut self.kept,
             key,
@@ -102,7 +108,7 @@ impl Picture {
         ensures entries { self.new.entries ≡ live_entries moment self.old.entries }
         ensures mark { self.new.mark ≡ None }
     {
-        drop_ended(&mut self.kept, moment);
+        self.due = drop_due(&mut self.kept, self.due, moment);
     }
 
     /// Sets a mark at the entries as they are.

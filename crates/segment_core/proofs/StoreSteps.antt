@@ -92,9 +92,11 @@ held-other pieces name q payload differs =
       ]
     ]
 
-held-numbered : (pieces : Pieces) (name q : PieceName) (payload : List ℕ) → IsNumbered name
-    → (is_some (held pieces q) ≡ true → IsNumbered q) → is_some (held_with pieces name payload q) ≡ true → IsNumbered q
-held-numbered pieces name q payload number before some = elim (cases_Bool (is_some (held pieces name))) [
+-- what holds of each name that is held, of the numbers of the file and of this name holds of each that is held then
+pub held-each : (P : PieceName → Type 0) (pieces : Pieces) (name q : PieceName) (payload : List ℕ)
+    → ((n : ℕ) → 1 ≤ n → n ≤ name.count → P (numbered name n)) → P name
+    → (is_some (held pieces q) ≡ true → P q) → is_some (held_with pieces name payload q) ≡ true → P q
+held-each P pieces name q payload numbers own before some = elim (cases_Bool (is_some (held pieces name))) [
   | inl old ↦ before (sym (ap is_some (cond-true _ (held pieces q) _ old)) ∙ some)
   | inr new ↦ elim (cases_Bool (others_held pieces name)) [
     | inl all ↦ elim (cases_Bool (is_number_of name q)) [
@@ -102,18 +104,20 @@ held-numbered pieces name q payload number before some = elim (cases_Bool (is_so
           let both = and_parts _ _ is in
           let parts = and_parts _ _ both.0 in
           let same : q ≡ numbered name q.number = same-is q (numbered name q.number) parts.0 in
-          let count : q.count ≡ name.count = ap (λ (p : PieceName). p.count) same in
-          let least = leb-true 1 q.number parts.1 in
-          let most = leb-true q.number name.count both.1 in
-          (least, omega arith)
+          subst P (sym same) (numbers q.number (leb-true 1 q.number parts.1) (leb-true q.number name.count both.1))
       | inr not ↦ before (let was = rw (new, all, not) at some in was)
     ]
     | inr waits ↦ elim (cases_Bool (same_piece q name)) [
-      | inl is ↦ subst IsNumbered (sym (same-is q name is)) number
+      | inl is ↦ subst P (sym (same-is q name is)) own
       | inr not ↦ before (let was = rw (new, waits, not) at some in was)
     ]
   ]
 ]
+
+held-numbered : (pieces : Pieces) (name q : PieceName) (payload : List ℕ) → IsNumbered name
+    → (is_some (held pieces q) ≡ true → IsNumbered q) → is_some (held_with pieces name payload q) ≡ true → IsNumbered q
+held-numbered pieces name q payload number =
+    held-each IsNumbered pieces name q payload (λ n least most. (least, most)) number
 
 -- a segment that was taken among the pieces
 pub stands-piece : (longest : Longest) (clock : Option ℕ) (moment : ℕ) (pieces later : Pieces) (taken : List Arrival)

@@ -1,5 +1,5 @@
 //! The pieces that are held, and what a segment brings among them.
-ghost use Rattle.std.specs.Prelude.{◌≡◌, ◌≤◌, IfOk, OnErr, None, map, is_some};
+ghost use Rattle.std.specs.Prelude.{◌≡◌, ◌+◌, ◌≤◌, IfOk, OnErr, None, map, is_some};
 ghost use Rattle.std.specs.List.{range_with_len};
 ghost use Rattle.std.specs.Option.{option_copied};
 ghost use Rattle.segment_core.specs.Bound.{AreNamedOnce};
@@ -7,7 +7,8 @@ ghost use Rattle.segment_core.specs.HeldPieces.{brought, bytes_at, held_after, h
 ghost use Rattle.segment_core.specs.HeldPieces.{held_bytes, held_with};
 ghost use Rattle.segment_core.specs.HeldPieces.{joined_held, others_held};
 ghost use Rattle.segment_core.specs.Kept.{IsNumbered, held, numbered};
-ghost use Rattle.segment_core.specs.Store.{FitsFile, is_live, live_pieces};
+ghost use Rattle.segment_core.specs.Store.{AreMarkedLiveUntil, FitsFile, is_live};
+ghost use Rattle.segment_core.specs.Store.{live_pieces, longest_of};
 ghost use Rattle.segment_core.specs.Views.{arrival_view};
 ghost use Rattle.segment_core.specs.declared.piece_name.PieceName.{PieceName};
 
@@ -174,24 +175,76 @@ fn numbers_alone(
     Ok(pairs)
 }
 
+/// The longest life of a product.
+fn life_of(longest: &Longest, product: u16) -> u64
+    ensures { result ≡ longest_of longest.now product }
+{
+    match product {
+        63 => longest.regional,
+        64 => longest.conus,
+        _ => longest.text,
+    }
+}
+
 /// Whether the longest life of the product has not passed since the version.
 pub(crate) fn is_live(longest: &Longest, moment: Moment, product: u16, version: Moment) -> bool
     ensures { result ≡ is_live longest.now moment product version }
 {
-    let life = match product {
-        63 => longest.regional,
-        64 => longest.conus,
-        _ => longest.text,
-    };
+    let life = life_of(longest, product);
     moment < version || moment.seconds() - version.seconds() < life
 }
 
-/// Drops the pieces of files whose product's longest life has passed.
-pub(crate) fn drop_stale(
+/// A second before which a file of this version is not stale.
+pub(crate) fn end_of(longest: &Longest, product: u16, version: Moment) -> u64
+    ensures { result ≤ version + longest_of longest.now product }
+{
+    version.seconds().saturating_add(life_of(longest, product))
+}
+
+/// Drops the pieces of files whose product's longest life has passed, where none is stale before
+/// the second `due`, and answers such a second for those that stay.
+pub(crate) fn drop_due(
     pieces: &mut UndoMap<PieceName, Option<Bytes>>,
     longest: &Longest,
+    due: u64,
     moment: Moment,
-)
+) -> u64
+    requires unmarked { pieces.old.mark ≡ None }
+    requires due { AreMarkedLiveUntil longest.now due pieces.old }
+    ensures pieces { pieces.new.entries ≡ live_pieces longest.now moment pieces.old.entries }
+    ensures once { AreNamedOnce pieces.new.entries }
+    ensures mark { pieces.new.mark ≡ None }
+    ensures due { AreMarkedLiveUntil longest.now result pieces.new }
+{
+    if moment.seconds() < due {
+        names_stand_once(pieces);
+        return due;
+    }
+    drop_stale(pieces, longest, moment);
+    least_end(pieces, longest)
+}
+
+/// A second before which no piece is stale.
+fn least_end(pieces: &UndoMap<PieceName, Option<Bytes>>, longest: &Longest) -> u64
+    requires { pieces.now.mark ≡ None }
+    ensures { AreMarkedLiveUntil longest.now result pieces.now }
+{
+    let mut least = u64::MAX;
+    for (name, _) in pieces.iter() {
+        least = least.min(end_of(longest, name.product, name.version));
+    }
+    least
+}
+
+/// No name stands twice, since the names are in order.
+fn names_stand_once(pieces: &UndoMap<PieceName, Option<Bytes>>)
+    ensures { AreNamedOnce pieces.now.entries }
+{
+    let _ = pieces.len();
+}
+
+/// Drops the pieces of files whose product's longest life has passed.
+fn drop_stale(pieces: &mut UndoMap<PieceName, Option<Bytes>>, longest: &Longest, moment: Moment)
     requires { pieces.old.mark ≡ None }
     ensures pieces { pieces.new.entries ≡ live_pieces longest.now moment pieces.old.entries }
     ensures once { AreNamedOnce pieces.new.entries }

@@ -7,7 +7,7 @@ ghost use Rattle.segment_core.specs.Store.{is_read_product, live_pieces, taken_w
 ghost use Rattle.segment_core.specs.Views.{arrival_view};
 
 use crate::arrived::{Arrived, Longest, Taken};
-use crate::held::{drop_stale, is_live, take_live};
+use crate::held::{drop_due, end_of, is_live, take_live};
 use crate::piece_name::PieceName;
 use fisb_time::Moment;
 use fisb_wire::Bytes;
@@ -24,6 +24,9 @@ pub struct Joiner {
     clock: Option<Moment>,
     marked_clock: Option<Moment>,
     pieces: UndoMap<PieceName, Option<Bytes>>,
+    /// No held piece is stale before this second, and none at the mark: until then nothing is to
+    /// be forgotten, and no purge has to look.
+    due: u64,
 }
 
 impl Model for Joiner {
@@ -40,6 +43,10 @@ impl Model for Joiner {
         pieces = pieces;
       }) j.pieces.mark;
     } };
+
+    ghost use Rattle.segment_core.specs.Store.{AreMarkedLiveUntil};
+
+    ghost invariant = { λ j. AreMarkedLiveUntil j.longest j.due j.pieces };
 }
 
 impl Joiner {
@@ -57,6 +64,7 @@ impl Joiner {
             clock: None,
             marked_clock: None,
             pieces: UndoMap::new(alloc),
+            due: u64::MAX,
         }
     }
 
@@ -91,6 +99,9 @@ impl Joiner {
             self.clock = Some(moment);
             return Ok(Taken::Stale);
         }
+        self.due = self
+            .due
+            .min(end_of(&self.longest, arrived.product, arrived.version));
         let taken = take_live(self.alloc, &mut self.pieces, arrived)?;
         self.clock = Some(moment);
         Ok(taken)
@@ -109,7 +120,7 @@ impl Joiner {
         ensures stands { (taken : List Arrival) → StandsFor self.old.store taken
             → StandsFor self.new.store taken }
     {
-        drop_stale(&mut self.pieces, &self.longest, moment);
+        self.due = drop_due(&mut self.pieces, &self.longest, self.due, moment);
         self.clock = Some(moment);
     }
 

@@ -10,16 +10,16 @@ returns-clause-stands c = λ taken.
       longest = c.self.inside.longest;
       clock = Some c.args.moment;
       pieces =
-          c.drop_stale.new.pieces.entries;
+          c.drop_due-self-inside.new.pieces.entries;
     }) taken)
     c.self.view_is
-    (λ after stands. rw c.drop_stale.ensures.pieces
+    (λ after stands. rw c.drop_due-self-inside.ensures.pieces
     (stands-purged c.self.inside.longest c.self.inside.clock c.args.moment c.self.inside.pieces.entries taken after stands))
     c.requires.moment
 
 pub returns-clause-purged : goal.returns-clause-purged
 returns-clause-purged c = record {
   clock = refl;
-  once = c.drop_stale.ensures.once;
-  live = rw c.drop_stale.ensures.pieces (live-purged c.self.inside.longest c.args.moment c.self.inside.pieces.entries);
+  once = c.drop_due-self-inside.ensures.once;
+  live = rw c.drop_due-self-inside.ensures.pieces (live-purged c.self.inside.longest c.args.moment c.self.inside.pieces.entries);
 }
