@@ -4,3 +4,12 @@ mod Puts
 mod Frames
 mod Receptions
 mod Hears
+mod Weights
+mod JoinedSizes
+mod Completing
+mod FrameSizes
+mod FrameArrivals
+mod ReceptionSums
+mod Segmented
+mod FewEntries
+mod Bounded

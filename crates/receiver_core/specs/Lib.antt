@@ -5,3 +5,4 @@ pub mod StandsFor
 pub mod Answers
 pub mod Steps
 pub mod Laws
+pub mod Bound

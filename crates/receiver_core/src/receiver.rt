@@ -1,9 +1,14 @@
 //! The receiver and its calls.
-ghost use Rattle.std.specs.Prelude.{◌≡◌, ℕ, List, [], Some, OnErr, replicate};
+ghost use Rattle.std.specs.Prelude.{◌≡◌, ℕ, List, [], None, Some, IsSome, OnErr, OnOk};
+ghost use Rattle.std.specs.Prelude.{replicate};
 ghost use Rattle.uplink_weave.specs.Functions.{counts_in, payload_in};
 ghost use Rattle.life_table.specs.LifeTable.{LifeTable};
-ghost use Rattle.segment_core.specs.Store.{IsNotBefore};
+ghost use Rattle.segment_core.specs.Arrival.{Arrival};
+ghost use Rattle.segment_core.specs.Bound.{IsPurged};
+ghost use Rattle.segment_core.specs.Store.{IsNotBefore, StandsFor as StandsForArrivals};
+ghost use Rattle.picture_core.specs.Kept.{live_entries};
 ghost use Rattle.receiver_core.specs.Answers.{HasHeard, HasShown};
+ghost use Rattle.receiver_core.specs.Bound.{IsBounded};
 ghost use Rattle.receiver_core.specs.Hearing.{last_above, payload_refusal};
 ghost use Rattle.receiver_core.specs.Hearing.{refusal_of_air, refusal_of_payload};
 ghost use Rattle.receiver_core.specs.Reception.{Reception};
@@ -11,7 +16,7 @@ ghost use Rattle.receiver_core.specs.StandsFor.{StandsFor, longest_lives};
 
 use crate::heard::{HearFault, Heard, ShowFault};
 use crate::hearing::take_frames;
-use crate::laws::{keeps_nothing, keeps_reception};
+use crate::laws::{forgets_once, keeps_nothing, keeps_reception, receivers_are_bounded};
 use crate::unread::UnreadList;
 use fisb_time::Moment;
 use life_table::LifeTable;
@@ -23,7 +28,8 @@ use uplink_frame::read_header;
 use uplink_weave::{functions_of_a_frame, unweave};
 
 /// A receiver: it joins the segments that it hears by their stations, and keeps of each key the
-/// newest version that has not ended.
+/// newest version that has not ended. After each frame it holds no more than the frames of which
+/// something may still live can have brought.
 #[derive(Drop)]
 pub struct Receiver {
     alloc: Global,
@@ -72,6 +78,8 @@ impl Receiver {
             → HasHeard (StandsFor table self.new) table past (refusal_of_air past moment air.now)
             moment (payload_in air.now) (counts_in air.now) result }
         ensures unchanged { OnErr result (self.new ≡ self.old) }
+        ensures bounded { (table : LifeTable) (heard : List Reception)
+            → StandsFor table self.new heard → OnOk result (IsBounded table heard self.new) }
     {
         if let Some(kept) = last_above(self.joiner.clock(), moment) {
             return Err(HearFault::Clock { kept });
@@ -97,6 +105,8 @@ impl Receiver {
             (refusal_of_payload past moment payload.now)
             moment (Some payload.now) (replicate 6 0) result }
         ensures unchanged { OnErr result (self.new ≡ self.old) }
+        ensures bounded { (table : LifeTable) (heard : List Reception)
+            → StandsFor table self.new heard → OnOk result (IsBounded table heard self.new) }
     {
         if let Some(kept) = last_above(self.joiner.clock(), moment) {
             return Err(HearFault::Clock { kept });
@@ -117,6 +127,8 @@ impl Receiver {
             → HasHeard (StandsFor table self.new) table past (payload_refusal payload.now)
             moment (Some payload.now) corrected result }
         ensures unchanged { OnErr result (self.new ≡ self.old) }
+        ensures bounded { (table : LifeTable) (heard : List Reception)
+            → StandsFor table self.new heard → OnOk result (IsBounded table heard self.new) }
         ensures in_time { IsNotBefore self.old.joiner.store.clock moment }
     {
         let header = read_header(payload);
@@ -137,10 +149,8 @@ impl Receiver {
             &mut self.picture,
         ) {
             Ok(unread) => {
-                self.joiner.settle();
-                self.picture.settle();
-                self.joiner.purge(moment);
-                self.picture.purge(moment);
+                keep_at(moment, &mut self.joiner, &mut self.picture);
+                receivers_are_bounded();
                 Ok(Heard {
                     header,
                     corrected,
@@ -173,6 +183,27 @@ impl Receiver {
             Err(_) => Err(ShowFault::NoMemory),
         }
     }
+}
+
+/// Keeps what was taken at a moment, and forgets what has ended then.
+fn keep_at(moment: Moment, joiner: &mut Joiner, picture: &mut Picture)
+    requires moment { IsNotBefore joiner.old.store.clock moment }
+    requires joiner_marked { IsSome joiner.old.mark }
+    requires picture_marked { IsSome picture.old.mark }
+    ensures joined { (taken : List Arrival) → StandsForArrivals joiner.old.store taken
+        → StandsForArrivals joiner.new.store taken }
+    ensures longest { joiner.new.store.longest ≡ joiner.old.store.longest }
+    ensures no_stale_segments { IsPurged joiner.new.store moment }
+    ensures entries { picture.new.entries ≡ live_entries moment picture.old.entries }
+    ensures no_ended_entries { live_entries moment picture.new.entries ≡ picture.new.entries }
+    ensures joiner_mark { joiner.new.mark ≡ None }
+    ensures picture_mark { picture.new.mark ≡ None }
+{
+    forgets_once();
+    joiner.settle();
+    picture.settle();
+    joiner.purge(moment);
+    picture.purge(moment);
 }
 
 /// The last moment, where this one is below it.

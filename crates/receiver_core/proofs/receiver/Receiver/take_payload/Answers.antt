@@ -24,7 +24,7 @@ returns-in-Ok-clause-heard c = λ table past s.
       picture =
           c.self.inside.picture;
     } in
-    let after : Held = record { table = c.self.inside.table; joiner = c.purge.new.self; picture = c.purge-in-Ok.new.self } in
+    let after : Held = record { table = c.self.inside.table; joiner = c.keep_at.new.joiner; picture = c.keep_at.new.picture } in
     let inside : StandsFor table before past = subst (λ held. StandsFor table held past) (sym c.self.view_is) s in
     let frames = information_frames payload in
     let past_arrivals = arrivals table past in
@@ -33,7 +33,6 @@ returns-in-Ok-clause-heard c = λ table past s.
     let marked : c.mark.new.self.store ≡ before.joiner.store = ap (λ m. m.store) c.mark.ensures in
     let joined : StandsForArrivals c.mark.new.self.store past_arrivals = subst
     (λ st. StandsForArrivals st past_arrivals) (sym marked) inside.joins in
-    let settled : c.settle.new.self.store ≡ c.take_frames.new.joiner.store = ap (λ m. m.store) c.settle.ensures in
     let taken : StandsForArrivals c.take_frames.new.joiner.store (arrivals_heard table past heard)
     = subst (λ st. StandsForArrivals c.take_frames.new.joiner.store
     (arrivals_after table st moment past_arrivals frames)) station
@@ -62,13 +61,21 @@ returns-in-Ok-clause-heard c = λ table past s.
       bytes = All-from_get_or (λ byte. byte < 256) payload 0 (λ i below. c.fits-payload i);
       valid = valid;
       same_table = refl;
-      clock = c.purge.ensures.clock;
-      joins = c.purge.ensures.stands (arrivals_heard table past heard)
-          (subst (λ st. StandsForArrivals st (arrivals_heard table past heard)) (sym settled) taken);
-      entries = c.purge-in-Ok.ensures.entries ∙ ap (live_entries moment) (ap (λ m. m.entries) c.settle-in-Ok.ensures ∙ put);
+      clock = c.keep_at.ensures.no_stale_segments.clock;
+      joins = c.keep_at.ensures.joined (arrivals_heard table past heard) taken;
+      entries = c.keep_at.ensures.entries ∙ ap (live_entries moment) put;
     })
     record {
       header = c.read_header-header.ensures;
       corrected = refl;
       unread = ap (map unread_view) c.of.ensures ∙ told;
+    }
+
+pub returns-in-Ok-clause-bounded : goal.returns-in-Ok-clause-bounded
+returns-in-Ok-clause-bounded c = λ table heard stands.
+    c.receivers_are_bounded.ensures table heard _ c.args.moment stands
+    record {
+      settled = search rules;
+      segments = c.keep_at.ensures.no_stale_segments;
+      entries = c.keep_at.ensures.no_ended_entries;
     }

@@ -1,0 +1,43 @@
+-- How much a receiver holds: no more than what can still live may have brought. A version lies at most a minute after the
+-- reception that names it, and lives as long as the table says.
+use Rattle.std.specs.Prelude.{◌≡◌, ℕ, ◌+◌, ◌*◌, ◌≤◌, Bool, nat_lt, max, List, length, filter}
+use Rattle.life_table.specs.LifeTable.{LifeTable}
+use Rattle.segment_core.specs.Bound.{IsPurged, pieces_size}
+use Rattle.picture_core.specs.Kept.{live_entries}
+use Rattle.receiver_core.specs.Reception.{Reception}
+use Rattle.receiver_core.specs.StandsFor.{Held, IsSettled, StandsFor, last_moment, longest_lives}
+
+-- the longest life of all products that are read; 0 in a table without rows
+abbrev pub longest_life : LifeTable → ℕ
+longest_life table = let lives = longest_lives table in max lives.regional (max lives.conus lives.text)
+
+-- something that a reception brought may live at the moment
+abbrev pub may_live : LifeTable → ℕ → Reception → Bool
+may_live table moment heard = nat_lt moment (heard.moment + longest_life table + 60)
+
+-- how many of them are such
+abbrev pub number_alive : LifeTable → ℕ → List Reception → ℕ
+number_alive table moment heard = length (filter (may_live table moment) heard)
+
+-- For so many receptions, the bytes of all pieces, all segment numbers and all entries that are stored: a payload has 424
+-- bytes of frames, a frame with segment fields takes nine of them at least, and a byte says five entries at most.
+pub record IsFewFor (held : Held) (number : ℕ) : Type 0 where
+  pub bytes : pieces_size held.joiner.store.pieces ≤ 424 * number
+  pub numbers : length held.joiner.store.pieces ≤ 47 * number
+  pub entries : length held.picture.entries ≤ 2120 * number
+  -- no mark stands, for which anything else would be stored
+  pub settled : IsSettled held
+
+-- what is held for these receptions is little, by those of which something may live at the last of them
+abbrev pub IsBounded : LifeTable → List Reception → Held → Type 0
+IsBounded table heard held = IsFewFor held (number_alive table (last_moment heard) heard)
+
+-- nothing is held that has ended at the moment
+pub record IsPurgedAt (held : Held) (moment : ℕ) : Type 0 where
+  pub settled : IsSettled held
+  pub segments : IsPurged held.joiner.store moment
+  pub entries : live_entries moment held.picture.entries ≡ held.picture.entries
+
+abbrev pub ReceiversAreBounded : Type 0
+ReceiversAreBounded = (table : LifeTable) (heard : List Reception) (held : Held) (moment : ℕ)
+    → StandsFor table held heard → IsPurgedAt held moment → IsBounded table heard held
