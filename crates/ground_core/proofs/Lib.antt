@@ -3,11 +3,13 @@ pub mod KeyLemmas
 pub mod Order
 pub mod Accepted
 pub mod Serials
+pub mod Kept
 pub mod Queue
 pub mod Numbers
 pub mod Versions
 pub mod Parts
 pub mod MapKeys
+pub mod Placed
 pub mod Turns
 pub mod State
 pub mod OnAir

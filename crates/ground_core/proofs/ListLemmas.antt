@@ -105,6 +105,17 @@ pub list_any-same : {X : Type 0} (p q : X → Bool) (xs : List X) → Each (λ x
 list_any-same p q [] h = refl
 list_any-same p q (x ∷ xs) h = rw h.0 (ap (λ b. q x || b) (list_any-same p q xs h.1))
 
+or_right : (a b : Bool) → b ≡ true → (a || b) ≡ true
+or_right true b h = refl
+or_right false b h = h
+
+pub list_any-weaker : {X : Type 0} (p q : X → Bool) → ((x : X) → p x ≡ true → q x ≡ true) → (xs : List X) → list_any p xs ≡ true → list_any q xs ≡ true
+list_any-weaker p q f [] h = h
+list_any-weaker p q f (x ∷ xs) h = elim (cases_Bool (p x)) [
+  | inl t ↦ rw (f x t) refl
+  | inr g ↦ (let rest : list_any q xs ≡ true = list_any-weaker p q f xs (ap (λ b. b || list_any p xs) (sym g) ∙ h) in or_right (q x) (list_any q xs) rest)
+]
+
 -- a filter that passes less, behind one that passes more
 pub filter_less : {X : Type 0} (p q : X → Bool) (xs : List X) → Each (λ x. q x ≡ true → p x ≡ true) xs → filter q (filter p xs) ≡ filter q xs
 filter_less p q [] h = refl

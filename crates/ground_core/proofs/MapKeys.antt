@@ -1,14 +1,15 @@
 -- Keys of maps are compared by what they are.
-use Rattle.std.proofs.Common.{◌≡◌, ℕ, ◌+◌, Bool, true, false, ◌&&◌, ◌==◌, cond, if◌then◌else◌, List, Option, Some, None, is_some, unwrap_or, refl, sym, ap, subst, ◌∙◌, inl, inr, arith}
+use Rattle.std.proofs.Common.{◌≡◌, ℕ, ◌+◌, ◌<◌, ◌≤◌, Bool, true, false, ◌&&◌, ◌==◌, nat_lt, nat_le, cond, if◌then◌else◌, List, [], ◌∷◌, length, Option, Some, None, is_some, IsSome, unwrap_or, refl, sym, ap, subst, ◌∙◌, inl, inr, arith}
 use Rattle.std.specs.Str.{bytes_eq}
-use Rattle.std.specs.Ordering.{nat_cmp, ordering_then, is_eq}
+use Rattle.std.specs.Ordering.{nat_cmp, ordering_then, is_eq, is_gt}
 use Rattle.std.specs.Option.{option_cmp}
 use Rattle.std.specs.declared.cmp.Ordering.{Ordering}
 use Rattle.std.specs.declared.cmp.Ordering.TheVariants.{Less, Equal, Greater}
 use Rattle.std.specs.Cmp.Lexicographic.{slice_cmp}
-use Rattle.std.specs.BTreeMap.{is_at}
+use Rattle.std.specs.BTreeMap.{BTreeMap, is_at, get, IsLowerBound}
+use Rattle.std.specs.Map.{lookup}
 use Rattle.std.proofs.lemmas.Map.Text.{is_eq-slice_cmp}
-use Rattle.std.proofs.lemmas.Bool.{cases_Bool}
+use Rattle.std.proofs.lemmas.Bool.{cases_Bool, lt-ltb, le-ltb, leb-true, leb-false}
 use Rattle.std.proofs.lemmas.Bool.Decides.{nat_tests}
 use Rattle.text_reports.specs.TextKey.{TextKey, same_text_key, same_third, text_key_cmp}
 use Rattle.text_reports.specs.Views.{key_view}
@@ -16,7 +17,9 @@ use Rattle.text_reports.specs.declared.key.TextKey.{TextKey as GivenKey}
 use Rattle.text_reports.specs.contracts.key.TextKeyOrd.TheImpl as order
 use Rattle.picture_core.specs.Key.{Key, radar_block, text_report}
 use Rattle.radar_core.specs.declared.key.BlockKey.{BlockKey}
-use Rattle.ground_core.specs.Views.{given_key, given_view, latest_in}
+use Rattle.ground_core.specs.Piece.{while_living}
+use Rattle.ground_core.specs.Views.{given_key, given_view, latest_in, count_at}
+use Rattle.ground_core.specs.declared.files.Files.{Files}
 use Rattle.ground_core.specs.declared.newest.Given.{Given}
 use Rattle.ground_core.proofs.KeyLemmas.{text_key_is}
 
@@ -82,6 +85,35 @@ reserve_latest a k old new n e =
       | inr f ↦ rw f refl
     ])
 
+-- what is over and is taken out under a key is found no more
+pub removed_latest : (a : GivenKey) (k : TextKey) (moment : ℕ) (old : GivenKey → Option (Option Given)) (new : Option (Option Given))
+    → while_living moment (latest_in (old a)) ≡ None
+    → new ≡ cond (is_at (order.ghosts.cmp a) (given_key k)) None (old (given_key k))
+    → latest_in new ≡ (if same_text_key (key_view a) k then while_living moment (latest_in (old (given_key k))) else latest_in (old (given_key k)))
+removed_latest a k moment old new n e =
+    ap latest_in e ∙ ap (λ b. latest_in (cond b None (old (given_key k)))) (key_at a k)
+    ∙ (elim (cases_Bool (same_text_key (key_view a) k)) [
+      | inl t ↦ (
+          let same : key_view a ≡ k = text_key_is (key_view a) k t in
+          let over : while_living moment (latest_in (old (given_key k))) ≡ None = subst (λ x. while_living moment (latest_in (old (given_key x))) ≡ None) same n in
+          rw t (sym over))
+      | inr f ↦ rw f refl
+    ])
+
+-- room that is taken back changes nothing
+pub released_latest : (a : GivenKey) (k : TextKey) (old : GivenKey → Option (Option Given)) (new : Option (Option Given)) → latest_in (old a) ≡ None
+    → new ≡ cond (is_at (order.ghosts.cmp a) (given_key k)) None (old (given_key k))
+    → latest_in new ≡ latest_in (old (given_key k))
+released_latest a k old new n e =
+    ap latest_in e ∙ ap (λ b. latest_in (cond b None (old (given_key k)))) (key_at a k)
+    ∙ (elim (cases_Bool (same_text_key (key_view a) k)) [
+      | inl t ↦ (
+          let same : key_view a ≡ k = text_key_is (key_view a) k t in
+          let none : latest_in (old (given_key k)) ≡ None = subst (λ x. latest_in (old (given_key x)) ≡ None) same n in
+          rw t (sym none))
+      | inr f ↦ rw f refl
+    ])
+
 abbrev pub pair_cmp : (ℕ × ℕ) → (ℕ × ℕ) → Ordering
 pair_cmp x y = ordering_then (nat_cmp x.0 y.0) (nat_cmp x.1 y.1)
 
@@ -115,3 +147,50 @@ reserve_count a b v p old new g e =
           rw t (ap (λ o. unwrap_or o 0) (sym here)))
       | inr f ↦ rw f refl
     ])
+
+gt_then : (a b : Ordering) → is_gt a ≡ true → is_gt (ordering_then a b) ≡ true
+gt_then Less b h = cc
+gt_then Equal b h = cc
+gt_then Greater b h = refl
+
+zero_where_none : (o : Option ℕ) → (IsSome o → ⊥) → unwrap_or o 0 ≡ 0
+zero_where_none None f = refl
+zero_where_none (Some n) f = absurd (f refl)
+
+-- below the least name nothing is counted
+pub least_above : (counts : BTreeMap (ℕ × ℕ) ℕ) (name : ℕ × ℕ) (over v p : ℕ) → IsLowerBound pair_cmp counts name → over < name.0 → nat_le v over ≡ true
+    → unwrap_or (get pair_cmp counts (v, p)) 0 ≡ 0
+least_above counts name over v p least lt h = zero_where_none (get pair_cmp counts (v, p)) (λ some.
+    let below : v < name.0 = omega (arith, leb-true v over h) in
+    let greater : is_gt (nat_cmp name.0 v) ≡ true = grind (arith, nat_tests) in
+    let bad : is_gt (pair_cmp name (v, p)) ≡ true = gt_then (nat_cmp name.0 v) (nat_cmp name.1 p) greater in
+    let good : is_gt (pair_cmp name (v, p)) ≡ false = least (v, p) some in
+    cc)
+
+none_in : (es : List ((ℕ × ℕ) × ℕ)) → length es ≡ 0 → es ≡ []
+none_in [] h = refl
+none_in (e ∷ es) h = absurd (omega arith)
+
+pub none_counted : (files : Files) (v p : ℕ) → length files.counts.entries ≡ 0 → count_at files v p ≡ 0
+none_counted files v p h = ap (λ es. unwrap_or (lookup (is_at (pair_cmp (v, p))) es) 0) (none_in files.counts.entries h)
+
+pub counted_above : (old new : Files) (over : ℕ) → ((v p : ℕ) → nat_le v over ≡ false → count_at new v p ≡ count_at old v p)
+    → ((v p : ℕ) → nat_le v over ≡ true → count_at new v p ≡ 0)
+    → (v p : ℕ) → count_at new v p ≡ (if nat_le v over then 0 else count_at old v p)
+counted_above old new over f g v p = elim (cases_Bool (nat_le v over)) [
+  | inl t ↦ (g v p t ∙ ap (λ b. if b then 0 else count_at old v p) (sym t))
+  | inr e ↦ (f v p e ∙ ap (λ b. if b then 0 else count_at old v p) (sym e))
+]
+
+-- a version is over where it and the life are not above the moment
+pub counted_by_life : (moment life over v n : ℕ) → over + life ≡ moment → (if nat_le v over then 0 else n) ≡ (if nat_lt moment (v + life) then n else 0)
+counted_by_life moment life over v n e = elim (cases_Bool (nat_le v over)) [
+  | inl t ↦ (
+      let le : v ≤ over = leb-true v over t in
+      let no : nat_lt moment (v + life) ≡ false = le-ltb moment (v + life) (omega arith) in
+      rw (t, no) refl)
+  | inr f ↦ (
+      let lt : over < v = leb-false v over f in
+      let yes_it_is : nat_lt moment (v + life) ≡ true = lt-ltb moment (v + life) (omega arith) in
+      rw (f, yes_it_is) refl)
+]

@@ -14,10 +14,10 @@ use Rattle.ground_core.specs.Piece.{Piece, piece_of, live_by, left_pieces, fitti
 use Rattle.ground_core.specs.StandsFor.{StandsFor, clock_of}
 use Rattle.ground_core.specs.Told.{early}
 use Rattle.ground_core.specs.Views.{latest_at, pieces_in}
-use Rattle.ground_core.specs.declared.sending.Ground.{Ground}
+use Rattle.ground_core.specs.declared.ground.Ground.{Ground}
 use Rattle.ground_core.proofs.Parts.{is_some_segmentation}
 use Rattle.ground_core.proofs.Turns.{frame_of}
-use Rattle.ground_core.proofs.State.{filled_of, latest_same}
+use Rattle.ground_core.proofs.State.{filled_of, clock_below, lives_same}
 
 abbrev pub SizesOfApdus : Type 0
 SizesOfApdus = (a : Apdu) → length (apdu_bytes a) ≡ header_length a.form (is_some a.segmentation) + length a.payload
@@ -32,7 +32,7 @@ pub aired_pieces : (table : LifeTable) (station : StationId) (history : List Eve
     ++ fitting_pieces 424 (filter (live_by (latest_at old.newest) moment) (pieces_in old.line))
     → fitting_pieces 424 (filter (live_by (latest_at old.newest) moment) (pieces_in old.line)) ≡ map piece_of (sent_of table station history moment)
 aired_pieces table station history moment slot old new s e n =
-    ap (λ l. fitting_pieces 424 (filter (live_by l moment) (pieces_in old.line))) (latest_same table station history old s)
+    ap (λ f. fitting_pieces 424 (filter f (pieces_in old.line))) (lives_same table station history moment old s (clock_below history moment e))
     ∙ sym (filled_of table station history moment slot old new s e n).aired
 
 pub frames_are : (ps : List Piece) (sent : List Segment) → ps ≡ map piece_of sent → map frame_of ps ≡ map (λ s. fisb_frame (body_of s)) sent

@@ -1,6 +1,6 @@
 -- Parts of a payload: how many, which bytes, and that each fits a frame with its header.
 use Rattle.std.proofs.Common.{◌≡◌, ℕ, zero, suc, ◌+◌, ◌-◌, ◌*◌, ◌<◌, ◌≤◌, Bool, true, false, not, if◌then◌else◌, List, [], ◌∷◌, length, get_or, take, drop, min, is_some, refl, sym, ap, subst, ◌∙◌, inl, inr, arith}
-use Rattle.std.proofs.lemmas.Bool.{cases_Bool, leb-true}
+use Rattle.std.proofs.lemmas.Bool.{cases_Bool, leb-true, leb-false}
 use Rattle.std.proofs.lemmas.List.{drop-drop, length-take}
 use Rattle.fisb_time.specs.declared.form.TimeForm.{TimeForm}
 use Rattle.fisb_time.specs.declared.form.TimeForm.TheVariants.{Minute, Second, DayMinute, DaySecond}
@@ -33,6 +33,26 @@ place_fits Minute bytes place lt = omega arith
 place_fits Second bytes place lt = omega arith
 place_fits DayMinute bytes place lt = omega arith
 place_fits DaySecond bytes place lt = omega arith
+
+not_true : (b : Bool) → not b ≡ true → b ≡ false
+not_true true h = cc
+not_true false h = refl
+
+some_needed : (form : TimeForm) (bytes : List ℕ) → whole_limit form < length bytes → 1 ≤ segments_needed form bytes
+some_needed Minute bytes lt = omega arith
+some_needed Second bytes lt = omega arith
+some_needed DayMinute bytes lt = omega arith
+some_needed DaySecond bytes lt = omega arith
+
+-- each payload has a part
+pub parts_some : (form : TimeForm) (bytes : List ℕ) (count : ℕ) → count ≡ length (parts form bytes) → 1 ≤ count
+parts_some form bytes count e = elim (cases_Bool (is_segmented form bytes)) [
+  | inl t ↦ (
+      let needed = parts_count form bytes t in
+      let long : whole_limit form < length bytes = leb-false (length bytes) (whole_limit form) (not_true _ t) in
+      omega (arith, needed, some_needed form bytes long))
+  | inr f ↦ (let one : length (parts form bytes) ≡ 1 = ap length (parts_whole form bytes f) in omega arith)
+]
 
 pub part_cut : (f : File) (number : ℕ) → is_segmented f.form f.payload ≡ true → 1 ≤ number → number ≤ length (parts_of f)
     → part_of f number ≡ take (segment_limit f.form) (drop ((number - 1) * segment_limit f.form) f.payload)

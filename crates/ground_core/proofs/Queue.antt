@@ -1,6 +1,6 @@
 -- What is live of the queue is what waits: at a later moment, behind a frame that was filled, and behind an item that was given.
-use Rattle.std.proofs.Common.{◌≡◌, ℕ, zero, suc, ◌+◌, ◌-◌, ◌<◌, ◌≤◌, Bool, true, false, not, ◌||◌, ◌&&◌, ◌==◌, nat_lt, nat_le, if◌then◌else◌, List, [], ◌∷◌, ◌++◌, length, map, filter, flat_map, Option, Some, None, refl, sym, ap, ◌∙◌, inl, inr, arith, append-nil}
-use Rattle.std.specs.List.{list_any, range_with_len}
+use Rattle.std.proofs.Common.{◌≡◌, ℕ, zero, suc, ◌+◌, ◌-◌, ◌<◌, ◌≤◌, Bool, true, false, not, ◌&&◌, ◌==◌, nat_lt, nat_le, if◌then◌else◌, List, [], ◌∷◌, ◌++◌, length, map, filter, flat_map, Option, Some, None, refl, sym, ap, ◌∙◌, inl, inr, arith, append-nil}
+use Rattle.std.specs.List.{range_with_len}
 use Rattle.std.proofs.lemmas.Bool.{cases_Bool, lt-ltb, ltb-true, and_parts, and_from}
 use Rattle.std.proofs.lemmas.Bool.Decides.{nat_tests}
 use Rattle.std.proofs.lemmas.List.{map-append}
@@ -13,9 +13,9 @@ use Rattle.ground_core.specs.Item.{Weather, Item, Segment, segments_of, segment_
 use Rattle.ground_core.specs.History.{Event, accepted, fill, items, new_items, items_made, item_of}
 use Rattle.ground_core.specs.Update.{Update, weather_of}
 use Rattle.ground_core.specs.Airing.{log, airing, waiting, fitting, is_live, has_key}
-use Rattle.ground_core.specs.Piece.{Piece, Latest, piece_of, has_serial, live_by, fitting_pieces, left_pieces}
+use Rattle.ground_core.specs.Piece.{Piece, Latest, piece_of, lives_as, live_by, fitting_pieces, left_pieces}
 use Rattle.ground_core.specs.StandsFor.{latest_of, latest_of_item}
-use Rattle.ground_core.proofs.ListLemmas.{Each, Each-weaker, Each-in, Each-all, Each-map, filter_same, filter_all, filter_less, filter-map}
+use Rattle.ground_core.proofs.ListLemmas.{Each, Each-weaker, Each-in, Each-all, Each-map, filter_same, filter_all, filter_less, filter-map, list_any-weaker}
 use Rattle.ground_core.proofs.Order.{last_places, segments_in, stands_in, waiting_is, turned, Once, last_places-append, last_places_once}
 use Rattle.ground_core.proofs.Serials.{Numbered, numbered_items, serial_in, IsLogged, logged, of_its_item, log_given, log_filled, Each-last_places, live_same, latest_push}
 
@@ -46,10 +46,16 @@ pub less_same : (p q : Piece → Bool) (xs ys : List Piece) → Each (λ x. q x 
     → filter p xs ≡ filter p ys → filter q xs ≡ filter q ys
 less_same p q xs ys h k e = sym (filter_less p q xs h) ∙ ap (filter q) e ∙ filter_less p q ys k
 
+lives_earlier : (clock moment serial : ℕ) (latest : Option Latest) → clock ≤ moment → lives_as moment serial latest ≡ true → lives_as clock serial latest ≡ true
+lives_earlier clock moment serial None le h = h
+lives_earlier clock moment serial (Some latest) le h =
+    let both = and_parts (nat_lt moment latest.until) (latest.serial == serial) h in
+    and_from (nat_lt clock latest.until) _ (lt-ltb clock latest.until (omega (arith, ltb-true moment latest.until both.0))) both.1
+
 later_lives : (latest : Key → Option Latest) (clock moment : ℕ) (p : Piece) → clock ≤ moment → live_by latest moment p ≡ true → live_by latest clock p ≡ true
 later_lives latest clock moment p le h =
-    let both = and_parts (nat_lt moment p.until) (list_any (λ key. has_serial p.serial (latest key)) p.keys) h in
-    and_from (nat_lt clock p.until) _ (lt-ltb clock p.until (omega (arith, ltb-true moment p.until both.0))) both.1
+    list_any-weaker (λ key. lives_as moment p.serial (latest key)) (λ key. lives_as clock p.serial (latest key))
+    (λ key k. lives_earlier clock moment p.serial (latest key) le k) p.keys h
 
 -- at a later moment
 pub line_later : (table : LifeTable) (station : StationId) (history : List Event) (clock moment : ℕ) (line : List Piece) → clock ≤ moment
@@ -135,10 +141,6 @@ and_false : (a b : Bool) → b ≡ false → (a && b) ≡ false
 and_false true b h = h
 and_false false b h = refl
 
-or_right : (a b : Bool) → b ≡ true → (a || b) ≡ true
-or_right true b h = refl
-or_right false b h = h
-
 -- segments of one item are told apart by their numbers
 none_below : (item : Item) (low at n : ℕ) → low < at → stands_in (map (segment_of item) (range_with_len at n)) (segment_of item low) ≡ false
 none_below item low at zero lt = refl
@@ -172,33 +174,27 @@ places_given all before item e n h =
     let below = (serial_in 0 all s.item n k.item).1 in
     ap not (none_of_item s item.serial new (omega arith) (item_of_each item))) (last_places before) (Each-last_places _ before h)))
 
-list_any-weaker : {X : Type 0} (p q : X → Bool) → ((x : X) → p x ≡ true → q x ≡ true) → (xs : List X) → list_any p xs ≡ true → list_any q xs ≡ true
-list_any-weaker p q f [] h = h
-list_any-weaker p q f (x ∷ xs) h = elim (cases_Bool (p x)) [
-  | inl t ↦ rw (f x t) refl
-  | inr g ↦ (let rest : list_any q xs ≡ true = list_any-weaker p q f xs (ap (λ b. b || list_any p xs) (sym g) ∙ h) in or_right (q x) (list_any q xs) rest)
-]
-
 -- an older piece is live behind a new item only where it was live before
-older_serial : (all : List Item) (item : Item) (serial : ℕ) (key : Key) → item.serial ≡ length all → serial < length all
-    → has_serial serial (latest_of (all ++ item ∷ []) key) ≡ true → has_serial serial (latest_of all key) ≡ true
-older_serial all item serial key e lt h =
-    let k = ap (has_serial serial) (sym (latest_push key all item None)) ∙ h in
+older_serial : (all : List Item) (item : Item) (clock moment serial : ℕ) (key : Key) → item.serial ≡ length all → clock ≤ moment → serial < length all
+    → lives_as moment serial (latest_of (all ++ item ∷ []) key) ≡ true → lives_as clock serial (latest_of all key) ≡ true
+older_serial all item clock moment serial key e le lt h =
+    let k = ap (lives_as moment serial) (sym (latest_push key all item None)) ∙ h in
     elim (cases_Bool (has_key key item)) [
       | inl t ↦ (
-          let bad : (item.serial == serial) ≡ true = ap (λ b. has_serial serial (if b then Some (latest_of_item item) else latest_of all key)) (sym t) ∙ k in
+          let lives : lives_as moment serial (Some (latest_of_item item)) ≡ true
+          = ap (λ b. lives_as moment serial (if b then Some (latest_of_item item) else latest_of all key)) (sym t) ∙ k in
+          let bad : (item.serial == serial) ≡ true = (and_parts (nat_lt moment (latest_of_item item).until) (item.serial == serial) lives).1 in
           let no : (item.serial == serial) ≡ false = grind (arith, nat_tests) in
           absurd (cc))
-      | inr f ↦ ap (λ b. has_serial serial (if b then Some (latest_of_item item) else latest_of all key)) (sym f) ∙ k
+      | inr f ↦ lives_earlier clock moment serial (latest_of all key) le
+          (ap (λ b. lives_as moment serial (if b then Some (latest_of_item item) else latest_of all key)) (sym f) ∙ k)
     ]
 
 pub older_lives : (all : List Item) (item : Item) (clock moment : ℕ) (p : Piece) → item.serial ≡ length all → clock ≤ moment → p.serial < length all
     → live_by (latest_of (all ++ item ∷ [])) moment p ≡ true → live_by (latest_of all) clock p ≡ true
 older_lives all item clock moment p e le lt h =
-    let both = and_parts (nat_lt moment p.until) (list_any (λ key. has_serial p.serial (latest_of (all ++ item ∷ []) key)) p.keys) h in
-    and_from (nat_lt clock p.until) _ (lt-ltb clock p.until (omega (arith, ltb-true moment p.until both.0)))
-    (list_any-weaker (λ key. has_serial p.serial (latest_of (all ++ item ∷ []) key)) (λ key. has_serial p.serial (latest_of all key))
-    (λ key k. older_serial all item p.serial key e lt k) p.keys both.1)
+    list_any-weaker (λ key. lives_as moment p.serial (latest_of (all ++ item ∷ []) key)) (λ key. lives_as clock p.serial (latest_of all key))
+    (λ key k. older_serial all item clock moment p.serial key e le lt k) p.keys h
 
 -- what waits behind an item that was given
 pub given_line : (table : LifeTable) (station : StationId) (past : List Event) (moment : ℕ) (update : Update) (w : Weather) (clock : ℕ) (old new : List Piece)

@@ -83,6 +83,10 @@ pub one-superseded : is_live (given (of_two_keys ∷ newer_at (codes "KAAA") ∷
 unfolding free_number default_table
 one-superseded = refl
 
+pub other-superseded : is_live (given (of_two_keys ∷ newer_at (codes "KBBB") ∷ [])) 1700000060 item_of_two ≡ true
+unfolding free_number default_table
+other-superseded = refl
+
 pub both-superseded : is_live (given (of_two_keys ∷ newer_at (codes "KAAA") ∷ newer_at (codes "KBBB") ∷ [])) 1700000060 item_of_two ≡ false
 unfolding free_number default_table
 both-superseded = refl

@@ -1,5 +1,5 @@
 -- Items are numbered by their place, and what is logged are segments of items that were given.
-use Rattle.std.proofs.Common.{◌≡◌, ℕ, ◌+◌, ◌-◌, ◌<◌, ◌≤◌, Bool, true, false, not, ◌&&◌, nat_lt, nat_le, if◌then◌else◌, List, [], ◌∷◌, ◌++◌, length, map, flat_map, Option, Some, None, refl, sym, ap, subst, ◌∙◌, inl, inr, arith, length-append}
+use Rattle.std.proofs.Common.{◌≡◌, ℕ, ◌+◌, ◌-◌, ◌<◌, ◌≤◌, Bool, true, false, not, ◌&&◌, ◌==◌, nat_lt, nat_le, if◌then◌else◌, List, [], ◌∷◌, ◌++◌, length, map, flat_map, Option, Some, None, refl, sym, ap, subst, ◌∙◌, inl, inr, arith, length-append}
 use Rattle.std.specs.List.{list_any}
 use Rattle.std.proofs.lemmas.Bool.{cases_Bool, lt-ltb}
 use Rattle.std.proofs.lemmas.Bool.Decides.{nat_tests}
@@ -19,7 +19,7 @@ use Rattle.ground_core.specs.Item.{Weather, Item, Segment, segments_of, segment_
 use Rattle.ground_core.specs.History.{Event, accepted, fill, items, new_items, items_made, item_of}
 use Rattle.ground_core.specs.Update.{Update, weather_of}
 use Rattle.ground_core.specs.Airing.{Touch, touch, log, airing, waiting, fitting, frame_room, has_key, is_newest_for, is_live}
-use Rattle.ground_core.specs.Piece.{Latest, piece_of, has_serial, live_by}
+use Rattle.ground_core.specs.Piece.{Latest, piece_of, lives_as, live_by}
 use Rattle.ground_core.specs.StandsFor.{latest_after, latest_of, latest_of_item}
 use Rattle.ground_core.proofs.KeyLemmas.{text_key_itself}
 use Rattle.ground_core.proofs.ListLemmas.{Each, Each-append, Each-weaker, Each-filter, Each-in, list_any-map, list_any-same}
@@ -136,6 +136,14 @@ logged table station (fill moment slot ∷ past) =
     (Each-append _ (segments_in (log table station past)) _ before
     (Each-fitting _ frame_room _ (Each-waiting _ all (log table station past) moment before))))
 
+and_false : (b : Bool) → (b && false) ≡ false
+and_false true = refl
+and_false false = refl
+
+abbrev has_serial : ℕ → Option Latest → Bool
+has_serial serial None = false
+has_serial serial (Some latest) = latest.serial == serial
+
 -- the last item with a key has the serial of an item that has the key exactly where no later one has it
 other_serial : (s n : ℕ) (key : Key) (later : List Item) (before : Option Latest) → s < n → Numbered n later → has_serial s before ≡ false
     → has_serial s (latest_after key later before) ≡ false
@@ -178,18 +186,68 @@ latest_is n key (o ∷ more) before item h i k = elim i [
 itself_cmp : (n : ℕ) → nat_cmp n n ≡ Equal
 itself_cmp n = tied_itself nat_cmp_total n
 
-same_key_itself : (key : Key) → same_key key key ≡ true
+pub same_key_itself : (key : Key) → same_key key key ≡ true
 same_key_itself (radar_block key) = rw (itself_cmp key.product, itself_cmp key.scale, itself_cmp (bit key.south), itself_cmp key.number) refl
 same_key_itself (text_report key) = text_key_itself key
+
+-- the item of a serial has one end
+abbrev EndsAs : ℕ → ℕ → Option Latest → Type 0
+EndsAs serial until None = Unit {0}
+EndsAs serial until (Some latest) = latest.serial ≡ serial → latest.until ≡ until
+
+ends_as : (serial until : ℕ) (key : Key) (all : List Item) (before : Option Latest)
+    → Each (λ o. o.serial ≡ serial → end_of o.weather ≡ until) all → EndsAs serial until before → EndsAs serial until (latest_after key all before)
+ends_as serial until key [] before h e = e
+ends_as serial until key (o ∷ more) before h e =
+    ends_as serial until key more (if has_key key o then Some (latest_of_item o) else before) h.1
+    (elim (cases_Bool (has_key key o)) [ inl t ↦ rw t h.0 | inr f ↦ rw f e ])
+
+lives_split : (moment serial until : ℕ) (latest : Option Latest) → EndsAs serial until latest
+    → lives_as moment serial latest ≡ (nat_lt moment until && has_serial serial latest)
+lives_split moment serial until None h = sym (and_false (nat_lt moment until))
+lives_split moment serial until (Some latest) h = elim (cases_Bool (latest.serial == serial)) [
+  | inl t ↦ ap (λ n. nat_lt moment n && (latest.serial == serial)) (h (grind (arith, nat_tests)))
+  | inr f ↦ rw f (and_false (nat_lt moment latest.until) ∙ sym (and_false (nat_lt moment until)))
+]
+
+any_and : {X : Type 0} (b : Bool) (p : X → Bool) (xs : List X) → list_any (λ x. b && p x) xs ≡ (b && list_any p xs)
+any_and true p xs = refl
+any_and false p [] = refl
+any_and false p (x ∷ xs) = any_and false p xs
+
+one_serial : (n : ℕ) (xs : List Item) (x y : Item) → Numbered n xs → IsIn x xs → IsIn y xs → x.serial ≡ y.serial → x ≡ y
+one_serial n [] x y h i j e = absurd i
+one_serial n (z ∷ zs) x y h i j e = elim i [
+  | inl a ↦ elim j [
+    | inl b ↦ a ∙ sym b
+    | inr d ↦ (
+        let above = (serial_in (n + 1) zs y h.1 d).0 in
+        let s : x.serial ≡ n = ap (λ (w : Item). w.serial) a ∙ h.0 in
+        absurd (omega arith))
+  ]
+  | inr c ↦ elim j [
+    | inl b ↦ (
+        let above = (serial_in (n + 1) zs x h.1 c).0 in
+        let s : y.serial ≡ n = ap (λ (w : Item). w.serial) b ∙ h.0 in
+        absurd (omega arith))
+    | inr d ↦ one_serial (n + 1) zs x y h.1 c d e
+  ]
+]
 
 -- so the last serials of its keys tell whether an item is live
 pub live_same : (all : List Item) (moment : ℕ) (s : Segment) → Numbered 0 all → IsIn s.item all
     → live_by (latest_of all) moment (piece_of s) ≡ is_live all moment s.item
 live_same all moment s h i =
-    ap (λ b. nat_lt moment (end_of s.item.weather) && b)
-    (list_any-map (λ key. has_serial s.item.serial (latest_of all key)) (λ (entry : Entry). entry.key) s.item.weather.entries
-    ∙ list_any-same _ (λ entry. is_newest_for all s.item entry.key) s.item.weather.entries (Each-in _ s.item.weather.entries (λ entry j.
-    latest_is 0 entry.key all None s.item h i (in_any (λ e. same_key entry.key e.key) entry s.item.weather.entries j (same_key_itself entry.key)))))
+    let until : ℕ = end_of s.item.weather in
+    let ends = Each-in (λ o. o.serial ≡ s.item.serial → end_of o.weather ≡ until) all (λ o j e.
+    ap (λ (x : Item). end_of x.weather) (one_serial 0 all o s.item h j i e)) in
+    list_any-map (λ key. lives_as moment s.item.serial (latest_of all key)) (λ (entry : Entry). entry.key) s.item.weather.entries
+    ∙ list_any-same _ (λ entry. nat_lt moment until && is_newest_for all s.item entry.key) s.item.weather.entries
+    (Each-in _ s.item.weather.entries (λ entry j.
+    lives_split moment s.item.serial until (latest_of all entry.key) (ends_as s.item.serial until entry.key all None ends tt)
+    ∙ ap (λ b. nat_lt moment until && b)
+    (latest_is 0 entry.key all None s.item h i (in_any (λ e. same_key entry.key e.key) entry s.item.weather.entries j (same_key_itself entry.key)))))
+    ∙ any_and (nat_lt moment until) (λ entry. is_newest_for all s.item entry.key) s.item.weather.entries
 
 pub latest_push : (key : Key) (xs : List Item) (item : Item) (before : Option Latest)
     → latest_after key (xs ++ item ∷ []) before ≡ (if has_key key item then Some (latest_of_item item) else latest_after key xs before)

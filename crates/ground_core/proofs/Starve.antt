@@ -1,9 +1,9 @@
 -- A segment that waits comes nearer to the front with each fill.
-use Rattle.std.proofs.Common.{◌≡◌, ℕ, zero, suc, ◌+◌, ◌-◌, ◌*◌, ◌/◌, ◌<◌, ◌≤◌, ◌⊎◌, Bool, true, false, ◌&&◌, nat_lt, nat_le, cond, if◌then◌else◌, List, [], ◌∷◌, ◌++◌, length, map, filter, flat_map, Option, Some, None, refl, sym, ap, subst, ◌∙◌, inl, inr, arith, append-nil, append_assoc}
+use Rattle.std.proofs.Common.{◌≡◌, ℕ, zero, suc, ◌+◌, ◌-◌, ◌*◌, ◌/◌, ◌<◌, ◌≤◌, ◌⊎◌, Bool, true, nat_lt, nat_le, cond, if◌then◌else◌, List, [], ◌∷◌, ◌++◌, length, filter, flat_map, refl, sym, ap, subst, ◌∙◌, inl, inr, arith, append-nil, append_assoc}
 use Rattle.std.proofs.lemmas.Bool.{cases_Bool, leb-true, leb-false, le-leb, lt-ltb, ltb-true, and_parts, and_from}
 use Rattle.std.proofs.lemmas.List.Elements.{filter-append}
 use Rattle.list_members.specs.Membership.{IsIn}
-use Rattle.list_members.proofs.Members.{IsIn-before, IsIn-after, IsIn-either, IsIn-from_filter, IsIn-filter}
+use Rattle.list_members.proofs.Members.{IsIn-before, IsIn-after, IsIn-from_filter}
 use Rattle.life_table.specs.LifeTable.{LifeTable}
 use Rattle.uplink_frame.specs.declared.station.StationId.{StationId}
 use Rattle.std.specs.List.{range_with_len}
@@ -13,9 +13,9 @@ use Rattle.ground_core.specs.Item.{Weather, Item, Segment, room_of, segments_of,
 use Rattle.ground_core.specs.Update.{Update, text, weather_of}
 use Rattle.ground_core.specs.Piece.{piece_of}
 use Rattle.ground_core.specs.History.{Event, accepted, fill, moment_of, items, items_made, new_items, item_of}
-use Rattle.ground_core.specs.Airing.{log, waiting, airing, fitting, is_live}
-use Rattle.ground_core.specs.Broadcast.{IsHistory, IsNext, IsNotBefore}
-use Rattle.ground_core.specs.Starving.{bytes_of, waiting_after, aired_after, fills, WaitsStill, AreFrom, NoStarvation}
+use Rattle.ground_core.specs.Airing.{log, fitting, is_live}
+use Rattle.ground_core.specs.Broadcast.{IsHistory, IsNotBefore}
+use Rattle.ground_core.specs.Starving.{bytes_of, waiting_after, fills, WaitsStill, AreFrom, NoStarvation}
 use Rattle.ground_core.proofs.ListLemmas.{Each, Each-weaker, Each-all, Each-at, filter_less}
 use Rattle.ground_core.proofs.Order.{last_places, segments_in, waiting_is}
 use Rattle.ground_core.proofs.Serials.{Numbered, numbered_items, serial_in, IsLogged, logged, logged_more, log_given, Each-waiting, live_same}

@@ -1,6 +1,6 @@
 -- The history of one station's ground, and the items that it was given. A history has its newest event first; what is made
 -- of it has its oldest member first.
-use Rattle.std.specs.Prelude.{ℕ, ◌+◌, Bool, false, not, ◌&&◌, ◌==◌, nat_lt, if◌then◌else◌, List, [], ◌∷◌, ◌++◌, length, filter, find, Option, Some, None, unwrap_or}
+use Rattle.std.specs.Prelude.{ℕ, ◌+◌, Bool, false, not, ◌&&◌, ◌==◌, nat_lt, max, if◌then◌else◌, List, [], ◌∷◌, ◌++◌, length, filter, find, Option, Some, None, unwrap_or}
 use Rattle.std.specs.List.{list_any, range_with_len}
 use Rattle.life_table.specs.LifeTable.{LifeTable, longest}
 use Rattle.uplink_frame.specs.declared.station.StationId.{StationId}
@@ -24,6 +24,13 @@ is_kept table moment w = nat_lt moment (w.version + unwrap_or (longest table w.p
 abbrev pub is_rival : LifeTable → ℕ → Weather → Item → Bool
 is_rival table moment w other = is_segmented other.weather && is_kept table moment other.weather
     && (other.weather.product == w.product) && (other.weather.version == w.version)
+
+-- the greatest life of all rows: no update is accepted once its version and this life have passed
+abbrev pub life_of : LifeTable → ℕ → ℕ
+life_of table product = unwrap_or (longest table product) 0
+
+abbrev pub greatest_life : LifeTable → ℕ
+greatest_life table = max (life_of table 413) (max (life_of table 63) (life_of table 64))
 
 abbrev pub has_number : ℕ → Option ℕ → Bool
 has_number n None = false

@@ -1,5 +1,5 @@
 -- The moment of the last event of a history, and a frame as it goes on the air.
-use Rattle.std.specs.Prelude.{◌≡◌, ℕ, List, [], ◌∷◌, length, Option, Some, None}
+use Rattle.std.specs.Prelude.{◌≡◌, ℕ, List, [], ◌∷◌, length, Option, Some, None, unwrap_or}
 use Rattle.uplink_weave.specs.Functions.{woven}
 use Rattle.ground_core.specs.History.{Event, moment_of}
 use Rattle.ground_core.specs.Airing.{Frame, used_room, frame_payload}
@@ -9,6 +9,9 @@ use Rattle.ground_core.specs.declared.air_frame.AirFrame.{AirFrame}
 abbrev pub clock_of : List Event → Option ℕ
 clock_of [] = None
 clock_of (event ∷ past) = Some (moment_of event)
+
+abbrev pub moment_now : List Event → ℕ
+moment_now history = unwrap_or (clock_of history) 0
 
 -- the frame is this one, woven
 pub record IsOnAir (sent : Frame) (frame : AirFrame) : Type 0 where

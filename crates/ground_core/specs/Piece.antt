@@ -1,16 +1,16 @@
--- What of a segment counts for sending it: which item it is of, for which keys, until when, and what is sent.
-use Rattle.std.specs.Prelude.{ℕ, ◌+◌, ◌-◌, Bool, false, ◌&&◌, ◌==◌, nat_lt, nat_le, if◌then◌else◌, List, [], ◌∷◌, map, length, Option, Some, None}
+-- What of a segment counts for sending it: which item it is of, for which keys, and what is sent.
+use Rattle.std.specs.Prelude.{◌≡◌, ℕ, ◌+◌, ◌-◌, ◌≤◌, ◌⊎◌, Bool, false, ◌&&◌, ◌==◌, nat_lt, nat_le, if◌then◌else◌, List, [], ◌∷◌, map, length, Option, Some, None}
 use Rattle.std.specs.List.{list_any}
 use Rattle.apdu_core.specs.Apdu.{apdu_bytes, header_length}
 use Rattle.segment_core.specs.File.{File, part_of, apdu_of_segment}
 use Rattle.segment_core.specs.File as files
+use Rattle.list_members.specs.Membership.{IsIn}
 use Rattle.picture_core.specs.Key.{Key}
-use Rattle.ground_core.specs.Item.{Item, Segment, file_of, end_of}
+use Rattle.ground_core.specs.Item.{Item, Segment, file_of}
 
 pub record Piece : Type 0 where
   pub serial : ℕ
   pub keys : List Key
-  pub until : ℕ
   pub file : File
   pub number : ℕ
 
@@ -21,7 +21,6 @@ abbrev pub piece_of : Segment → Piece
 piece_of s = record {
   serial = s.item.serial;
   keys = keys_of s.item;
-  until = end_of s.item.weather;
   file = file_of s.item;
   number = s.number;
 }
@@ -47,15 +46,38 @@ left_pieces room (p ∷ more) = if nat_le (room_of_piece p) room
     then left_pieces (room - room_of_piece p) more
     else p ∷ more
 
--- the version and the serial of the last item that was given with a key
+-- the version and the serial of the last item that was given with a key, and the end of its life
 pub record Latest : Type 0 where
   pub version : ℕ
   pub serial : ℕ
+  pub until : ℕ
 
-abbrev pub has_serial : ℕ → Option Latest → Bool
-has_serial serial None = false
-has_serial serial (Some latest) = latest.serial == serial
+abbrev pub lives_as : ℕ → ℕ → Option Latest → Bool
+lives_as moment serial None = false
+lives_as moment serial (Some latest) = nat_lt moment latest.until && (latest.serial == serial)
 
--- a piece is live before the end of its life, while its item is the last one of one of its keys
+-- a piece is live while its item is the last one of one of its keys, before the end of that one's life
 abbrev pub live_by : (Key → Option Latest) → ℕ → Piece → Bool
-live_by latest moment p = nat_lt moment p.until && list_any (λ key. has_serial p.serial (latest key)) p.keys
+live_by latest moment p = list_any (λ key. lives_as moment p.serial (latest key)) p.keys
+
+-- what is kept of a key is what was given last, or nothing once the life of that is over
+abbrev pub HasEnded : ℕ → Option Latest → Type 0
+HasEnded moment None = Unit {0}
+HasEnded moment (Some latest) = latest.until ≤ moment
+
+abbrev pub IsKept : ℕ → Option Latest → Option Latest → Type 0
+IsKept moment last kept = (kept ≡ last) ⊎ ((kept ≡ None) × HasEnded moment last)
+
+-- what is kept of a key is of an item that has a place in the queue
+pub record HasPlace (line : List Piece) (key : Key) (kept : Latest) : Type 0 where
+  pub piece : Piece
+  pub waits : IsIn piece line
+  pub serial : piece.serial ≡ kept.serial
+  pub of_key : IsIn key piece.keys
+
+abbrev pub ArePlaced : (Key → Option Latest) → List Piece → Type 0
+ArePlaced latest line = (key : Key) (kept : Latest) → latest key ≡ Some kept → HasPlace line key kept
+
+abbrev pub while_living : ℕ → Option Latest → Option Latest
+while_living moment None = None
+while_living moment (Some latest) = if nat_lt moment latest.until then Some latest else None

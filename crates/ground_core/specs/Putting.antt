@@ -1,5 +1,5 @@
 -- What an item that is put changes of what is kept.
-use Rattle.std.specs.Prelude.{◌≡◌, ℕ, ◌+◌, ◌<◌, true, ◌&&◌, ◌==◌, if◌then◌else◌, List, ◌++◌, map, Option, Some, Ok}
+use Rattle.std.specs.Prelude.{◌≡◌, ℕ, ◌+◌, ◌<◌, true, ◌&&◌, ◌==◌, nat_lt, if◌then◌else◌, List, ◌++◌, map, Option, Some, Ok}
 use Rattle.std.specs.List.{range_with_len}
 use Rattle.dlac_text.specs.Payload.{text_payload}
 use Rattle.life_table.specs.LifeTable.{LifeTable, TextRow, text_row}
@@ -11,7 +11,7 @@ use Rattle.picture_core.specs.Contents.{text_product}
 use Rattle.ground_core.specs.Piece.{Latest}
 use Rattle.ground_core.specs.Views.{latest_at, count_at, pieces_in, piece_at}
 use Rattle.ground_core.specs.declared.item.SentItem.{SentItem}
-use Rattle.ground_core.specs.declared.sending.Ground.{Ground}
+use Rattle.ground_core.specs.declared.ground.Ground.{Ground}
 
 -- station and table stay in any case
 pub record IsPut (old : Ground) (moment : ℕ) (item : SentItem) (new : Ground) : Type 0 where
@@ -20,10 +20,12 @@ pub record IsPut (old : Ground) (moment : ℕ) (item : SentItem) (new : Ground) 
   pub clock : new.clock ≡ Some moment
   pub given : new.given ≡ old.given + 1
   pub newest : (key : Key) → latest_at new.newest key ≡ (if same_key (text_report (key_view item.key)) key
-      then Some (record { version = item.version; serial = item.serial })
+      then Some (record { version = item.version; serial = item.serial; until = item.until })
       else latest_at old.newest key)
-  pub files : (version product : ℕ) → count_at new.files version product ≡ count_at old.files version product
+  pub files : (version product : ℕ) → count_at new.files version product ≡ (if nat_lt moment (version + old.life)
+      then count_at old.files version product
       + (if of_file.is_segmented item.form item.payload && (item.version == version) && (item.product == product) then 1 else 0)
+      else 0)
   pub line : pieces_in new.line ≡ pieces_in old.line ++ map (piece_at item) (range_with_len 1 item.count)
 
 -- what counts is as it was

@@ -1,21 +1,22 @@
--- Which histories an object stands for. What is dead in its queue counts for nothing.
-use Rattle.std.specs.Prelude.{◌≡◌, ℕ, Bool, ◌&&◌, ◌==◌, if◌then◌else◌, List, [], ◌∷◌, map, filter, length, Option, Some, None, unwrap_or}
+-- Which histories an object stands for. What is dead in its queue counts for nothing, and what no later answer can need is
+-- forgotten.
+use Rattle.std.specs.Prelude.{◌≡◌, ℕ, ◌+◌, Bool, ◌&&◌, ◌==◌, nat_lt, if◌then◌else◌, List, [], ◌∷◌, map, filter, length, Option, Some, None}
 use Rattle.list_members.specs.Membership.{IsIn}
 use Rattle.life_table.specs.LifeTable.{LifeTable}
 use Rattle.uplink_frame.specs.declared.station.StationId.{StationId}
 use Rattle.picture_core.specs.Key.{Key}
-use Rattle.ground_core.specs.Item.{Item, Segment, is_segmented}
-use Rattle.ground_core.specs.History.{Event, items}
+use Rattle.ground_core.specs.Item.{Item, Segment, is_segmented, end_of}
+use Rattle.ground_core.specs.History.{Event, items, greatest_life}
 use Rattle.ground_core.specs.Airing.{has_key, log, waiting}
 use Rattle.ground_core.specs.Broadcast.{IsHistory}
-pub use Rattle.ground_core.specs.OnAir.{clock_of, IsOnAir}
-use Rattle.ground_core.specs.Piece.{Piece, Latest, piece_of, live_by}
+pub use Rattle.ground_core.specs.OnAir.{clock_of, moment_now, IsOnAir}
+use Rattle.ground_core.specs.Piece.{Piece, Latest, IsKept, ArePlaced, piece_of, live_by}
 use Rattle.ground_core.specs.Views.{latest_at, count_at, pieces_in}
-use Rattle.ground_core.specs.declared.sending.Ground.{Ground}
+use Rattle.ground_core.specs.declared.ground.Ground.{Ground}
 
 -- the last item with a key, as far as it counts
 abbrev pub latest_of_item : Item → Latest
-latest_of_item item = record { version = item.weather.version; serial = item.serial }
+latest_of_item item = record { version = item.weather.version; serial = item.serial; until = end_of item.weather }
 
 abbrev pub latest_after : Key → List Item → Option Latest → Option Latest
 latest_after key [] before = before
@@ -36,18 +37,23 @@ pub record IsOfLog (table : LifeTable) (station : StationId) (history : List Eve
   pub given : IsIn segment (map (λ t. t.segment) (log table station history))
   pub piece_is : p ≡ piece_of segment
 
--- Under a table and a station: the clock is the moment of the last event; of each key the version of its last item is kept, and
--- of each version and product how many items in segments there were; the queue has pieces of segments that were given, and
--- what is live of it is what waits, in its order.
+-- Under a table and a station: the clock is the moment of the last event. Of each key its last item is kept, or nothing once
+-- the life of that is over; what is kept of a key is of an item that has a place in the queue. How many items in segments a
+-- version and a product had is kept until the version and the greatest life have passed. The queue has pieces of segments
+-- that were given, and what is live of it is what waits, in its order.
 pub record StandsFor (table : LifeTable) (station : StationId) (sender : Ground) (history : List Event) : Type 0 where
   pub is_history : IsHistory table station history
   pub table_is : sender.table ≡ table
   pub station_is : sender.station ≡ station
   pub clock_is : sender.clock ≡ clock_of history
   pub given_is : sender.given ≡ length (items table station history)
-  pub newest_is : (key : Key) → latest_at sender.newest key ≡ latest_of (items table station history) key
+  pub newest_is : (key : Key) → IsKept (moment_now history) (latest_of (items table station history) key)
+      (latest_at sender.newest key)
   pub files_are : (version product : ℕ)
-      → count_at sender.files version product ≡ length (filter (is_filed version product) (items table station history))
+      → count_at sender.files version product ≡ (if nat_lt (moment_now history) (version + greatest_life table)
+      then length (filter (is_filed version product) (items table station history))
+      else 0)
+  pub placed : ArePlaced (latest_at sender.newest) (pieces_in sender.line)
   pub of_log : (p : Piece) → IsIn p (pieces_in sender.line) → IsOfLog table station history p
-  pub line_is : filter (live_by (latest_at sender.newest) (unwrap_or (clock_of history) 0)) (pieces_in sender.line)
-      ≡ map piece_of (waiting (items table station history) (log table station history) (unwrap_or (clock_of history) 0))
+  pub line_is : filter (live_by (latest_at sender.newest) (moment_now history)) (pieces_in sender.line)
+      ≡ map piece_of (waiting (items table station history) (log table station history) (moment_now history))

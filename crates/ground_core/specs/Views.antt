@@ -30,7 +30,6 @@ abbrev pub piece_at : SentItem → ℕ → Piece
 piece_at item number = record {
   serial = item.serial;
   keys = text_report (key_view item.key) ∷ [];
-  until = item.until;
   file = file_at item;
   number = number;
 }
@@ -42,7 +41,7 @@ abbrev pub pieces_in : Line → List Piece
 pieces_in line = map place_view line.places.items
 
 abbrev pub given_view : Given → Latest
-given_view g = record { version = g.version; serial = g.serial }
+given_view g = record { version = g.version; serial = g.serial; until = g.until }
 
 abbrev pub given_key : TextKey → GivenKey
 given_key key = record { kind = key.kind; place = key.place; third = key.third }

@@ -43,8 +43,10 @@ pub(crate) fn encoded(alloc: Global, text: &str) -> Result<Bytes, GiveFault>
 /// The key of a text, or why it has none.
 pub(crate) fn keyed(alloc: Global, table: &LifeTable, text: &str) -> Result<TextKey, GiveFault>
     ensures key { IfOk result (λ key. text_key table.now text.now ≡ Ok (key_view key)) }
-    ensures fault { IfErr result (λ fault. (latest : Key → Option Latest) (count : ℕ → ℕ → ℕ) (moment version : ℕ)
-        → IsTold (key_refusal_by table.now latest count moment version text.now (text_key table.now text.now)) fault) }
+    ensures fault { IfErr result (λ fault. (latest : Key → Option Latest)
+        (count : ℕ → ℕ → ℕ) (moment version : ℕ)
+        → IsTold (key_refusal_by table.now latest count moment version text.now
+        (text_key table.now text.now)) fault) }
 {
     match key_of(alloc, table, text) {
         Ok(key) => Ok(key),
@@ -64,9 +66,11 @@ pub(crate) fn version_fault(
     kept: Option<Moment>,
 ) -> Option<GiveFault>
     requires { life ≤ 2592000 }
-    ensures tells { (w : Weather) (later : Option GiveRefusal) → w.form ≡ form → w.version ≡ version → w.life ≡ life
+    ensures tells { (w : Weather) (later : Option GiveRefusal)
+        → w.form ≡ form → w.version ≡ version → w.life ≡ life
         → IfSome result (λ fault. IsTold (version_refusal moment w kept later) fault) }
-    ensures passes { (w : Weather) (later : Option GiveRefusal) → w.form ≡ form → w.version ≡ version → w.life ≡ life
+    ensures passes { (w : Weather) (later : Option GiveRefusal)
+        → w.form ≡ form → w.version ≡ version → w.life ≡ life
         → IfNone result (version_refusal moment w kept later ≡ later) }
     ensures shown { IfNone result (IsTrue (shows form version)) }
 {
@@ -91,8 +95,10 @@ pub(crate) fn version_fault(
 pub(crate) fn file_number(is_segmented: bool, count: u64) -> Result<u16, GiveFault>
     ensures number { IfOk result (λ number. number ≡ (if is_segmented then count else 0)) }
     ensures few { IfOk result (λ number. number < 1024) }
-    ensures none { (w : Weather) → is_segmented ≡ items.is_segmented w → OnOk result (count_refusal w count ≡ None) }
-    ensures fault { (w : Weather) → is_segmented ≡ items.is_segmented w → IfErr result (IsTold (count_refusal w count)) }
+    ensures none { (w : Weather) → is_segmented ≡ items.is_segmented w
+        → OnOk result (count_refusal w count ≡ None) }
+    ensures fault { (w : Weather) → is_segmented ≡ items.is_segmented w
+        → IfErr result (IsTold (count_refusal w count)) }
 {
     if !is_segmented {
         return Ok(0);

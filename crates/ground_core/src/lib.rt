@@ -4,6 +4,7 @@
 mod air_frame;
 mod fault;
 mod files;
+mod ground;
 mod item;
 mod judging;
 mod laws;
@@ -11,13 +12,12 @@ mod line;
 mod newest;
 mod place;
 mod queue_laws;
-mod sending;
 
 pub use air_frame::AirFrame;
 pub use fault::{FillFault, GiveFault};
+pub use ground::Ground;
 pub use laws::{accepted_is_given, frames_read_back, histories_have_items, items_are_of_stations};
 pub use queue_laws::no_starvation;
-pub use sending::Ground;
 
 /// The station of a ground.
 pub type Station = uplink_frame::StationId;

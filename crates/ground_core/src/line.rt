@@ -4,7 +4,8 @@ ghost use Rattle.std.specs.List.{range_with_len};
 ghost use Rattle.list_members.specs.Membership.{IsIn};
 ghost use Rattle.uplink_frame.specs.UplinkFrame.{fisb_frame};
 ghost use Rattle.ground_core.specs.Views.{latest_at, piece_at};
-ghost use Rattle.ground_core.specs.Piece.{live_by};
+ghost use Rattle.picture_core.specs.Key.{Key};
+ghost use Rattle.ground_core.specs.Piece.{live_by, IsKept, ArePlaced};
 
 use crate::item::SentItem;
 use crate::newest::Newest;
@@ -50,7 +51,8 @@ impl Line {
     /// Puts the segments of an item behind all others.
     pub(crate) fn put(&mut self, item: &Rc<SentItem>) -> Result<(), AllocError>
         ensures ok { OnOk result (pieces_in self.new
-            ≡ pieces_in self.old ++ map (piece_at item.now.value) (range_with_len 1 item.now.value.count)) }
+            ≡ pieces_in self.old
+            ++ map (piece_at item.now.value) (range_with_len 1 item.now.value.count)) }
         ensures err { OnErr result (pieces_in self.new ≡ pieces_in self.old) }
     {
         let before = self.places.len();
@@ -64,8 +66,10 @@ impl Line {
     /// Pushes the segments of an item, or some of them.
     fn push_all(&mut self, item: &Rc<SentItem>) -> Result<(), AllocError>
         ensures ok { OnOk result (pieces_in self.new
-            ≡ pieces_in self.old ++ map (piece_at item.now.value) (range_with_len 1 item.now.value.count)) }
-        ensures others { take (length self.old.places.items) self.new.places.items ≡ self.old.places.items }
+            ≡ pieces_in self.old
+            ++ map (piece_at item.now.value) (range_with_len 1 item.now.value.count)) }
+        ensures others { take (length self.old.places.items) self.new.places.items
+            ≡ self.old.places.items }
     {
         let count = item.count;
         for number in 0..count {
@@ -81,16 +85,25 @@ impl Line {
     }
 
     /// Airs the longest front of what is live that fits the frame, which stands last then, and answers how many it aired.
-    pub(crate) fn air(&mut self, newest: &Newest, moment: Moment, frames: &mut AppData) -> usize
+    /// What is dead before it is dropped, and the keys of what has ended are forgotten.
+    pub(crate) fn air(&mut self, newest: &mut Newest, moment: Moment, frames: &mut AppData) -> usize
         requires { frames.old ≡ [] }
-        ensures number { result ≡ length (fitting_pieces 424 (filter (live_by (latest_at newest.now) moment) (pieces_in self.old))) }
+        ensures number { result
+            ≡ length (fitting_pieces 424 (filter (live_by (latest_at newest.old) moment)
+            (pieces_in self.old))) }
         ensures frames { frames.new ≡ map (λ p. fisb_frame (body_of_piece p))
-            (fitting_pieces 424 (filter (live_by (latest_at newest.now) moment) (pieces_in self.old))) }
+            (fitting_pieces 424 (filter (live_by (latest_at newest.old) moment)
+            (pieces_in self.old))) }
         ensures few { 2 * result ≤ 424 }
-        ensures line { filter (live_by (latest_at newest.now) moment) (pieces_in self.new)
-            ≡ left_pieces 424 (filter (live_by (latest_at newest.now) moment) (pieces_in self.old))
-            ++ fitting_pieces 424 (filter (live_by (latest_at newest.now) moment) (pieces_in self.old)) }
+        ensures line { filter (live_by (latest_at newest.old) moment) (pieces_in self.new)
+            ≡ left_pieces 424 (filter (live_by (latest_at newest.old) moment) (pieces_in self.old))
+            ++ fitting_pieces 424 (filter (live_by (latest_at newest.old) moment)
+            (pieces_in self.old)) }
         ensures among { (p : Piece) → IsIn p (pieces_in self.new) → IsIn p (pieces_in self.old) }
+        ensures kept { (key : Key)
+            → IsKept moment (latest_at newest.old key) (latest_at newest.new key) }
+        ensures placed { ArePlaced (latest_at newest.old) (pieces_in self.old)
+            → ArePlaced (latest_at newest.new) (pieces_in self.new) }
     {
         let mut room = [0; 422];
         let mut aired = 0;
@@ -104,20 +117,26 @@ impl Line {
         aired
     }
 
-    /// Looks at the front: drops it where it is dead, and airs it where it fits.
+    /// Looks at the front: drops it where it is dead, and forgets its key where that has ended; airs it where it fits.
     fn turn(
         &mut self,
-        newest: &Newest,
+        newest: &mut Newest,
         moment: Moment,
         room: &mut [u8; 422],
         frames: &mut AppData,
     ) -> Turn
-        ensures { IsTurn (live_by (latest_at newest.now) moment) (pieces_in self.old) frames.old (pieces_in self.new) frames.new result }
+        ensures kept { (key : Key)
+            → IsKept moment (latest_at newest.old key) (latest_at newest.new key) }
+        ensures placed { ArePlaced (latest_at newest.old) (pieces_in self.old)
+            → ArePlaced (latest_at newest.new) (pieces_in self.new) }
+        ensures turn { IsTurn (live_by (latest_at newest.old) moment)
+            (pieces_in self.old) frames.old (pieces_in self.new) frames.new result }
     {
         let Some(front) = self.places.front() else {
             return Turn::Stopped;
         };
         if !is_live(&front.item, newest, moment) {
+            newest.forget(&front.item.key, moment);
             let _ = self.places.pop_front();
             return Turn::Dropped;
         }
@@ -129,15 +148,13 @@ impl Line {
     }
 }
 
-/// Whether an item is live: its life is not over, and it was given last under its key.
+/// Whether an item is live: it was given last under its key, and its life is not over.
 fn is_live(item: &SentItem, newest: &Newest, moment: Moment) -> bool
-    ensures { (number : ℕ) → result ≡ live_by (latest_at newest.now) moment (piece_at item.now number) }
+    ensures { (number : ℕ) → result
+        ≡ live_by (latest_at newest.now) moment (piece_at item.now number) }
 {
-    if item.until <= moment.seconds() {
-        return false;
-    }
     match newest.of(&item.key) {
-        Some(given) => given.serial == item.serial,
+        Some(given) => moment.seconds() < given.until && given.serial == item.serial,
         None => false,
     }
 }

@@ -60,8 +60,11 @@ impl Place {
 
     /// Puts its information frame behind the others, where it fits, and answers whether it did.
     pub(crate) fn is_pushed(&self, room: &mut [u8; 422], frames: &mut AppData) -> bool
-        ensures answer { result ≡ nat_le (room_of_piece (place_view self.now)) (424 - length (spelled_frames frames.old)) }
-        ensures pushed { OnTrue result (frames.new ≡ frames.old ++ fisb_frame (body_of_piece (place_view self.now)) ∷ []) }
+        ensures answer { result
+            ≡ nat_le (room_of_piece (place_view self.now))
+            (424 - length (spelled_frames frames.old)) }
+        ensures pushed { OnTrue result (frames.new ≡ frames.old
+            ++ fisb_frame (body_of_piece (place_view self.now)) ∷ []) }
         ensures used { OnTrue result (length (spelled_frames frames.new)
             ≡ length (spelled_frames frames.old) + room_of_piece (place_view self.now)) }
         ensures left { OnFalse result (frames.new ≡ frames.old) }

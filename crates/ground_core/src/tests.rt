@@ -95,11 +95,42 @@ fn three_texts_of_273_characters_take_turns(rt: HostRuntime) -> Result<(), Fail>
         let text = with_letters(rt.alloc(), place, 262)?;
         assert_eq!(rt; given(&mut ground, NOW, MINUTE, text.as_str())?, None);
     }
-    for _ in 0..3 {
+    // The byte that begins with the third letter of each place: 4 for an A, 8 for a B, 12 for a C.
+    for (first, second) in [(4, 8), (12, 4), (8, 12)] {
         let frame = filled(&mut ground, NOW)?;
         assert_eq!(rt; frame.bodies, 2);
         assert_eq!(rt; frame.used, 424);
+        assert_eq!(rt; frame.air[120], first);
+        assert_eq!(rt; frame.air[99], second);
     }
+    Ok(())
+}
+
+/// The file number of the one segment of a frame, if it is below 64, and the segment's number.
+fn segment_of(frame: &AirFrame) -> (u8, u8) {
+    (frame.air[84] / 4, frame.air[96])
+}
+
+#[test]
+fn long_texts_of_one_version_are_numbered_from_0(rt: HostRuntime) -> Result<(), Fail> {
+    let mut ground = new_ground(rt.alloc())?;
+    for place in ["METAR KAAA ", "METAR KBBB "] {
+        let text = with_letters(rt.alloc(), place, 589)?;
+        assert_eq!(rt; given(&mut ground, NOW, MINUTE, text.as_str())?, None);
+    }
+    for expected in [(0, 1), (0, 2), (1, 1), (1, 2)] {
+        let frame = filled(&mut ground, NOW)?;
+        assert_eq!(rt; frame.bodies, 1);
+        assert_eq!(rt; segment_of(&frame), expected);
+    }
+    // No text lives longer than a day, so the numbers are free then.
+    let day_later = MINUTE + 86_400;
+    let text = with_letters(rt.alloc(), "METAR KCCC ", 589)?;
+    assert_eq!(rt;
+        given(&mut ground, day_later, day_later, text.as_str())?,
+        None
+    );
+    assert_eq!(rt; segment_of(&filled(&mut ground, day_later)?), (0, 1));
     Ok(())
 }
 
@@ -144,13 +175,41 @@ fn a_life_ends_at_its_second(rt: HostRuntime) -> Result<(), Fail> {
     let frame = filled(&mut ground, MINUTE + 7_200)?;
     assert_eq!(rt; frame.bodies, 0);
     assert_eq!(rt; frame.used, 0);
+
+    // Its key is forgotten, and an older version is refused because its life is over.
+    assert_eq!(rt;
+        given(&mut ground, MINUTE + 7_200, MINUTE, "METAR KSEA")?,
+        Some(GiveFault::Expired)
+    );
+    assert_eq!(rt;
+        given(&mut ground, MINUTE + 7_200, MINUTE + 60, "METAR KSEA")?,
+        None
+    );
+    assert_eq!(rt; filled(&mut ground, MINUTE + 7_200)?.bodies, 1);
     Ok(())
 }
 
-// Every 75th text is of another type, and so of another form or life.
+/// A table with a type of each form.
+const FOUR_FORMS: &str = "version = 1\nlate = 600\n\
+    [[text]]\ntype = \"METAR\"\nwords = 2\nlife = 7200\nform = 0\n\
+    [[text]]\ntype = \"TAF\"\nwords = 2\nlife = 28800\nform = 1\n\
+    [[text]]\ntype = \"PIREP\"\nwords = 3\nlife = 10800\nform = 2\n\
+    [[text]]\ntype = \"WINDS\"\nwords = 3\nlife = 86400\nform = 3\n";
+
+// The 75 texts of each type take 19, 19, 20 and 21 bytes each, so 30 frames have room for all twice,
+// even if 20 bytes are left at the end of each.
 #[test]
-fn many_texts_are_each_aired_twice(rt: HostRuntime) -> Result<(), Fail> {
-    let mut ground = new_ground(rt.alloc())?;
+fn texts_of_each_form_are_aired_twice(rt: HostRuntime) -> Result<(), Fail> {
+    let station = Station {
+        lat: 0,
+        lon: 0,
+        position_valid: false,
+        site: 0,
+    };
+    let table = LifeTable::read(rt.alloc(), FOUR_FORMS.as_bytes())
+        .ok()
+        .ok_or("a table")?;
+    let mut ground = Ground::new(rt.alloc(), station, table);
     for kind in ["METAR", "TAF", "PIREP", "WINDS"] {
         for place in 0..75u32 {
             let text = format!(in rt.alloc(); "{kind} K{place:03} THIRD")?;
@@ -158,7 +217,7 @@ fn many_texts_are_each_aired_twice(rt: HostRuntime) -> Result<(), Fail> {
         }
     }
     let mut bodies = 0u64;
-    for _ in 0..100 {
+    for _ in 0..30 {
         bodies = bodies.wrapping_add(u64::from(filled(&mut ground, NOW)?.bodies));
     }
     assert!(rt; bodies >= 600, "{bodies}");

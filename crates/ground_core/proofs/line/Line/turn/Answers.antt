@@ -1,11 +1,17 @@
-use Rattle.std.proofs.Common.{◌<◌, length, map, refl, sym, ap, ◌∙◌, inr, rules}
-use Rattle.ground_core.specs.Views.{place_view, piece_at, latest_at}
-use Rattle.ground_core.specs.Piece.{live_by}
+use Rattle.std.proofs.Common.{◌≡◌, ◌<◌, if◌then◌else◌, length, map, refl, sym, ap, subst, ◌∙◌, inr, rules}
+use Rattle.ground_core.specs.Views.{place_view, piece_at, latest_at, pieces_in}
+use Rattle.ground_core.specs.declared.item.SentItem.{SentItem}
+use Rattle.text_reports.specs.Views.{key_view}
+use Rattle.picture_core.specs.Key.{Key, text_report, same_key}
+use Rattle.ground_core.specs.Piece.{live_by, IsKept, ArePlaced, while_living}
+use Rattle.ground_core.proofs.Kept.{kept_where}
+use Rattle.ground_core.proofs.Placed.{placed_dropped, placed_aired}
+use Rattle.ground_core.proofs.Serials.{same_key_itself}
 use Rattle.ground_core.proofs.Turns.{has_front, rotated}
 use Rattle.ground_core.proofs.line.Line.turn.Goals as goal
 
-pub returns-then-not-is_live : goal.returns-then-not-is_live
-returns-then-not-is_live c =
+pub returns-then-not-is_live-clause-turn : goal.returns-then-not-is_live-clause-turn
+returns-then-not-is_live-clause-turn c =
     let some : 0 < length c.args.self.now.places.items = search rules in
     record {
       has = has_front c.args.self.now.places.items c.in-Some.front.now some c.in-Some.ensures.lookup;
@@ -15,8 +21,8 @@ returns-then-not-is_live c =
       frames_stay = refl;
     }
 
-pub returns-then-not-is_pushed : goal.returns-then-not-is_pushed
-returns-then-not-is_pushed c =
+pub returns-then-not-is_pushed-clause-turn : goal.returns-then-not-is_pushed-clause-turn
+returns-then-not-is_pushed-clause-turn c =
     let some : 0 < length c.args.self.now.places.items = search rules in
     record {
       cause = inr (record {
@@ -29,8 +35,8 @@ returns-then-not-is_pushed c =
       frames_stay = c.if-not-is_pushed.ensures.left;
     }
 
-pub returns : goal.returns
-returns c =
+pub returns-clause-turn : goal.returns-clause-turn
+returns-clause-turn c =
     let some : 0 < length c.args.self.now.places.items = search rules in
     record {
       has = has_front c.args.self.now.places.items c.in-Some.front.now some c.in-Some.ensures.lookup;
@@ -41,3 +47,28 @@ returns c =
       frames_are = c.if-not-is_pushed.ensures.pushed;
       used = c.if-not-is_pushed.ensures.used;
     }
+
+pub returns-then-not-is_live-clause-placed : goal.returns-then-not-is_live-clause-placed
+returns-then-not-is_live-clause-placed c h =
+    let some : 0 < length c.args.self.now.places.items = search rules in
+    let has = has_front c.args.self.now.places.items c.in-Some.front.now some c.in-Some.ensures.lookup in
+    let latest = latest_at c.args.newest.now in
+    let after = latest_at c.forget.new.self in
+    let own : Key = text_report (key_view c.in-Some.front.now.item.value.key) in
+    let named : Key = text_report (key_view c.deref-then-not-is_live.result.now.key) in
+    let same : named ≡ own = ap (λ (i : SentItem). text_report (key_view i.key)) c.deref-then-not-is_live.ensures in
+    let dead = ap (λ i. live_by latest c.args.moment (piece_at i c.in-Some.front.now.number)) (sym c.deref.ensures)
+    ∙ sym (c.is_live.ensures c.in-Some.front.now.number) ∙ c.if-not-is_live.true in
+    subst (ArePlaced after) (sym (ap (map place_view) c.pop_front.ensures.rest))
+    (placed_dropped latest after c.args.moment own (pieces_in c.args.self.now) has.behind has.front has.line_is refl dead
+    (λ key. subst (IsKept c.args.moment (latest key)) (sym (c.forget.ensures key)) (kept_where (same_key named key) c.args.moment (latest key)))
+    (c.forget.ensures own ∙ ap (λ b. if b then while_living c.args.moment (latest own) else latest own)
+    (ap (λ k. same_key k own) same ∙ same_key_itself own))
+    h)
+
+pub returns-clause-placed : goal.returns-clause-placed
+returns-clause-placed c h =
+    let some : 0 < length c.args.self.now.places.items = search rules in
+    let has = has_front c.args.self.now.places.items c.in-Some.front.now some c.in-Some.ensures.lookup in
+    placed_aired (latest_at c.args.newest.now) (pieces_in c.args.self.now) (map place_view c.rotate_left.new.self.items) has.behind has.front has.line_is
+    (ap (map place_view) c.rotate_left.ensures.items ∙ rotated c.args.self.now.places.items c.in-Some.front.now some c.in-Some.ensures.lookup) h

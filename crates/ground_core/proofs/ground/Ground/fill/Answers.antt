@@ -8,7 +8,7 @@ use Rattle.ground_core.specs.StandsFor.{clock_of}
 use Rattle.ground_core.specs.Views.{pieces_in}
 use Rattle.ground_core.proofs.State.{fill_stands}
 use Rattle.ground_core.proofs.OnAir.{sent_of, aired_pieces, frames_are, used_is, bodies_are}
-use Rattle.ground_core.proofs.sending.Ground.fill.Goals as goal
+use Rattle.ground_core.proofs.ground.Ground.fill.Goals as goal
 
 pub returns-clause-filled : goal.returns-clause-filled
 returns-clause-filled c table station history s =
@@ -18,9 +18,10 @@ returns-clause-filled c table station history s =
       station = refl;
       clock = refl;
       given = refl;
-      newest = refl;
-      files = refl;
+      newest = c.air-bodies.ensures.kept;
+      files = c.forget.ensures;
       line = c.air-bodies.ensures.line;
+      placed = c.air-bodies.ensures.placed;
       among = c.air-bodies.ensures.among;
     })
 

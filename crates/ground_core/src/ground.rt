@@ -4,7 +4,7 @@ ghost use Rattle.fisb_time.specs.Moment.{IsMoment};
 ghost use Rattle.life_table.specs.LifeTable.{LifeTable as Table};
 ghost use Rattle.uplink_frame.specs.declared.station.StationId.{StationId as Place};
 ghost use Rattle.uplink_frame.specs.Station.{FitsStation};
-ghost use Rattle.ground_core.specs.History.{Event, accepted, fill, items};
+ghost use Rattle.ground_core.specs.History.{Event, accepted, fill, items, greatest_life};
 ghost use Rattle.segment_core.specs.File as of_file;
 ghost use Rattle.ground_core.specs.Update.{text as text_update};
 ghost use Rattle.ground_core.specs.Refusal.{give_refusal};
@@ -34,11 +34,14 @@ pub struct Ground {
     station: StationId,
     table: LifeTable,
     clock: Option<Moment>,
+    /// No item lives longer.
+    life: u64,
     given: u64,
     newest: Newest,
     files: Files,
     line: Line,
     ghost fits: { FitsStation station },
+    ghost longest: { life ≡ greatest_life table },
 }
 
 impl Ground {
@@ -53,9 +56,11 @@ impl Ground {
         requires { FitsStation station }
         ensures { StandsFor table station result [] }
     {
+        let life = greatest_life(&table);
         Ground {
             alloc,
             station,
+            life,
             table,
             clock: None,
             given: 0,
@@ -84,17 +89,24 @@ impl Ground {
         requires { length text.now < 2 ^ 32 }
 
         // For every history that the object stands for: an accepted text is one more update, which nothing stood against.
-        ensures accepted { (table : Table) (station : Place) (history : List Event) → StandsFor table station self.old history
-            → OnOk result (StandsFor table station self.new (accepted moment (text_update version text.now) ∷ history)) }
-        ensures nothing_against { (table : Table) (station : Place) (history : List Event) → StandsFor table station self.old history
+        ensures accepted { (table : Table) (station : Place) (history : List Event)
+            → StandsFor table station self.old history
+            → OnOk result (StandsFor table station self.new (accepted moment
+            (text_update version text.now) ∷ history)) }
+        ensures nothing_against { (table : Table) (station : Place) (history : List Event)
+            → StandsFor table station self.old history
             → OnOk result ((early (clock_of history) moment ≡ None)
-            × (give_refusal table (items table station history) moment (text_update version text.now) ≡ None)) }
+            × (give_refusal table (items table station history) moment
+            (text_update version text.now) ≡ None)) }
 
         // The fault is the first reason, and the object stands for the same history.
-        ensures refused { (table : Table) (station : Place) (history : List Event) → StandsFor table station self.old history
+        ensures refused { (table : Table) (station : Place) (history : List Event)
+            → StandsFor table station self.old history
             → IfErr result (IsToldAt (early (clock_of history) moment)
-            (give_refusal table (items table station history) moment (text_update version text.now))) }
-        ensures same { (table : Table) (station : Place) (history : List Event) → StandsFor table station self.old history
+            (give_refusal table (items table station history) moment
+            (text_update version text.now))) }
+        ensures same { (table : Table) (station : Place) (history : List Event)
+            → StandsFor table station self.old history
             → OnErr result (StandsFor table station self.new history) }
     {
         longest_is_greatest();
@@ -115,14 +127,18 @@ impl Ground {
         requires { slot < 32 }
 
         // For every history that the object stands for: the frame is that of one more fill.
-        ensures filled { (table : Table) (station : Place) (history : List Event) → StandsFor table station self.old history
+        ensures filled { (table : Table) (station : Place) (history : List Event)
+            → StandsFor table station self.old history
             → OnOk result (StandsFor table station self.new (fill moment slot ∷ history)) }
-        ensures frame { (table : Table) (station : Place) (history : List Event) → StandsFor table station self.old history
+        ensures frame { (table : Table) (station : Place) (history : List Event)
+            → StandsFor table station self.old history
             → IfOk result (IsOnAir (frame_after table station history moment slot)) }
-        ensures in_time { (table : Table) (station : Place) (history : List Event) → StandsFor table station self.old history
+        ensures in_time { (table : Table) (station : Place) (history : List Event)
+            → StandsFor table station self.old history
             → OnOk result (early (clock_of history) moment ≡ None) }
 
-        ensures refused { (table : Table) (station : Place) (history : List Event) → StandsFor table station self.old history
+        ensures refused { (table : Table) (station : Place) (history : List Event)
+            → StandsFor table station self.old history
             → IfErr result (λ fault. early (clock_of history) moment ≡ Some (kept_told fault)) }
         ensures same { OnErr result (self.new ≡ self.old) }
 
@@ -133,7 +149,8 @@ impl Ground {
             return Err(FillFault::Clock { kept });
         }
         let mut frames = AppData::new();
-        let bodies = self.line.air(&self.newest, moment, &mut frames);
+        let bodies = self.line.air(&mut self.newest, moment, &mut frames);
+        self.files.forget(moment, self.life);
         self.clock = Some(moment);
         Ok(AirFrame {
             moment,
@@ -159,12 +176,15 @@ impl Ground {
     /// What is sent of a text, or the first reason against it.
     fn judged(&self, moment: Moment, version: Moment, text: &str) -> Result<SentItem, GiveFault>
         requires { length text.now < 2 ^ 32 }
-        ensures item { IfOk result (IsItemOf self.now.table (latest_at self.now.newest) (count_at self.now.files) self.now.given
+        ensures item { IfOk result (IsItemOf self.now.table (latest_at self.now.newest)
+            (count_at self.now.files) self.now.given
             version text.now) }
         ensures in_range { OnOk result (IsMoment version) }
-        ensures none { OnOk result (refusal_by self.now.table (latest_at self.now.newest) (count_at self.now.files)
+        ensures none { OnOk result (refusal_by self.now.table (latest_at self.now.newest)
+            (count_at self.now.files)
             moment (text_update version text.now) ≡ None) }
-        ensures fault { IfErr result (IsTold (refusal_by self.now.table (latest_at self.now.newest) (count_at self.now.files)
+        ensures fault { IfErr result (IsTold (refusal_by self.now.table
+            (latest_at self.now.newest) (count_at self.now.files)
             moment (text_update version text.now))) }
     {
         payload_size();
@@ -196,15 +216,13 @@ impl Ground {
 
     /// Puts an item behind what waits. Whatever takes memory comes before what counts is changed.
     fn put(&mut self, moment: Moment, item: SentItem) -> Result<(), GiveFault>
-        requires { of_file.is_segmented item.form item.payload ≡ true → count_at self.old.files item.version item.product < 1024 }
+        requires { of_file.is_segmented item.form item.payload ≡ true
+            → count_at self.old.files item.version item.product < 1024 }
         ensures ok { OnOk result (IsPut self.old moment item self.new) }
         ensures err { IfErr result (λ fault. fault ≡ GiveFault.NoMemory) }
         ensures unchanged { OnErr result (IsAsBefore self.old self.new) }
     {
         let Some(given) = self.given.checked_add(1) else {
-            return Err(GiveFault::NoMemory);
-        };
-        let Ok(()) = self.newest.reserve(self.alloc, &item.key) else {
             return Err(GiveFault::NoMemory);
         };
         let Ok(()) = self.files.reserve(item.version, item.product) else {
@@ -213,7 +231,11 @@ impl Ground {
         let Ok(item) = Rc::new(self.alloc, item) else {
             return Err(GiveFault::NoMemory);
         };
+        let Ok(()) = self.newest.reserve(self.alloc, &item.key) else {
+            return Err(GiveFault::NoMemory);
+        };
         let Ok(()) = self.line.put(&item) else {
+            self.newest.release(&item.key);
             return Err(GiveFault::NoMemory);
         };
         self.newest.put(
@@ -221,13 +243,23 @@ impl Ground {
             Given {
                 version: item.version,
                 serial: item.serial,
+                until: item.until,
             },
         );
-        if item.is_segmented() {
-            self.files.count(item.version, item.product);
-        }
+        self.files.count_item(&item);
+        self.files.forget(moment, self.life);
         self.given = given;
         self.clock = Some(moment);
         Ok(())
     }
+}
+
+/// The greatest life of any row of a table.
+fn greatest_life(table: &LifeTable) -> u64
+    ensures { result ≡ greatest_life table.now }
+{
+    let reports = table.longest(REPORTS).unwrap_or(0);
+    let regional = table.longest(63).unwrap_or(0);
+    let conus = table.longest(64).unwrap_or(0);
+    reports.max(regional.max(conus))
 }
