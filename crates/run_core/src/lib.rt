@@ -15,6 +15,7 @@ mod stop;
 mod top;
 
 pub use actor::Actor;
+pub use output::write_all;
 pub use status::Status;
 pub use stop::Stop;
 pub use top::run;

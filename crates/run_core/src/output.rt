@@ -7,7 +7,7 @@ ghost use Rattle.run_core.specs.Run.{AppendsFront};
 use fisb_wire::{Failed, Sink};
 
 /// Writes the whole piece, or fails having written a prefix of it.
-pub(crate) fn write_all<K: Sink>(sink: &mut K, piece: &[u8]) -> Result<(), Failed>
+pub fn write_all<K: Sink>(sink: &mut K, piece: &[u8]) -> Result<(), Failed>
     requires { K.spare sink.old ≡ None }
     ensures whole { OnOk result (Appends (K.written sink.old) (K.written sink.new) piece.now) }
     ensures front { AppendsFront (K.written sink.old) (K.written sink.new) piece.now }

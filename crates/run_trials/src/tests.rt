@@ -98,6 +98,21 @@ fn a_failed_write_ends_the_run(rt: HostRuntime) -> Result<(), Fail> {
     Ok(())
 }
 
+// What the script gives that ends after so many bytes: the output as far as the lines go, without
+// the empty one, and a newline after a part line.
+fn output_of_front(alloc: Global, end: usize) -> Result<Vec<u8>, AllocError> {
+    let size = end.saturating_sub(4);
+    let size = if size < 6 { size } else { size - 1 };
+    let front = OUTPUT.split_at(size.min(OUTPUT.len())).0;
+    let mut output = Vec::from_slice(alloc, front)?;
+    if let Some(last) = front.last() {
+        if *last != b'\n' {
+            output.push(b'\n')?;
+        }
+    }
+    Ok(output)
+}
+
 #[test]
 fn a_script_may_be_cut_after_each_byte(rt: HostRuntime) -> Result<(), Fail> {
     for end in 0..=SCRIPT.len() {
@@ -108,6 +123,8 @@ fn a_script_may_be_cut_after_each_byte(rt: HostRuntime) -> Result<(), Fail> {
             assert_eq!(rt; ran.1.as_slice(), b"refused 1 notable\n".as_slice());
         } else {
             assert_eq!(rt; ran.0, Status::Done);
+            let output = output_of_front(rt.alloc(), end)?;
+            assert_eq!(rt; ran.1.as_slice(), output.as_slice());
         }
     }
     Ok(())
@@ -123,7 +140,7 @@ fn the_sizes_of_the_reads_change_nothing(rt: HostRuntime) -> Result<(), Fail> {
     let ran = run_over(rt.alloc(), &mut by_seven)?;
     assert_eq!(rt; ran.0, Status::Done);
     assert_eq!(rt; ran.1.as_slice(), OUTPUT);
-    let mut at_once = in_pieces(rt.alloc(), bytes(rt.alloc(), SCRIPT)?, 1000, 31)?;
+    let mut at_once = in_pieces(rt.alloc(), bytes(rt.alloc(), SCRIPT)?, 1000, 0)?;
     let ran = run_over(rt.alloc(), &mut at_once)?;
     assert_eq!(rt; ran.0, Status::Done);
     assert_eq!(rt; ran.1.as_slice(), OUTPUT);

@@ -61,6 +61,8 @@ pub enum Reason {
         /// The greatest version given for the key.
         kept: Moment,
     },
+    /// The text is sent in segments, and no file number is free.
+    NoFile,
     /// The line, one of its fields or the command is not built yet.
     NotBuilt,
 }

@@ -47,3 +47,6 @@ returns-in-Expired c = rw c.in-Expired.is c.format-in-Expired.ensures.ok
 
 pub returns-in-NotBuilt : goal.returns-in-NotBuilt
 returns-in-NotBuilt c = rw c.in-NotBuilt.is c.format-in-NotBuilt.ensures.ok
+
+pub returns-in-NoFile : goal.returns-in-NoFile
+returns-in-NoFile c = rw c.in-NoFile.is c.format-in-NoFile.ensures.ok
