@@ -57,7 +57,16 @@ fn greatest_text_is_taken(rt: HostRuntime) -> Result<(), Fail> {
     let greatest = repeated(rt.alloc(), 16_384)?;
     let text = greatest.as_str();
     assert_eq!(rt; text.len(), 16_384);
-    assert_eq!(rt; encode_text(rt.alloc(), text)?.len(), 12_289);
+    let bytes = encode_text(rt.alloc(), text)?;
+    assert_eq!(rt; bytes.len(), 12_289);
+    let found = reports(rt.alloc(), bytes.all())?;
+    assert_eq!(rt; found.len(), 1);
+    let copy = found[0].copy(rt.alloc())?;
+    assert_eq!(rt; copy.all(), text);
+    let shown = plain(rt.alloc(), &copy)?;
+    assert_eq!(rt; shown.as_str(), text);
+    let back = unplain(rt.alloc(), shown.as_str())?.ok_or("not read")?;
+    assert_eq!(rt; back.as_str(), text);
     let longer = repeated(rt.alloc(), 16_385)?;
     let text = longer.as_str();
     assert_eq!(rt; text.len(), 16_385);

@@ -1,7 +1,4 @@
-use crate::{
-    Rs, UplinkCode, code_word_test, corrected_is_nearest, differences_laws, distances,
-    minimum_distance, one_encoded, one_nearest,
-};
+use crate::{Rs, UplinkCode};
 
 // The parity in these tests was worked out by solving the power sums for it.
 
@@ -66,15 +63,4 @@ fn a_code_with_two_roots_has_its_own_parity(rt: HostRuntime) {
     assert!(rt; code.is_codeword(&word));
     word[3] = 0xb3;
     assert!(rt; !code.is_codeword(&word));
-}
-
-#[test]
-fn the_laws_may_be_called(_rt: HostRuntime) {
-    minimum_distance();
-    distances();
-    differences_laws();
-    one_nearest();
-    code_word_test();
-    one_encoded();
-    corrected_is_nearest();
 }
