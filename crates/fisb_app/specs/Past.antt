@@ -1,50 +1,63 @@
--- What the lines acted on have made: the ground's history, what was heard of it, and what was received. The newest line stands first.
-use Rattle.std.specs.Prelude.{ℕ, true, List, [], ◌∷◌, max, Option, Some, None, option_map, slice_get}
-use Rattle.std.specs.List.{filter_map}
-use Rattle.std.specs.List.{cons_option}
+-- What the lines acted on have made: the station's history, what was heard of its frames, and what was received. The newest
+-- line stands first.
+use Rattle.std.specs.Prelude.{ℕ, Bool, true, false, not, ◌||◌, List, [], ◌∷◌, map, Option, Some, None, slice_get}
+use Rattle.std.specs.List.{cons_option, filter_map}
+use Rattle.std.specs.Option.{option_or}
 use Rattle.uplink_weave.specs.Functions.{woven, payload_in}
+use Rattle.uplink_frame.specs.declared.station.StationId.{StationId}
+use Rattle.uplink_frame.specs.Station.{no_station}
 use Rattle.life_table.specs.LifeTable.{LifeTable}
-use Rattle.fisb_broadcast.specs.Ground.{Event, update, fill, Frame, frames, frame_payload}
-use Rattle.fisb_broadcast.specs.Receiver.{Reception}
-use Rattle.fisb_broadcast.specs.LinkPicture.{Hearing}
-use Rattle.fisb_broadcast.specs.Station.{Station, no_station, header_of}
-use Rattle.fisb_broadcast.specs.Update.{gifts_of}
-use Rattle.fisb_broadcast.specs.History.{frame_room}
+use Rattle.ground_core.specs.Update as updates
+use Rattle.ground_core.specs.History.{Event, accepted, fill}
+use Rattle.ground_core.specs.Airing.{Frame, frame_payload}
+use Rattle.ground_core.specs.Broadcast.{StationEvent, frames}
+use Rattle.receiver_core.specs.Reception.{Reception}
+use Rattle.receiver_core.specs.Hearing.{HearRefusal, refusal_of_air}
+use Rattle.fisb_link.specs.LinkPicture.{Hearing}
 use Rattle.script_core.specs.Script.{Line, empty, station, text, turn, hear, show, unbuilt}
+use Rattle.script_core.specs.Fields.{line_of}
+
+-- the lines that some bytes are; each of those acted on is of its form
+abbrev pub lines_of : List (List ℕ) → List Line
+lines_of past = filter_map line_of past
 
 -- the station that the lines name
-abbrev pub station_named : Line → Station → Station
+abbrev pub station_named : Line → StationId → StationId
 station_named empty before = before
-station_named (station latitude longitude site) before = record { latitude = latitude; longitude = longitude; is_position_valid = true; site = site }
+station_named (station latitude longitude site) before =
+    record { lat = latitude; lon = longitude; position_valid = true; site = site }
 station_named (text moment version chars) before = before
 station_named (turn moment slot) before = before
 station_named (hear moment frame) before = before
 station_named (show moment) before = before
 station_named unbuilt before = before
 
-abbrev pub station_of : List Line → Station
+abbrev pub station_of : List Line → StationId
 station_of [] = no_station
 station_of (line ∷ past) = station_named line (station_of past)
 
--- the ground's history
-abbrev pub event_of : LifeTable → Line → Option Event
-event_of table empty = None
-event_of table (station latitude longitude site) = None
-event_of table (text moment version chars) = Some (update moment (gifts_of table version chars))
-event_of table (turn moment slot) = Some (fill moment slot)
-event_of table (hear moment frame) = None
-event_of table (show moment) = None
-event_of table unbuilt = None
+-- its history: what it was given, and the frames that it filled
+abbrev pub event_of : Line → Option Event
+event_of empty = None
+event_of (station latitude longitude site) = None
+event_of (text moment version chars) = Some (accepted moment (updates.text version chars))
+event_of (turn moment slot) = Some (fill moment slot)
+event_of (hear moment frame) = None
+event_of (show moment) = None
+event_of unbuilt = None
 
-abbrev pub history : LifeTable → List Line → List Event
-history table acted = filter_map (event_of table) acted
+abbrev pub events : List Line → List Event
+events acted = filter_map event_of acted
 
--- the frames that were sent, and what stands on the air
+abbrev pub broadcast : List Line → List StationEvent
+broadcast acted = map (λ event. record { station = station_of acted; event = event }) (events acted)
+
+-- the frames that were sent, and a frame as it is on the air
 abbrev pub sent_frames : LifeTable → List Line → List Frame
-sent_frames table acted = frames table frame_room (history table acted)
+sent_frames table acted = frames table (broadcast acted)
 
-abbrev pub air_of : Station → Frame → List ℕ
-air_of place frame = woven (frame_payload (header_of place) frame)
+abbrev pub air_of : Frame → List ℕ
+air_of frame = woven (frame_payload frame)
 
 -- what was heard
 abbrev pub hearing_of : Line → Option Hearing
@@ -59,24 +72,35 @@ hearing_of unbuilt = None
 abbrev pub hearings : List Line → List Hearing
 hearings acted = filter_map hearing_of acted
 
--- what was received: the payload of the frame's blocks, each corrected
-abbrev pub received : ℕ → List ℕ → Option Reception
-received moment air = option_map (λ payload. record { moment = moment; payload = payload }) (payload_in air)
+-- what was received: the payload of a frame against which nothing stands
+abbrev pub reception_by : Option HearRefusal → ℕ → Option (List ℕ) → Option Reception
+reception_by (Some refusal) moment payload = None
+reception_by None moment None = None
+reception_by None moment (Some payload) = Some (record { moment = moment; payload = payload })
 
-abbrev pub received_frame : ℕ → Station → Option Frame → Option Reception
-received_frame moment place None = None
-received_frame moment place (Some frame) = received moment (air_of place frame)
+abbrev pub reception_from : List Reception → ℕ → List ℕ → Option Reception
+reception_from past moment air = reception_by (refusal_of_air past moment air) moment (payload_in air)
 
--- the reception that a hearing makes behind the lines before it
-abbrev pub reception_of : LifeTable → List Line → Option Hearing → Option Reception
-reception_of table past None = None
-reception_of table past (Some h) = received_frame h.moment (station_of past) (slice_get (sent_frames table past) h.frame)
+abbrev pub received_frame : List Reception → ℕ → Option Frame → Option Reception
+received_frame past moment None = None
+received_frame past moment (Some frame) = reception_from past moment (air_of frame)
+
+-- the receptions after a line, where the frames that were sent and the receptions stood so before it
+abbrev pub receptions_after : List Frame → List Reception → Line → List Reception
+receptions_after sent past empty = past
+receptions_after sent past (station latitude longitude site) = past
+receptions_after sent past (text moment version chars) = past
+receptions_after sent past (turn moment slot) = past
+receptions_after sent past (hear moment frame) =
+    cons_option (received_frame past moment (slice_get sent frame)) past
+receptions_after sent past (show moment) = past
+receptions_after sent past unbuilt = past
 
 abbrev pub receptions : LifeTable → List Line → List Reception
 receptions table [] = []
-receptions table (line ∷ past) = cons_option (reception_of table past (hearing_of line)) (receptions table past)
+receptions table (line ∷ past) = receptions_after (sent_frames table past) (receptions table past) line
 
--- the moment of a line, and the greatest of the lines acted on
+-- the moment of a line, and that of the last line with one; moments never fall
 abbrev pub moment_of : Line → Option ℕ
 moment_of empty = None
 moment_of (station latitude longitude site) = None
@@ -86,11 +110,20 @@ moment_of (hear moment frame) = Some moment
 moment_of (show moment) = Some moment
 moment_of unbuilt = None
 
-abbrev pub later_of : Option ℕ → Option ℕ → Option ℕ
-later_of None kept = kept
-later_of (Some moment) None = Some moment
-later_of (Some moment) (Some kept) = Some (max moment kept)
-
 abbrev pub latest : List Line → Option ℕ
 latest [] = None
-latest (line ∷ past) = later_of (moment_of line) (latest past)
+latest (line ∷ past) = option_or (moment_of line) (latest past)
+
+-- a script has begun with its first line that is not empty
+abbrev pub is_empty : Line → Bool
+is_empty empty = true
+is_empty (station latitude longitude site) = false
+is_empty (text moment version chars) = false
+is_empty (turn moment slot) = false
+is_empty (hear moment frame) = false
+is_empty (show moment) = false
+is_empty unbuilt = false
+
+abbrev pub has_begun : List Line → Bool
+has_begun [] = false
+has_begun (line ∷ past) = has_begun past || not (is_empty line)

@@ -1,36 +1,49 @@
--- What a run of `link` or `ground` keeps, against the lines that it acted on.
-use Rattle.std.specs.Prelude.{◌≡◌, ℕ, List, [], ◌∷◌, ◌++◌, map, flat_map, codes, decimal, nat_lt, if◌then◌else◌, Option, Some, None, option_map, Result, Ok, Err, String, string_bytes}
-use Rattle.std.specs.Option.{option_or}
-use Rattle.life_table.specs.Rules.{IsTable}
-use Rattle.fisb_broadcast.specs.Ground.{Frame}
-use Rattle.fisb_broadcast.specs.Receiver.{contents}
-use Rattle.fisb_broadcast.specs.Station.{Station}
-use Rattle.fisb_broadcast.specs.Update.{GiveFault}
-use Rattle.text_ground.specs.StandsFor.{StandsFor}
-use Rattle.hex.specs.Hex.{encode_lower}
-use Rattle.uplink_frame.specs.UplinkFrame.{header_in}
-use Rattle.uplink_weave.specs.Functions.{woven}
+-- What an actor keeps, against the lines acted on, and what it answers to a line.
+use Rattle.std.specs.Prelude.{◌≡◌, ℕ, List, length, map, Option, Some, None, Result, Ok, Err}
+use Rattle.uplink_frame.specs.declared.station.StationId.{StationId}
 use Rattle.life_table.specs.LifeTable.{LifeTable}
-use Rattle.text_ground.specs.declared.filling.AirFrame.{AirFrame}
-use Rattle.text_receiver.specs.Brought.{unread_brought}
-use Rattle.text_receiver.specs.Told.{told_part}
-use Rattle.text_receiver.specs.Kept.{Keeps}
+use Rattle.ground_core.specs.History.{Event}
+use Rattle.ground_core.specs.Airing.{Frame}
+use Rattle.receiver_core.specs.Reception.{Reception}
 use Rattle.script_core.specs.Script.{Line}
-use Rattle.script_core.specs.LineView.{HasRanges}
+use Rattle.script_core.specs.declared.reason.Reason.{Reason}
+use Rattle.run_core.specs.declared.stop.Stop.{Stop}
+use Rattle.run_core.specs.declared.stop.Stop.TheVariants.{Refused, NoMemory}
+use Rattle.fisb_app.specs.declared.sending.Sending.{Sending}
 use Rattle.fisb_app.specs.declared.link.Link.{Link}
+use Rattle.fisb_app.specs.declared.ground_alone.GroundAlone.{GroundAlone}
 use Rattle.fisb_app.specs.declared.sent.SentFrame.{SentFrame}
-use Rattle.fisb_app.specs.declared.party.Party.{Party}
-use Rattle.fisb_app.specs.declared.party.Party.TheVariants as parties
-use Rattle.fisb_app.specs.declared.link.Stop.{Stop}
-use Rattle.fisb_app.specs.declared.link.Stop.TheVariants.{Refused, NoMemory}
-use Rattle.fisb_app.specs.Script.{Setting, Reason}
-use Rattle.fisb_app.specs.Past.{history, station_of, sent_frames, air_of, receptions, moment_of, latest}
-use Rattle.fisb_app.specs.Reading.{reading, has_begun, reason_of_gift, built_refusal, party_refusal, station_refusal, clock_refusal, own_refusal}
-use Rattle.fisb_app.specs.Acted.{AreActed}
-use Rattle.fisb_app.specs.Output.{spaced, told, told_text, heard_words, heard_picture}
-use Rattle.fisb_app.specs.Status.{reason_view}
+use Rattle.fisb_app.specs.Past.{lines_of, station_of, events, sent_frames, air_of, reception_from, receptions, latest, has_begun}
+use Rattle.fisb_app.specs.Reading.{frame_refusal, receiver_refusal}
+use Rattle.fisb_app.specs.Output.{heard_text}
+use Rattle.fisb_app.specs.Work.{opening_table, opened_with}
+use Rattle.life_table.specs.Fault.{Fault}
 
--- a frame by its moment and what stands on the air
+-- for which station, events and receptions a ground and a receiver stand
+abbrev pub Sends : Type 0 → Type 1
+Sends G = LifeTable → StationId → List Event → G → Type 0
+
+abbrev pub Hears : Type 0 → Type 1
+Hears E = LifeTable → List Reception → E → Type 0
+
+-- the table was read of these bytes, and the ground stands for what the lines gave it
+pub record Holds {G : Type 0} (sends : Sends G) (bytes : List ℕ) (acted : List Line) (s : Sending G) : Type 0 where
+  pub opened : opening_table bytes ≡ Ok s.table
+  pub ground : sends s.table (station_of acted) (events acted) s.ground
+
+-- the clock and the beginning, too, are those of the lines
+pub record IsSending {G : Type 0} (sends : Sends G) (bytes : List ℕ) (acted : List Line) (s : Sending G) : Type 0 where
+  pub holds : Holds sends bytes acted s
+  pub clock : s.clock ≡ latest acted
+  pub begun : s.has_begun ≡ has_begun acted
+
+-- an operation leaves clock, beginning and table as they were
+pub record KeepsClock {G : Type 0} (before after : Sending G) : Type 0 where
+  pub table : after.table ≡ before.table
+  pub clock : after.clock ≡ before.clock
+  pub begun : after.has_begun ≡ before.has_begun
+
+-- a frame by its moment and its bytes on the air
 pub record Aired : Type 0 where
   pub moment : ℕ
   pub air : List ℕ
@@ -38,93 +51,55 @@ pub record Aired : Type 0 where
 abbrev pub sent_view : SentFrame → Aired
 sent_view frame = record { moment = frame.moment; air = frame.air }
 
-abbrev pub aired : Station → Frame → Aired
-aired place frame = record { moment = frame.moment; air = air_of place frame }
+abbrev pub aired_view : Frame → Aired
+aired_view frame = record { moment = frame.moment; air = air_of frame }
 
--- the parts that lines change each for itself: the ground, the frames that were sent, and what the receiver keeps
-pub record HoldsParts (setting : Setting) (link : Link) (acted : List Line) : Type 0 where
-  pub party_is : link.party ≡ setting.party
-  pub table_is : link.table ≡ setting.table
-  pub sender : StandsFor setting.table (station_of acted) link.sender (history setting.table acted)
-  pub sent : map sent_view link.sent.items ≡ map (aired (station_of acted)) (sent_frames setting.table acted)
-  pub received_by : link.receiver.table ≡ setting.table
-  pub kept : Keeps setting.table (contents setting.table (receptions setting.table acted)) link.receiver.kept
+-- beside the ground, the frames that were sent and the receiver stand for what the lines made
+pub record LinkHolds {G E : Type 0} (sends : Sends G) (hears : Hears E) (bytes : List ℕ) (acted : List Line)
+    (link : Link G E) : Type 0 where
+  pub holds : Holds sends bytes acted link.sending
+  pub sent : map sent_view link.sent.items ≡ map aired_view (sent_frames link.sending.table acted)
+  pub ear : hears link.sending.table (receptions link.sending.table acted) link.ear
 
--- the run stands for these lines
-pub record Stands (setting : Setting) (link : Link) (acted : List Line) : Type 0 where
-  pub acted_on : AreActed setting acted
-  pub rules : IsTable setting.table
-  pub parts : HoldsParts setting link acted
-  pub clock : link.clock ≡ latest acted
-  pub begun : link.has_begun ≡ has_begun acted
+pub record IsLink {G E : Type 0} (sends : Sends G) (hears : Hears E) (bytes : List ℕ) (past : List (List ℕ))
+    (link : Link G E) : Type 0 where
+  pub parts : LinkHolds sends hears bytes (lines_of past) link
+  pub clock : link.sending.clock ≡ latest (lines_of past)
+  pub begun : link.sending.has_begun ≡ has_begun (lines_of past)
 
--- the reasons that do not look at the content of a line
-abbrev pub front_refusal : Setting → List Line → Line → Option Reason
-front_refusal setting acted line = option_or (built_refusal line) (option_or (party_refusal setting.party line)
-    (option_or (station_refusal acted line) (clock_refusal (moment_of line) (latest acted))))
+pub record AloneHolds {G : Type 0} (sends : Sends G) (bytes : List ℕ) (acted : List Line) (alone : GroundAlone G)
+    : Type 0 where
+  pub holds : Holds sends bytes acted alone.sending
+  pub sent : alone.sent ≡ length (sent_frames alone.sending.table acted)
 
--- a line of its form, against which nothing but its content can stand
-pub record IsNext (setting : Setting) (acted : List Line) (line : Line) : Type 0 where
-  pub size : ℕ
-  pub ranges : HasRanges size line
-  pub front : front_refusal setting acted line ≡ None
+pub record IsAlone {G : Type 0} (sends : Sends G) (bytes : List ℕ) (past : List (List ℕ)) (alone : GroundAlone G)
+    : Type 0 where
+  pub parts : AloneHolds sends bytes (lines_of past) alone
+  pub clock : alone.sending.clock ≡ latest (lines_of past)
+  pub begun : alone.sending.has_begun ≡ has_begun (lines_of past)
 
--- nothing stands against the line; the parts stand for it too, and this is what it gave. Clock and beginning are as they were
-pub record HasDone (setting : Setting) (acted : List Line) (line : Line) (before after : Link) (given : List ℕ) : Type 0 where
-  pub own : own_refusal setting.table acted line ≡ None
-  pub parts : HoldsParts setting after (line ∷ acted)
-  pub clock : after.clock ≡ before.clock
-  pub begun : after.has_begun ≡ before.has_begun
-  pub text : given ≡ told setting (heard_picture setting.table) acted line
-
-abbrev pub HasTried : Setting → List Line → Line → Link → Result (List ℕ) Stop → Link → Type 0
-HasTried setting acted line before (Ok given) after = HasDone setting acted line before after given
-HasTried setting acted line before (Err (Refused why)) after = own_refusal setting.table acted line ≡ Some (reason_view why)
-HasTried setting acted line before (Err NoMemory) after = Unit {0}
-
--- the line was read and acted on, and this is what it gave; or it was refused
-pub record HasActed (setting : Setting) (acted : List Line) (bytes : List ℕ) (link : Link) (given : List ℕ) (line : Line) : Type 0 where
-  pub read : reading setting acted bytes ≡ Ok line
-  pub stands : Stands setting link (line ∷ acted)
-  pub text : given ≡ told setting (heard_picture setting.table) acted line
-
-abbrev pub HasOutcome : Setting → List Line → List ℕ → Link → Result (List ℕ) Stop → Type 0
-HasOutcome setting acted bytes link (Ok given) = (line : Line) × HasActed setting acted bytes link given line
-HasOutcome setting acted bytes link (Err (Refused why)) = reading setting acted bytes ≡ Err (reason_view why)
-HasOutcome setting acted bytes link (Err NoMemory) = Unit {0}
-
--- an answer with the bytes of its text
-abbrev pub answer_bytes : {A : Type 0} → Result (String A) Stop → Result (List ℕ) Stop
-answer_bytes (Ok given) = Ok (string_bytes given)
-answer_bytes (Err stop) = Err stop
-
--- a stop tells the reason of a refused update
-abbrev pub TellsRefusal : Option GiveFault → Stop → Type 0
-TellsRefusal refusal (Refused why) = option_map reason_of_gift refusal ≡ Some (reason_view why)
+-- a stop tells the reason; memory that is not found may stand in its place
+abbrev pub TellsRefusal : Option Reason → Stop → Type 0
+TellsRefusal refusal (Refused why) = refusal ≡ Some why
 TellsRefusal refusal NoMemory = Unit {0}
 
--- the greatest moment so far, where the line's is below it
-abbrev pub early_clock : Option ℕ → Option ℕ → Option ℕ
-early_clock None kept = None
-early_clock (Some moment) None = None
-early_clock (Some moment) (Some kept) = if nat_lt moment kept then Some kept else None
+-- something was done of which this holds, and there is no reason against it; or a stop tells the reason
+abbrev pub HasTried : {A : Type 0} → Option Reason → (A → Type 0) → Result A Stop → Type 0
+HasTried refusal done (Ok a) = (refusal ≡ None) × done a
+HasTried refusal done (Err stop) = TellsRefusal refusal stop
 
--- what sending and hearing leave as it was
-pub record KeepsRest (before after : Link) : Type 0 where
-  pub party : after.party ≡ before.party
-  pub table : after.table ≡ before.table
-  pub sender : after.sender ≡ before.sender
-  pub clock : after.clock ≡ before.clock
-  pub begun : after.has_begun ≡ before.has_begun
+-- the bytes on the air of a frame that was sent, in time; or why there are none
+abbrev pub IsFound : ℕ → ℕ → Option Frame → Result (List ℕ) Reason → Type 0
+IsFound late moment found (Ok air) =
+    (frame : Frame) × (found ≡ Some frame) × (frame_refusal late moment found ≡ None) × (air ≡ air_of frame)
+IsFound late moment found (Err why) = frame_refusal late moment found ≡ Some why
 
--- the text of a frame that was filled, and of a payload that was heard
-abbrev pub aired_words : ℕ → AirFrame → List (List ℕ)
-aired_words index frame = codes "sent" ∷ decimal index ∷ decimal frame.moment ∷ decimal frame.slot ∷ decimal frame.bodies ∷ decimal frame.used ∷ []
+-- a table, or a stop that tells its reason
+abbrev pub HasRead : Result LifeTable Fault → Result LifeTable Stop → Type 0
+HasRead table (Ok read) = table ≡ Ok read
+HasRead table (Err stop) = TellsRefusal (opened_with table) stop
 
-abbrev pub aired_text : Party → ℕ → AirFrame → List ℕ
-aired_text parties.Link index frame = spaced (aired_words index frame)
-aired_text parties.Ground index frame = spaced (aired_words index frame ++ encode_lower (woven frame.payload) ∷ [])
-
-abbrev pub received_text : LifeTable → ℕ → List ℕ → List ℕ → List ℕ
-received_text table moment payload counts = spaced (heard_words moment (header_in payload) counts)
-    ++ flat_map told_text (map told_part (unread_brought table (record { moment = moment; payload = payload })))
+-- what is told of a frame that is not heard
+abbrev pub HasUnheard : LifeTable → List Reception → ℕ → List ℕ → Result (List ℕ) Stop → Type 0
+HasUnheard table past moment air result = HasTried (receiver_refusal past moment)
+    (λ text. (text ≡ heard_text table past moment air) × (reception_from past moment air ≡ None)) result

@@ -1,20 +1,25 @@
-//! Laws of the definitions: each is the contract of a function that does nothing but call the laws of the crates below.
-ghost use Rattle.fisb_app.specs.Laws.{ActedPicturesAgree};
+//! Laws of the definitions: each is the contract of a function that calls the laws of lower crates.
+ghost use Rattle.fisb_app.specs.Work.{link_work, promised_work};
+ghost use Rattle.run_core.specs.Laws.{Agrees};
+ghost use Rattle.run_core.specs.Run.{task_of};
 
-use dlac_text::refused_texts;
-use fisb_broadcast::{frames_are_bodies, hearings_are_whole};
+use fisb_link::{hearings_stay, pictures_agree};
+use ground_core::frames_read_back;
+use life_table::tables_keep_rules;
 use script_core::ranges_of_lines;
+use uplink_frame::stations_are_told;
 use uplink_weave::frame_gives_payload;
 
-/// The two pictures agree: whatever lines were acted on, the picture by the bytes that were heard is the picture that
-/// the link promises, which is told by what was given, sent and heard alone.
-pub fn pictures_agree()
-    ensures { ActedPicturesAgree }
+/// What a link promises is what it does: whatever bytes it reads, the pictures by the bytes that
+/// were heard are those that are told by what was given, sent and heard alone.
+pub fn promises_are_kept()
+    ensures { Agrees (task_of link_work) (task_of promised_work) }
 {
+    tables_keep_rules();
     ranges_of_lines();
-    refused_texts();
+    stations_are_told();
     frame_gives_payload();
-    frames_are_bodies();
-    hearings_are_whole();
-    fisb_broadcast::pictures_agree();
+    frames_read_back();
+    hearings_stay();
+    pictures_agree();
 }

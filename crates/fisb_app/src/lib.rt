@@ -1,25 +1,25 @@
-//! The top call.
+//! The commands.
 #![tactic(auto)]
 
 mod command;
-mod input;
-mod laws;
-mod lines;
+mod ear;
+mod ground_alone;
+pub mod laws;
+mod line_kinds;
 mod link;
-mod opening;
-mod output;
 mod party;
 mod printing;
-mod script;
+mod sender;
+mod sending;
 mod sent;
-mod started;
-mod status;
+mod stopping;
 mod top;
+mod unheard;
 
-pub use laws::pictures_agree;
+pub use ear::Ear;
+pub use run_core::Status;
 pub use script_core::Reason;
-pub use status::Status;
-pub use top::{run, run_gdl, run_ground, run_link, run_make, run_receive};
+pub use top::{run, run_gdl, run_ground, run_link, run_link_over, run_make, run_receive};
 
 #[cfg(test)]
 mod tests;

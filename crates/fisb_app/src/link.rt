@@ -1,154 +1,96 @@
-//! A run of `link` or `ground`: a ground, a receiver, and the frames between them.
-ghost use Rattle.std.specs.Prelude.{◌≡◌, ◌<◌, ◌^◌, ◌||◌, [], ◌∷◌, ◌++◌, ℕ, List, Option, Some, None, if◌then◌else◌, length, map, option_map, IfOk, not, string_bytes};
-ghost use Rattle.uplink_weave.specs.Functions.{woven};
-ghost use Rattle.fisb_broadcast.specs.Entry.{Entry};
-ghost use Rattle.text_receiver.specs.Kept.{Keeps};
-ghost use Rattle.text_receiver.specs.Brought.{brought};
-ghost use Rattle.std.specs.Option.{option_or};
-ghost use Rattle.script_core.specs.Script.{Line as ScriptLine, station, text, turn, hear, show};
+//! The command `link`: a ground, a receiver, and the frames between them.
+ghost use Rattle.std.specs.Prelude.{◌≡◌, ℕ, ◌<◌, ◌^◌, ◌∷◌, [], ◌++◌, List, OnOk, length, map, slice_get};
+ghost use Rattle.std.specs.List.{cons_option};
+ghost use Rattle.life_table.specs.LifeTable.{LifeTable as Table};
+ghost use Rattle.picture_core.specs.Views.{shown_value};
+ghost use Rattle.receiver_core.specs.Reception.{Reception, received_picture};
+ghost use Rattle.ground_core.specs.Airing.{Frame};
 ghost use Rattle.script_core.specs.LineView.{line_view, HasRanges};
-ghost use Rattle.fisb_broadcast.specs.Update.{GiveFault as GiftFault};
-ghost use Rattle.text_ground.specs.Refusal.{IsTold, IsToldOfText, kept_told};
-ghost use Rattle.fisb_app.specs.Script.{Setting, not_here};
-ghost use Rattle.fisb_app.specs.Past.{moment_of};
-ghost use Rattle.fisb_app.specs.Reading.{party_refusal, is_heard_or_shown, is_unbuilt, is_station, is_empty};
-ghost use Rattle.fisb_app.specs.Stands.{Stands, HoldsParts, IsNext, HasTried, HasOutcome, KeepsRest, TellsRefusal, answer_bytes, aired_text, early_clock, front_refusal, received_text, sent_view};
-ghost use Rattle.fisb_app.specs.Status.{reason_view};
+ghost use Rattle.script_core.specs.Script.{Line as ScriptLine, hear, station, text, turn};
+ghost use Rattle.fisb_app.specs.Output.{given_text, heard_picture, heard_text, picture_text};
+ghost use Rattle.fisb_app.specs.Past.{reception_from};
+ghost use Rattle.fisb_app.specs.Reading.{CanCome, own_refusal, receiver_refusal};
+ghost use Rattle.fisb_app.specs.Stands.{HasTried, IsFound, IsLink, KeepsClock, LinkHolds, aired_view, sent_view};
+ghost use Rattle.fisb_app.specs.Work.{link_work};
 
+use crate::ear::Ear;
 use crate::party::Party;
-use crate::printing::{print_heard, print_picture, print_sent, print_sent_air, print_unread};
+use crate::printing::{no_text, print_heard, print_picture, print_sent};
+use crate::sender::Sender;
+use crate::sending::Sending;
 use crate::sent::SentFrame;
-use dlac_text::{TextFault, refused_texts};
-use fisb_broadcast::{frames_are_bodies, hearings_are_whole, pictures_agree};
+use crate::unheard::{print_unheard, stop_of_show};
 use fisb_time::Moment;
-use life_table::LifeTable;
-use script_core::{Line, LineFault, Reason, ranges_of_lines, read_line};
+use fisb_wire::Bytes;
+use ground_core::AirFrame;
+use run_core::{Actor, Stop};
+use script_core::{Line, LineFault, Reason, print_refused, read_line};
 use std::alloc::{AllocError, Global};
-use text_ground::{AirFrame, FillFault, GiveFault, Ground, Station};
-use text_receiver::{Receiver, picture_of_kept, whole_receptions};
-use uplink_frame::read_header;
-use uplink_weave::{
-    frame_gives_payload, functions_of_a_frame, unweave, weave, woven_gives_payload,
-};
-
-/// The most bytes of a line.
-pub(crate) const LINE_LIMIT: usize = 32_768;
-
-/// The most frames of a run.
-const FRAME_LIMIT: usize = 65_536;
-
-/// Why a line is not acted on.
-#[derive(Clone, Copy, Debug)]
-pub(crate) enum Stop {
-    Refused(Reason),
-    NoMemory,
-}
+use uplink_frame::stations_are_told;
 
 /// What the lines acted on have made.
 #[derive(Drop)]
-pub(crate) struct Link {
-    pub(crate) party: Party,
-    pub(crate) table: LifeTable,
-    pub(crate) sender: Ground,
+pub(crate) struct Link<G: Sender, E: Ear> {
+    pub(crate) sending: Sending<G>,
+    pub(crate) ear: E,
     pub(crate) sent: Vec<SentFrame>,
-    pub(crate) receiver: Receiver,
-    pub(crate) clock: Option<Moment>,
-    /// Whether a line other than an empty one was acted on.
-    pub(crate) has_begun: bool,
 }
 
-impl Link {
-    /// Before any line.
-    pub(crate) fn new(alloc: Global, party: Party, table: LifeTable) -> Result<Link, AllocError>
-        ensures { IfOk result (λ link. Stands (record { party = party; table = table }) link []) }
-    {
-        let station = Station {
-            lat: 0,
-            lon: 0,
-            position_valid: false,
-            site: 0,
+impl<G: Sender, E: Ear> Actor for Link<G, E> {
+    ghost work = { link_work };
+
+    ghost stands = { IsLink G.stands E.stands };
+
+    fn new(alloc: Global, table: &[u8]) -> Result<Link<G, E>, Stop> {
+        let sending: Sending<G> = Sending::new(alloc, table)?;
+        let Ok(copy) = sending.table.copy(alloc) else {
+            return Err(Stop::NoMemory);
         };
-        let sender = Ground::new(alloc, station, table.copy(alloc)?);
-        let received_by = table.copy(alloc)?;
         Ok(Link {
-            party,
-            table,
-            sender,
+            sending,
+            ear: E::new(alloc, copy),
             sent: Vec::new(alloc),
-            receiver: Receiver::new(alloc, received_by),
-            clock: None,
-            has_begun: false,
         })
     }
 
-    /// Acts on a line behind the lines acted on, and answers the text that it gives.
-    pub(crate) fn act_on(&mut self, alloc: Global, bytes: &[u8]) -> Result<String, Stop>
-        ensures { (setting : Setting) (acted : List ScriptLine) → Stands setting self.old acted
-            → HasOutcome setting acted bytes.now self.new (answer_bytes result) }
-    {
-        if bytes.len() > LINE_LIMIT {
-            return Err(Stop::Refused(Reason::LineLong));
-        }
-        let line = match read_line(alloc, bytes) {
+    fn act(&mut self, alloc: Global, line: &[u8]) -> Result<Bytes, Stop> {
+        let line = match read_line(alloc, line) {
             Ok(line) => line,
             Err(LineFault::Syntax) => return Err(Stop::Refused(Reason::Syntax)),
             Err(LineFault::NoMemory) => return Err(Stop::NoMemory),
         };
-        if let Some(reason) = self.refusal(&line) {
+        if let Some(reason) = self.sending.refusal(Party::Link, &line) {
             return Err(Stop::Refused(reason));
         }
-        match self.act(alloc, &line) {
+        match self.act_on(alloc, &line) {
             Ok(text) => {
-                self.advance(&line);
+                self.sending.advance(&line);
                 Ok(text)
             }
-            Err(Stop::Refused(reason)) => Err(Stop::Refused(reason)),
-            Err(Stop::NoMemory) => Err(Stop::NoMemory),
+            Err(stop) => Err(stop),
         }
     }
 
-    /// The first reason against a line, those left out that speak of its content.
-    fn refusal(&self, line: &Line) -> Option<Reason>
-        ensures { (setting : Setting) (acted : List ScriptLine) → Stands setting self.now acted
-            → option_map reason_view result ≡ front_refusal setting acted (line_view line.now) }
-    {
-        if is_unbuilt(line) {
-            return Some(Reason::NotBuilt);
-        }
-        if !takes(self.party, line) {
-            return Some(Reason::NotHere);
-        }
-        if is_station(line) && self.has_begun {
-            return Some(Reason::Station);
-        }
-        match self.later_clock(line) {
-            Some(kept) => Some(Reason::Clock { kept }),
-            None => None,
-        }
+    fn refusal(alloc: Global, line: u64, reason: &Reason) -> Result<Bytes, AllocError> {
+        print_refused(alloc, line, reason)
     }
+}
 
-    /// The greatest moment of the lines acted on, where the line's moment is below it.
-    fn later_clock(&self, line: &Line) -> Option<Moment>
-        ensures { result ≡ early_clock (moment_of (line_view line.now)) self.now.clock }
-    {
-        let Some(moment) = moment_of(line) else {
-            return None;
-        };
-        match &self.clock {
-            Some(kept) if moment < *kept => Some(*kept),
-            _ => None,
-        }
-    }
-
-    /// Acts on a line against which nothing but its content can speak.
-    fn act(&mut self, alloc: Global, line: &Line) -> Result<String, Stop>
+impl<G: Sender, E: Ear> Link<G, E> {
+    /// Acts on a line against which nothing but its content can stand.
+    fn act_on(&mut self, alloc: Global, line: &Line) -> Result<Bytes, Stop>
         requires { HasRanges 32768 (line_view line.now) }
-        ensures { (setting : Setting) (acted : List ScriptLine) → Stands setting self.old acted → IsNext setting acted (line_view line.now)
-            → HasTried setting acted (line_view line.now) self.old (answer_bytes result) self.new }
+        ensures tried { (bytes : List ℕ) (acted : List ScriptLine)
+            → CanCome acted (line_view line.now)
+            → LinkHolds G.stands E.stands bytes acted self.old
+            → HasTried (own_refusal self.old.sending.table acted (line_view line.now))
+            (λ given. (given ≡ given_text Party.Link heard_picture self.old.sending.table acted
+            (line_view line.now))
+            × LinkHolds G.stands E.stands bytes (line_view line.now ∷ acted) self.new) result }
+        ensures rest { KeepsClock self.old.sending self.new.sending }
     {
-        picture_of_kept();
         match line {
-            Line::Nothing | Line::Unbuilt => Ok(String::new(alloc)),
+            Line::Nothing | Line::Unbuilt => Ok(no_text(alloc)),
             Line::Station { lat, lon, site } => self.name_station(alloc, *lat, *lon, *site),
             Line::Text {
                 moment,
@@ -157,237 +99,153 @@ impl Link {
             } => self.give(alloc, *moment, *version, report.as_str()),
             Line::Turn { moment, slot } => self.turn(alloc, *moment, *slot),
             Line::Hear { moment, frame } => self.hear(alloc, *moment, *frame),
-            Line::Show { moment } => match print_picture(alloc, *moment, self.receiver.shown()) {
-                Ok(text) => Ok(text),
-                Err(AllocError) => Err(Stop::NoMemory),
-            },
+            Line::Show { moment } => self.show(alloc, *moment),
         }
     }
 
-    /// Sets the clock, and that a line was acted on.
-    fn advance(&mut self, line: &Line)
-        ensures clock { self.new.clock ≡ option_or (moment_of (line_view line.now)) self.old.clock }
-        ensures begun { self.new.has_begun ≡ (self.old.has_begun || not (is_empty (line_view line.now))) }
-        ensures parts { (setting : Setting) (acted : List ScriptLine) → HoldsParts setting self.old acted → HoldsParts setting self.new acted }
-    {
-        if let Some(moment) = moment_of(line) {
-            self.clock = Some(moment);
-        }
-        self.has_begun = self.has_begun || !is_empty(line);
-    }
-
-    fn name_station(&mut self, alloc: Global, lat: u32, lon: u32, site: u8) -> Result<String, Stop>
+    /// Names the station.
+    fn name_station(&mut self, alloc: Global, lat: u32, lon: u32, site: u8) -> Result<Bytes, Stop>
         requires { (lat < 2 ^ 23) × (lon < 2 ^ 24) × (site < 16) }
-        ensures { (setting : Setting) (acted : List ScriptLine) → Stands setting self.old acted → IsNext setting acted (station lat lon site)
-            → HasTried setting acted (station lat lon site) self.old (answer_bytes result) self.new }
+        ensures tried { (bytes : List ℕ) (acted : List ScriptLine)
+            → CanCome acted (station lat lon site)
+            → LinkHolds G.stands E.stands bytes acted self.old
+            → HasTried (own_refusal self.old.sending.table acted (station lat lon site))
+            (λ given. (given ≡ given_text Party.Link heard_picture self.old.sending.table acted
+            (station lat lon site))
+            × LinkHolds G.stands E.stands bytes (station lat lon site ∷ acted) self.new) result }
+        ensures rest { KeepsClock self.old.sending self.new.sending }
     {
-        let station = Station {
-            lat,
-            lon,
-            position_valid: true,
-            site,
-        };
-        match self.table.copy(alloc) {
-            Ok(table) => {
-                self.sender = Ground::new(alloc, station, table);
-                Ok(String::new(alloc))
-            }
+        match self.sending.name_station(alloc, lat, lon, site) {
+            Ok(()) => Ok(no_text(alloc)),
             Err(AllocError) => Err(Stop::NoMemory),
         }
     }
 
+    /// Gives a text to the ground.
     fn give(
         &mut self,
         alloc: Global,
         moment: Moment,
         version: Moment,
         report: &str,
-    ) -> Result<String, Stop>
+    ) -> Result<Bytes, Stop>
         requires { length report.now < 2 ^ 32 }
-        ensures { (setting : Setting) (acted : List ScriptLine) → Stands setting self.old acted → IsNext setting acted (text moment version report.now)
-            → HasTried setting acted (text moment version report.now) self.old (answer_bytes result) self.new }
+        ensures tried { (bytes : List ℕ) (acted : List ScriptLine)
+            → CanCome acted (text moment version report.now)
+            → LinkHolds G.stands E.stands bytes acted self.old
+            → HasTried (own_refusal self.old.sending.table acted (text moment version report.now))
+            (λ given. (given ≡ given_text Party.Link heard_picture self.old.sending.table acted
+            (text moment version report.now))
+            × LinkHolds G.stands E.stands bytes (text moment version report.now ∷ acted) self.new)
+            result }
+        ensures rest { KeepsClock self.old.sending self.new.sending }
     {
-        if let Err(fault) = self.sender.give_text(moment, version, report) {
-            return match stop_of(fault) {
-                Stop::Refused(reason) => Err(Stop::Refused(reason)),
-                Stop::NoMemory => Err(Stop::NoMemory),
-            };
+        match self.sending.give(moment, version, report) {
+            Ok(()) => Ok(no_text(alloc)),
+            Err(stop) => Err(stop),
         }
-        Ok(String::new(alloc))
     }
 
-    fn turn(&mut self, alloc: Global, moment: Moment, slot: u8) -> Result<String, Stop>
+    /// Fills a frame, keeps it, and answers its text.
+    fn turn(&mut self, alloc: Global, moment: Moment, slot: u8) -> Result<Bytes, Stop>
         requires { slot < 32 }
-        ensures { (setting : Setting) (acted : List ScriptLine) → Stands setting self.old acted → IsNext setting acted (turn moment slot)
-            → HasTried setting acted (turn moment slot) self.old (answer_bytes result) self.new }
+        ensures tried { (bytes : List ℕ) (acted : List ScriptLine)
+            → CanCome acted (turn moment slot) → LinkHolds G.stands E.stands bytes acted self.old
+            → HasTried (own_refusal self.old.sending.table acted (turn moment slot))
+            (λ given. (given ≡ given_text Party.Link heard_picture self.old.sending.table acted
+            (turn moment slot))
+            × LinkHolds G.stands E.stands bytes (turn moment slot ∷ acted) self.new) result }
+        ensures rest { KeepsClock self.old.sending self.new.sending }
     {
+        stations_are_told();
         let index = self.sent.len();
-        if index >= FRAME_LIMIT {
-            return Err(Stop::Refused(Reason::Frames));
-        }
-        match self.sender.fill(moment, slot) {
-            Ok(frame) => match self.send(alloc, index, &frame) {
-                Ok(text) => Ok(text),
-                Err(AllocError) => Err(Stop::NoMemory),
-            },
-            Err(fault) => Err(Stop::Refused(Reason::Clock {
-                kept: kept_of(fault),
-            })),
-        }
-    }
-
-    /// Weaves a frame, keeps it, and answers its text.
-    fn send(&mut self, alloc: Global, index: usize, frame: &AirFrame) -> Result<String, AllocError>
-        ensures sent { IfOk result (λ _. map sent_view self.new.sent.items
-            ≡ map sent_view self.old.sent.items ++ record { moment = frame.now.moment; air = woven frame.now.payload } ∷ []) }
-        ensures text { IfOk result (λ s. string_bytes s ≡ aired_text self.old.party index frame.now) }
-        ensures rest { KeepsRest self.old self.new }
-        ensures received { self.new.receiver ≡ self.old.receiver }
-    {
-        woven_gives_payload();
-        functions_of_a_frame();
-        let mut air = [0; 552];
-        weave(&frame.payload, &mut air);
-        let text = match self.party {
-            Party::Link => print_sent(alloc, index, frame)?,
-            Party::Ground => print_sent_air(alloc, index, frame, &air)?,
+        let frame = match self.sending.turn(index, moment, slot) {
+            Ok(frame) => frame,
+            Err(reason) => return Err(Stop::Refused(reason)),
         };
-        self.sent.push(SentFrame {
-            moment: frame.moment,
-            air,
-        })?;
-        Ok(text)
+        let Ok(()) = keep(&mut self.sent, &frame) else {
+            return Err(Stop::NoMemory);
+        };
+        match print_sent(alloc, index, &frame) {
+            Ok(text) => Ok(text),
+            Err(AllocError) => Err(Stop::NoMemory),
+        }
     }
 
-    fn hear(&mut self, alloc: Global, moment: Moment, frame: u32) -> Result<String, Stop>
-        ensures { (setting : Setting) (acted : List ScriptLine) → Stands setting self.old acted → IsNext setting acted (hear moment frame)
-            → HasTried setting acted (hear moment frame) self.old (answer_bytes result) self.new }
+    /// Hears a frame that was sent.
+    fn hear(&mut self, alloc: Global, moment: Moment, frame: u32) -> Result<Bytes, Stop>
+        ensures tried { (bytes : List ℕ) (acted : List ScriptLine)
+            → CanCome acted (hear moment frame) → LinkHolds G.stands E.stands bytes acted self.old
+            → HasTried (own_refusal self.old.sending.table acted (hear moment frame))
+            (λ given. (given ≡ given_text Party.Link heard_picture self.old.sending.table acted
+            (hear moment frame))
+            × LinkHolds G.stands E.stands bytes (hear moment frame ∷ acted) self.new) result }
+        ensures rest { KeepsClock self.old.sending self.new.sending }
     {
-        ranges_of_lines();
-        refused_texts();
-        frame_gives_payload();
-        frames_are_bodies();
-        hearings_are_whole();
-        pictures_agree();
-        whole_receptions();
+        match self.find(moment, frame) {
+            Ok(air) => self.receive(alloc, moment, &air),
+            Err(reason) => Err(Stop::Refused(reason)),
+        }
+    }
+
+    /// The bytes on the air of a frame that was sent, in time.
+    fn find(&self, moment: Moment, frame: u32) -> Result<[u8; 552], Reason>
+        ensures { (sent : List Frame) → map sent_view self.now.sent.items ≡ map aired_view sent
+            → IsFound self.now.sending.table.late moment (slice_get sent frame) result }
+    {
         let Some(sent) = self.sent.get(frame as usize) else {
-            return Err(Stop::Refused(Reason::NoFrame));
+            return Err(Reason::NoFrame);
         };
-        if moment.seconds() > sent.moment.seconds() + self.table.late() {
-            return Err(Stop::Refused(Reason::Late));
+        if moment.seconds() > sent.moment.seconds() + self.sending.table.late() {
+            return Err(Reason::Late);
         }
-        let mut payload = [0; 432];
-        match unweave(&sent.air, &mut payload) {
-            Ok(counts) => match self.receive(alloc, moment, &payload, counts) {
-                Ok(text) => Ok(text),
-                Err(AllocError) => Err(Stop::NoMemory),
-            },
-            Err(_) => unreachable!(),
-        }
+        Ok(sent.air)
     }
 
-    /// Hears a payload, and answers its text.
-    fn receive(
-        &mut self,
-        alloc: Global,
-        moment: Moment,
-        payload: &[u8; 432],
-        counts: [u8; 6],
-    ) -> Result<String, AllocError>
-        ensures table { self.new.receiver.table ≡ self.old.receiver.table }
-        ensures keeps { (contents : List Entry) → Keeps self.old.receiver.table contents self.old.receiver.kept → IfOk result (λ _.
-            Keeps self.old.receiver.table (contents ++ brought self.old.receiver.table (record { moment = moment; payload = payload.now })) self.new.receiver.kept) }
-        ensures text { IfOk result (λ s. string_bytes s ≡ received_text self.old.receiver.table moment payload.now counts) }
-        ensures rest { KeepsRest self.old self.new }
+    /// Hears a frame, and answers its text.
+    fn receive(&mut self, alloc: Global, moment: Moment, air: &[u8; 552]) -> Result<Bytes, Stop>
+        ensures heard { (table : Table) (past : List Reception) → E.stands table past self.old.ear
+            → HasTried (receiver_refusal past moment)
+            (λ text. (text ≡ heard_text table past moment air.now)
+            × E.stands table (cons_option (reception_from past moment air.now) past) self.new.ear)
+            result }
+        ensures sending { self.new.sending ≡ self.old.sending }
         ensures sent { self.new.sent ≡ self.old.sent }
     {
-        let header = read_header(payload);
-        let mut text = print_heard(alloc, moment, header.slot, header.site, counts)?;
-        let unread = self.receiver.hear_payload(alloc, moment, payload)?;
-        text.push_str(print_unread(alloc, unread.as_slice())?.as_str())?;
-        Ok(text)
+        match self.ear.hear(moment, air) {
+            Ok(heard) => match print_heard(alloc, moment, &heard) {
+                Ok(text) => Ok(text),
+                Err(AllocError) => Err(Stop::NoMemory),
+            },
+            Err(fault) => print_unheard(alloc, moment, fault),
+        }
+    }
+
+    /// The text of the picture at a moment.
+    fn show(&self, alloc: Global, moment: Moment) -> Result<Bytes, Stop>
+        ensures { (table : Table) (past : List Reception) → E.stands table past self.now.ear
+            → HasTried (receiver_refusal past moment)
+            (λ text. text ≡ picture_text moment
+            (map shown_value (received_picture table past moment))) result }
+    {
+        match self.ear.picture(alloc, moment) {
+            Ok(entries) => match print_picture(alloc, moment, entries.all()) {
+                Ok(text) => Ok(text),
+                Err(AllocError) => Err(Stop::NoMemory),
+            },
+            Err(fault) => Err(stop_of_show(fault)),
+        }
     }
 }
 
-/// Whether a command takes a line.
-fn takes(party: Party, line: &Line) -> bool
-    ensures { party_refusal party (line_view line.now) ≡ (if result then None else Some not_here) }
+/// Keeps a frame that was sent.
+fn keep(sent: &mut Vec<SentFrame>, frame: &AirFrame) -> Result<(), AllocError>
+    ensures { OnOk result (map sent_view sent.new.items ≡ map sent_view sent.old.items
+        ++ record { moment = frame.now.moment; air = frame.now.air } ∷ []) }
 {
-    match party {
-        Party::Link => true,
-        Party::Ground => !is_heard_or_shown(line),
-    }
-}
-
-fn is_heard_or_shown(line: &Line) -> bool
-    ensures { result ≡ is_heard_or_shown (line_view line.now) }
-{
-    matches!(line, Line::Hear { .. } | Line::Show { .. })
-}
-
-fn is_unbuilt(line: &Line) -> bool
-    ensures { result ≡ is_unbuilt (line_view line.now) }
-{
-    matches!(line, Line::Unbuilt)
-}
-
-fn is_station(line: &Line) -> bool
-    ensures { result ≡ is_station (line_view line.now) }
-{
-    matches!(line, Line::Station { .. })
-}
-
-fn is_empty(line: &Line) -> bool
-    ensures { result ≡ is_empty (line_view line.now) }
-{
-    matches!(line, Line::Nothing)
-}
-
-fn moment_of(line: &Line) -> Option<Moment>
-    ensures { result ≡ moment_of (line_view line.now) }
-{
-    match line {
-        Line::Nothing | Line::Station { .. } | Line::Unbuilt => None,
-        Line::Text { moment, .. }
-        | Line::Turn { moment, .. }
-        | Line::Hear { moment, .. }
-        | Line::Show { moment } => Some(*moment),
-    }
-}
-
-/// The moment before which a frame is not filled.
-fn kept_of(fault: FillFault) -> Moment
-    ensures { result ≡ kept_told fault }
-{
-    let FillFault::Clock { kept } = fault;
-    kept
-}
-
-/// Why a text is not given.
-fn stop_of(fault: GiveFault) -> Stop
-    ensures { (refusal : Option GiftFault) → IsTold refusal fault → TellsRefusal refusal result }
-{
-    match fault {
-        GiveFault::Clock { kept } => Stop::Refused(Reason::Clock { kept }),
-        GiveFault::BadText(text) => stop_of_text(text),
-        GiveFault::FewWords => Stop::Refused(Reason::FewWords),
-        GiveFault::Unlisted => Stop::Refused(Reason::Unlisted),
-        GiveFault::Coarse => Stop::Refused(Reason::Coarse),
-        GiveFault::Ahead => Stop::Refused(Reason::Ahead),
-        GiveFault::Expired => Stop::Refused(Reason::Expired),
-        GiveFault::NotNewer { kept } => Stop::Refused(Reason::NotNewer { kept }),
-        GiveFault::NotBuilt => Stop::Refused(Reason::NotBuilt),
-        GiveFault::NoMemory => Stop::NoMemory,
-    }
-}
-
-/// Why a text cannot be sent.
-fn stop_of_text(fault: TextFault) -> Stop
-    ensures { (refusal : Option GiftFault) → IsToldOfText refusal fault → TellsRefusal refusal result }
-{
-    match fault {
-        TextFault::BadCharacter { place } => Stop::Refused(Reason::BadCharacter { place }),
-        TextFault::TooLong => Stop::Refused(Reason::TextLong),
-        TextFault::NoMemory => Stop::NoMemory,
-    }
+    sent.push(SentFrame {
+        moment: frame.moment,
+        air: frame.air,
+    })?;
+    Ok(())
 }

@@ -1,161 +1,160 @@
-//! Whole runs, each compared with the exact bytes that it writes and with its status. What is expected follows from
-//! the rules of the script and of its output, and was worked out by hand.
+//! Runs of a whole command over ends that fail or give few bytes, and each command's own call.
+//! Scripts over ends that do not fail are cases of `fisb_cases`.
+ghost use Rattle.std.specs.Prelude.{◌<◌};
+ghost use Rattle.receiver_core.specs.StandsFor.{StandsFor};
 
-mod faults;
-mod fields;
-mod ground;
-mod limits;
-mod opening;
-mod order;
-mod ordinary;
-mod refused;
-mod several;
-mod tables;
-mod words;
-
-use crate::{Reason, Status, run, run_link};
+use crate::{
+    Ear, Reason, Status, run_gdl, run_ground, run_link, run_link_over, run_make, run_receive,
+};
 use fisb_time::Moment;
-use fisb_wire::{Bytes, MemorySink, MemorySource, Numbers, StdSource};
+use fisb_wire::{Bytes, FaithfulSource, MemorySink, MemorySource, Numbers, PieceSource};
+use life_table::LifeTable;
+use picture_core::Entries;
+use receiver_core::{HearFault, Heard, Receiver, ShowFault};
 use std::alloc::{AllocError, Global};
-use std::io;
-use std::io::Read;
-use std::process::Abort;
 use std::test::Fail;
 
-/// A source of these bytes, of which no read fails.
-fn source_of(alloc: Global, input: &[u8]) -> Result<MemorySource, AllocError> {
-    let input = Bytes::of(Vec::from_slice(alloc, input)?);
-    Ok(MemorySource::new(input, Numbers::of(Vec::new(alloc)), 65_536))
+const SCRIPT: &[u8] =
+    b"---\ntext 1700000000 1699999980 METAR KSEA\nturn 1700000001 0\nhear 1700000002 0\nshow 1700000003\n";
+
+const SENT: &[u8] = b"sent 0 1700000001 0 1 15\n";
+
+const HEARD: &[u8] = b"sent 0 1700000001 0 1 15\nheard 1700000002 0 0 0 0 0 0 0 0\n";
+
+const SHOWN: &[u8] =
+    b"sent 0 1700000001 0 1 15\nheard 1700000002 0 0 0 0 0 0 0 0\npicture 1700000003 1\ntext METAR KSEA 1699999980 METAR KSEA\n";
+
+fn script(alloc: Global) -> Result<Bytes, AllocError> {
+    Ok(Bytes::of(Vec::from_slice(alloc, SCRIPT)?))
 }
 
-/// A sink of ample room, of which no write fails.
-fn ample_sink(alloc: Global) -> Result<MemorySink, AllocError> {
-    sink_of_room(alloc, 16_384)
+fn numbers(alloc: Global, items: &[u32]) -> Result<Numbers, AllocError> {
+    Ok(Numbers::of(Vec::from_slice(alloc, items)?))
 }
 
-/// A sink with room for so many bytes, of which no write fails before.
-fn sink_of_room(alloc: Global, room: usize) -> Result<MemorySink, AllocError> {
-    MemorySink::new(alloc, room, Numbers::of(Vec::new(alloc)))
+// What `link` answers and writes where the read of this number fails, of reads of 16 bytes.
+fn without_read(alloc: Global, number: u32) -> Result<(Status, Vec<u8>), AllocError> {
+    let mut source = MemorySource::new(script(alloc)?, numbers(alloc, &[number])?, 16);
+    let mut sink = MemorySink::new(alloc, 1024, numbers(alloc, &[])?)?;
+    let status = run_link(alloc, &mut source, &mut sink);
+    Ok((status, Vec::from_slice(alloc, sink.taken())?))
 }
 
-/// A reader that gives its bytes in pieces of at most seven, and fails behind the last one.
+// The same where the write of this number fails.
+fn without_write(alloc: Global, number: u32) -> Result<(Status, Vec<u8>), AllocError> {
+    let mut source = FaithfulSource::new(script(alloc)?);
+    let mut sink = MemorySink::new(alloc, 1024, numbers(alloc, &[number])?)?;
+    let status = run_link(alloc, &mut source, &mut sink);
+    Ok((status, Vec::from_slice(alloc, sink.taken())?))
+}
+
+// The same over reads of so many bytes.
+fn in_pieces(alloc: Global, size: u32) -> Result<(Status, Vec<u8>), AllocError>
+    requires { 0 < size }
+{
+    let sizes = Numbers::of(vec![in alloc; size; 100]?);
+    let mut source = PieceSource::new(script(alloc)?, sizes);
+    let mut sink = MemorySink::new(alloc, 1024, numbers(alloc, &[])?)?;
+    let status = run_link(alloc, &mut source, &mut sink);
+    Ok((status, Vec::from_slice(alloc, sink.taken())?))
+}
+
+#[test]
+fn the_lines_before_a_failed_read_are_acted_on(rt: HostRuntime) -> Result<(), Fail> {
+    let rows = [
+        b"".as_slice(),
+        b"".as_slice(),
+        b"".as_slice(),
+        b"".as_slice(),
+        SENT,
+        HEARD,
+        SHOWN,
+    ];
+    for (number, output) in rows.iter().enumerate() {
+        let ran = without_read(rt.alloc(), number as u32)?;
+        assert_eq!(rt; ran.0, Status::ReadFault);
+        assert_eq!(rt; ran.1.as_slice(), *output);
+    }
+    assert_eq!(rt; without_read(rt.alloc(), 7)?.0, Status::Done);
+    Ok(())
+}
+
+#[test]
+fn a_failed_write_ends_the_run_after_what_was_written(rt: HostRuntime) -> Result<(), Fail> {
+    for (number, output) in [b"".as_slice(), SENT, HEARD].iter().enumerate() {
+        let ran = without_write(rt.alloc(), number as u32)?;
+        assert_eq!(rt; ran.0, Status::WriteFault);
+        assert_eq!(rt; ran.1.as_slice(), *output);
+    }
+    assert_eq!(rt; without_write(rt.alloc(), 3)?.0, Status::Done);
+    Ok(())
+}
+
+#[test]
+fn the_sizes_of_the_reads_change_nothing(rt: HostRuntime) -> Result<(), Fail> {
+    for size in [1, 7, 1000] {
+        let ran = in_pieces(rt.alloc(), size)?;
+        assert_eq!(rt; ran.0, Status::Done);
+        assert_eq!(rt; ran.1.as_slice(), SHOWN);
+    }
+    Ok(())
+}
+
+#[test]
+fn each_command_has_a_call_of_its_own(rt: HostRuntime) -> Result<(), Fail> {
+    let alloc = rt.alloc();
+    let refused = Status::Refused {
+        line: 1,
+        reason: Reason::NotBuilt,
+    };
+    let mut source = FaithfulSource::new(script(alloc)?);
+    let mut sink = MemorySink::new(alloc, 4096, numbers(alloc, &[])?)?;
+    assert_eq!(rt; run_receive(alloc, &mut source, &mut sink), refused);
+    assert_eq!(rt; run_gdl(alloc, &mut source, &mut sink), refused);
+    assert_eq!(rt; run_make(alloc, 1, 2, &mut sink), refused);
+    let not_here = Status::Refused {
+        line: 4,
+        reason: Reason::NotHere,
+    };
+    assert_eq!(rt; run_ground(alloc, &mut source, &mut sink), not_here);
+    assert_eq!(rt; run_link(alloc, &mut source, &mut sink).code(), 3);
+    Ok(())
+}
+
+/// A receiver that finds no memory to hear a frame.
 #[derive(Drop)]
-struct Broken<'a> {
-    left: &'a [u8],
+struct Mute {
+    receiver: Receiver,
 }
 
-impl Read for Broken<'_> {
-    fn read(&mut self, buf: &mut [u8]) -> io::Result<usize> {
-        if self.left.is_empty() {
-            return Err(io::Error::from(io::ErrorKind::Other));
+impl Ear for Mute {
+    ghost stands = { λ table past mute. StandsFor table mute.receiver past };
+
+    fn new(alloc: Global, table: LifeTable) -> Mute {
+        Mute {
+            receiver: Receiver::new(alloc, table),
         }
-        let size = buf.len().min(7);
-        self.left.read(&mut buf[..size])
+    }
+
+    fn hear(&mut self, moment: Moment, air: &[u8; 552]) -> Result<Heard, HearFault> {
+        Err(HearFault::NoMemory)
+    }
+
+    fn picture(&self, alloc: Global, moment: Moment) -> Result<Entries, ShowFault> {
+        self.receiver.picture(alloc, moment)
     }
 }
 
-/// The words of a command line.
-fn words_of(alloc: Global, words: &[&str]) -> Result<Vec<String>, AllocError> {
-    let mut list = Vec::new(alloc);
-    for word in words {
-        list.push(String::from_str(alloc, word)?)?;
-    }
-    Ok(list)
-}
-
-/// A line's refusal.
-fn refusal(line: u64, reason: Reason) -> Status {
-    Status::Refused { line, reason }
-}
-
-/// The moment of these seconds.
-fn moment(seconds: u64) -> Result<Moment, Fail> {
-    Ok(Moment::new(seconds).ok_or("a moment")?)
-}
-
-/// Runs a command over a script, which has to write exactly `output` and to end with `status`.
-fn check_script(
-    rt: &impl Abort,
-    alloc: Global,
-    command: &str,
-    script: &str,
-    output: &str,
-    status: Status,
-) -> Result<(), Fail> {
-    let words = words_of(alloc, &[command])?;
-    let mut source = source_of(alloc, script.as_bytes())?;
-    let mut sink = ample_sink(alloc)?;
-    let answer = run(alloc, words.as_slice(), &mut source, &mut sink);
-    assert_eq!(rt; answer, status, "{script}");
-    assert_eq!(rt; sink.taken(), output.as_bytes(), "{script}");
+#[test]
+fn a_frame_that_is_heard_goes_to_the_receiver(rt: HostRuntime) -> Result<(), Fail> {
+    let mut source = FaithfulSource::new(script(rt.alloc())?);
+    let mut sink = MemorySink::new(rt.alloc(), 1024, numbers(rt.alloc(), &[])?)?;
+    let status = run_link_over::<FaithfulSource, MemorySink, Mute>(
+        rt.alloc(),
+        &mut source,
+        &mut sink,
+    );
+    assert_eq!(rt; status, Status::NoMemory);
+    assert_eq!(rt; sink.taken(), SENT);
     Ok(())
-}
-
-/// Runs `link` over a script, which has to write exactly `output` and to end with `status`.
-fn check_link(
-    rt: &impl Abort,
-    alloc: Global,
-    script: &str,
-    output: &str,
-    status: Status,
-) -> Result<(), Fail> {
-    check_script(rt, alloc, "link", script, output, status)
-}
-
-/// Runs `ground` over a script, which has to write exactly `output` and to end with `status`.
-fn check_ground(
-    rt: &impl Abort,
-    alloc: Global,
-    script: &str,
-    output: &str,
-    status: Status,
-) -> Result<(), Fail> {
-    check_script(rt, alloc, "ground", script, output, status)
-}
-
-/// Runs `link` over bytes that are no UTF-8. It has to write exactly `output` and to end with `status`.
-fn check_bytes(
-    rt: &impl Abort,
-    alloc: Global,
-    input: &[u8],
-    output: &str,
-    status: Status,
-) -> Result<(), Fail> {
-    let mut source = source_of(alloc, input)?;
-    let mut sink = ample_sink(alloc)?;
-    assert_eq!(rt; run_link(alloc, &mut source, &mut sink), status);
-    assert_eq!(rt; sink.taken(), output.as_bytes());
-    Ok(())
-}
-
-/// Runs `link` over the bytes before a read that fails. It has to write exactly `output` and to end with `status`.
-fn check_broken(
-    rt: &impl Abort,
-    alloc: Global,
-    read: &str,
-    output: &str,
-    status: Status,
-) -> Result<(), Fail> {
-    let mut source = StdSource::new(Broken {
-        left: read.as_bytes(),
-    });
-    let mut sink = ample_sink(alloc)?;
-    let answer = run_link(alloc, &mut source, &mut sink);
-    assert_eq!(rt; answer, status, "{read}");
-    assert_eq!(rt; sink.taken(), output.as_bytes(), "{read}");
-    Ok(())
-}
-
-/// A text so many times.
-fn repeated(alloc: Global, part: &str, count: usize) -> Result<String, AllocError> {
-    let mut text = String::new(alloc);
-    for _ in 0..count {
-        text.push_str(part)?;
-    }
-    Ok(text)
-}
-
-/// The letter A so many times.
-fn letters(alloc: Global, count: usize) -> Result<String, AllocError> {
-    repeated(alloc, "A", count)
 }

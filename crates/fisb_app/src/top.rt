@@ -1,26 +1,27 @@
 //! The top call.
-ghost use Rattle.std.specs.Prelude.{◌≡◌, ◌↔◌, ◌≤◌, None, Some, map, string_bytes};
+ghost use Rattle.std.specs.Prelude.{◌≡◌, ◌≤◌, ◌↔◌, None, Some, map, string_bytes};
 ghost use Rattle.fisb_wire.specs.Faults.{Rose};
-ghost use Rattle.fisb_app.specs.Command.{command_named, IsUnbuilt};
+ghost use Rattle.run_core.specs.Run.{HasRun, IsDecided, ends, task_of};
+ghost use Rattle.fisb_app.specs.Command.{IsUnbuilt, command_named};
 ghost use Rattle.fisb_app.specs.declared.command.Command.{Command};
-ghost use Rattle.fisb_app.specs.declared.party.Party.{Party as RustParty};
-ghost use Rattle.fisb_app.specs.declared.party.Party.TheVariants.{Link as TheLink, Ground as TheGround};
-ghost use Rattle.fisb_app.specs.Run.{HasRun, HasPromised, IsDecided, HasRefused, acted_part, is_end, status_of};
-ghost use Rattle.fisb_app.specs.Script.{unbuilt_command};
+ghost use Rattle.fisb_app.specs.Unbuilt.{HasRefused};
+ghost use Rattle.fisb_app.specs.Work.{ground_work, link_work, promised_work};
 
 use crate::command::{Command, command_of};
-use crate::input::{Ending, INPUT_LIMIT, read_input};
-use crate::laws::pictures_agree;
-use crate::party::Party;
-use crate::script::{act_on_script, refuse};
-use crate::status::Status;
+use crate::ear::Ear;
+use crate::ground_alone::GroundAlone;
+use crate::laws::promises_are_kept;
+use crate::link::Link;
 use fisb_wire::{Sink, Source};
-use life_table::tables_keep_rules;
-use script_core::Reason;
+use ground_core::Ground;
+use receiver_core::Receiver;
+use run_core::laws::runs_agree;
+use run_core::{Status, write_all};
+use script_core::{Reason, print_refused};
 use std::alloc::Global;
 
-/// Runs the command that the words name: `link`, `ground`, `receive`, `gdl`, or `make` with further words.
-/// Nothing is read or written where they name none.
+/// Runs the command that the words name: `link`, `ground`, `receive`, `gdl`, or `make` with further
+/// words. Nothing is read or written where they name none.
 pub fn run<S: Source, K: Sink>(
     alloc: Global,
     words: &[String],
@@ -28,38 +29,51 @@ pub fn run<S: Source, K: Sink>(
     sink: &mut K,
 ) -> Status
     requires { K.spare sink.old ≡ None }
-    ensures usage { (result ≡ Status.Usage) ↔ (command_named (map string_bytes words.now) ≡ None) }
-    ensures untouched { result ≡ Status.Usage → (source.new ≡ source.old) × (sink.new ≡ sink.old) }
+    ensures usage { (result ≡ Status.Usage)
+        ↔ (command_named (map string_bytes words.now) ≡ None) }
+    ensures untouched { result ≡ Status.Usage
+        → (source.new ≡ source.old) × (sink.new ≡ sink.old) }
 
     // `link`: what it took, wrote and answered.
     ensures link { command_named (map string_bytes words.now) ≡ Some Command.Link
-        → HasRun Party.Link (S.left source.old) (S.left source.new) (S.faults source.old) (S.faults source.new)
-        (K.written sink.old) (K.written sink.new) (K.faults sink.old) (K.faults sink.new) result }
+        → HasRun (task_of link_work)
+        (ends (S.left source.old) (S.faults source.old) (K.written sink.old) (K.faults sink.old))
+        (ends (S.left source.new) (S.faults source.new) (K.written sink.new) (K.faults sink.new))
+        result }
     ensures headline { command_named (map string_bytes words.now) ≡ Some Command.Link
-        → HasPromised Party.Link (S.left source.old) (S.left source.new) (S.faults source.old) (S.faults source.new)
-        (K.written sink.old) (K.written sink.new) (K.faults sink.old) (K.faults sink.new) result }
+        → HasRun (task_of promised_work)
+        (ends (S.left source.old) (S.faults source.old) (K.written sink.old) (K.faults sink.old))
+        (ends (S.left source.new) (S.faults source.new) (K.written sink.new) (K.faults sink.new))
+        result }
     ensures decided { command_named (map string_bytes words.now) ≡ Some Command.Link
-        → IsDecided Party.Link (S.left source.old) (S.faults source.old) (S.faults source.new) (K.faults sink.old) (K.faults sink.new) result }
+        → IsDecided (task_of link_work)
+        (ends (S.left source.old) (S.faults source.old) (K.written sink.old) (K.faults sink.old))
+        (ends (S.left source.new) (S.faults source.new) (K.written sink.new) (K.faults sink.new))
+        result }
 
     // `ground`: the same, without pictures.
     ensures ground_alone { command_named (map string_bytes words.now) ≡ Some Command.Ground
-        → HasRun Party.Ground (S.left source.old) (S.left source.new) (S.faults source.old) (S.faults source.new)
-        (K.written sink.old) (K.written sink.new) (K.faults sink.old) (K.faults sink.new) result }
+        → HasRun (task_of ground_work)
+        (ends (S.left source.old) (S.faults source.old) (K.written sink.old) (K.faults sink.old))
+        (ends (S.left source.new) (S.faults source.new) (K.written sink.new) (K.faults sink.new))
+        result }
     ensures ground_decided { command_named (map string_bytes words.now) ≡ Some Command.Ground
-        → IsDecided Party.Ground (S.left source.old) (S.faults source.old) (S.faults source.new) (K.faults sink.old) (K.faults sink.new) result }
+        → IsDecided (task_of ground_work)
+        (ends (S.left source.old) (S.faults source.old) (K.written sink.old) (K.faults sink.old))
+        (ends (S.left source.new) (S.faults source.new) (K.written sink.new) (K.faults sink.new))
+        result }
 
-    // The commands that are not built yet: nothing is read, and line 1 is refused; `gdl` writes nothing.
-    ensures unbuilt { (command : Command) → command_named (map string_bytes words.now) ≡ Some command → IsUnbuilt command
-        → (source.new ≡ source.old) × HasRefused unbuilt_command (K.written sink.old) (K.written sink.new) (K.faults sink.old) (K.faults sink.new) result }
+    // The commands that are not built yet: nothing is read, and line 1 is refused; `gdl` writes
+    // nothing.
+    ensures unbuilt { (command : Command)
+        → command_named (map string_bytes words.now) ≡ Some command → IsUnbuilt command
+        → (source.new ≡ source.old) × HasRefused (K.written sink.old) (K.written sink.new)
+        (K.faults sink.old) (K.faults sink.new) result }
     ensures gdl { command_named (map string_bytes words.now) ≡ Some Command.Gdl
-        → (source.new ≡ source.old) × (sink.new ≡ sink.old) × (result ≡ Status.Refused 1 Reason.NotBuilt) }
-
-    ensures read_fault { result ≡ Status.ReadFault → Rose (S.faults source.old) (S.faults source.new) }
-    ensures write_fault { result ≡ Status.WriteFault → Rose (K.faults sink.old) (K.faults sink.new) }
+        → (source.new ≡ source.old) × (sink.new ≡ sink.old)
+        × (result ≡ Status.Refused 1 Reason.NotBuilt) }
     ensures spare { K.spare sink.new ≡ None }
     ensures reach { K.reach sink.new ≡ K.reach sink.old }
-    ensures source_faults { S.faults source.old ≤ S.faults source.new }
-    ensures sink_faults { K.faults sink.old ≤ K.faults sink.new }
 {
     match command_of(words) {
         None => Status::Usage,
@@ -67,102 +81,88 @@ pub fn run<S: Source, K: Sink>(
         Some(Command::Ground) => run_ground(alloc, source, sink),
         Some(Command::Receive) => run_receive(alloc, source, sink),
         Some(Command::Gdl) => run_gdl(alloc, source, sink),
-        Some(Command::Make) => refuse(alloc, 1, Reason::NotBuilt, sink),
+        Some(Command::Make) => refuse(alloc, sink),
     }
 }
 
-/// Runs `link`: acts on the lines of the script that the source gives, as a ground and a receiver of its frames.
+/// Runs `link`: acts on the lines of the script that the source gives, as a ground and a receiver
+/// of its frames.
 pub fn run_link<S: Source, K: Sink>(alloc: Global, source: &mut S, sink: &mut K) -> Status
     requires { K.spare sink.old ≡ None }
-    ensures ran { HasRun Party.Link (S.left source.old) (S.left source.new) (S.faults source.old) (S.faults source.new)
-        (K.written sink.old) (K.written sink.new) (K.faults sink.old) (K.faults sink.new) result }
-    ensures headline { HasPromised Party.Link (S.left source.old) (S.left source.new) (S.faults source.old) (S.faults source.new)
-        (K.written sink.old) (K.written sink.new) (K.faults sink.old) (K.faults sink.new) result }
-    ensures decided { IsDecided Party.Link (S.left source.old) (S.faults source.old) (S.faults source.new) (K.faults sink.old) (K.faults sink.new) result }
+    ensures ran { HasRun (task_of link_work)
+        (ends (S.left source.old) (S.faults source.old) (K.written sink.old) (K.faults sink.old))
+        (ends (S.left source.new) (S.faults source.new) (K.written sink.new) (K.faults sink.new))
+        result }
+    ensures headline { HasRun (task_of promised_work)
+        (ends (S.left source.old) (S.faults source.old) (K.written sink.old) (K.faults sink.old))
+        (ends (S.left source.new) (S.faults source.new) (K.written sink.new) (K.faults sink.new))
+        result }
+    ensures decided { IsDecided (task_of link_work)
+        (ends (S.left source.old) (S.faults source.old) (K.written sink.old) (K.faults sink.old))
+        (ends (S.left source.new) (S.faults source.new) (K.written sink.new) (K.faults sink.new))
+        result }
     ensures spare { K.spare sink.new ≡ None }
     ensures reach { K.reach sink.new ≡ K.reach sink.old }
-    ensures source_faults { S.faults source.old ≤ S.faults source.new }
-    ensures sink_faults { K.faults sink.old ≤ K.faults sink.new }
 {
-    run_script(alloc, Party::Link, source, sink)
+    run_link_over::<S, K, Receiver>(alloc, source, sink)
 }
 
-/// Runs `ground`: acts on the lines of the script that the source gives, as a ground alone, and writes what stands on the air.
-pub fn run_ground<S: Source, K: Sink>(alloc: Global, source: &mut S, sink: &mut K) -> Status
-    requires { K.spare sink.old ≡ None }
-    ensures ran { HasRun Party.Ground (S.left source.old) (S.left source.new) (S.faults source.old) (S.faults source.new)
-        (K.written sink.old) (K.written sink.new) (K.faults sink.old) (K.faults sink.new) result }
-    ensures decided { IsDecided Party.Ground (S.left source.old) (S.faults source.old) (S.faults source.new) (K.faults sink.old) (K.faults sink.new) result }
-    ensures spare { K.spare sink.new ≡ None }
-    ensures reach { K.reach sink.new ≡ K.reach sink.old }
-    ensures source_faults { S.faults source.old ≤ S.faults source.new }
-    ensures sink_faults { K.faults sink.old ≤ K.faults sink.new }
-{
-    run_script(alloc, Party::Ground, source, sink)
-}
-
-/// Reads the source, and acts on the lines of its script.
-fn run_script<S: Source, K: Sink>(
+/// Runs `link` with any receiver: each frame that is heard goes to it, and each picture comes from
+/// it.
+pub fn run_link_over<S: Source, K: Sink, E: Ear>(
     alloc: Global,
-    party: Party,
     source: &mut S,
     sink: &mut K,
 ) -> Status
     requires { K.spare sink.old ≡ None }
-    ensures ran { HasRun party (S.left source.old) (S.left source.new) (S.faults source.old) (S.faults source.new)
-        (K.written sink.old) (K.written sink.new) (K.faults sink.old) (K.faults sink.new) result }
+    ensures ran { HasRun (task_of link_work)
+        (ends (S.left source.old) (S.faults source.old) (K.written sink.old) (K.faults sink.old))
+        (ends (S.left source.new) (S.faults source.new) (K.written sink.new) (K.faults sink.new))
+        result }
+    ensures headline { HasRun (task_of promised_work)
+        (ends (S.left source.old) (S.faults source.old) (K.written sink.old) (K.faults sink.old))
+        (ends (S.left source.new) (S.faults source.new) (K.written sink.new) (K.faults sink.new))
+        result }
+    ensures decided { IsDecided (task_of link_work)
+        (ends (S.left source.old) (S.faults source.old) (K.written sink.old) (K.faults sink.old))
+        (ends (S.left source.new) (S.faults source.new) (K.written sink.new) (K.faults sink.new))
+        result }
     ensures spare { K.spare sink.new ≡ None }
     ensures reach { K.reach sink.new ≡ K.reach sink.old }
-    ensures source_faults { S.faults source.old ≤ S.faults source.new }
-    ensures sink_faults { K.faults sink.old ≤ K.faults sink.new }
 {
-    pictures_agree();
-    tables_keep_rules();
-    let Ok(input) = read_input(alloc, source) else {
-        return Status::NoMemory;
-    };
-    let text = acted_part(input.bytes.as_slice());
-    match act_on_script(alloc, party, text, is_end(input.ending), sink) {
-        Ok(()) => status_of(input.ending),
-        Err(status) => status,
-    }
+    runs_agree();
+    promises_are_kept();
+    run_core::run::<Link<Ground, E>, S, K>(alloc, source, sink)
 }
 
-/// Whether the reading ended at the end of the input.
-fn is_end(ending: Ending) -> bool
-    ensures { result ≡ is_end ending }
+/// Runs `ground`: acts on the lines of the script that the source gives, as a ground alone, and
+/// writes what is on the air.
+pub fn run_ground<S: Source, K: Sink>(alloc: Global, source: &mut S, sink: &mut K) -> Status
+    requires { K.spare sink.old ≡ None }
+    ensures ran { HasRun (task_of ground_work)
+        (ends (S.left source.old) (S.faults source.old) (K.written sink.old) (K.faults sink.old))
+        (ends (S.left source.new) (S.faults source.new) (K.written sink.new) (K.faults sink.new))
+        result }
+    ensures decided { IsDecided (task_of ground_work)
+        (ends (S.left source.old) (S.faults source.old) (K.written sink.old) (K.faults sink.old))
+        (ends (S.left source.new) (S.faults source.new) (K.written sink.new) (K.faults sink.new))
+        result }
+    ensures spare { K.spare sink.new ≡ None }
+    ensures reach { K.reach sink.new ≡ K.reach sink.old }
 {
-    matches!(ending, Ending::End)
-}
-
-/// The bytes within the limit.
-fn acted_part(taken: &[u8]) -> &[u8]
-    ensures { result.now ≡ acted_part taken.now }
-{
-    taken.split_at(taken.len().min(INPUT_LIMIT)).0
-}
-
-/// The status of a run without a refused line.
-fn status_of(ending: Ending) -> Status
-    ensures { result ≡ status_of ending }
-{
-    match ending {
-        Ending::End => Status::Done,
-        Ending::Failed => Status::ReadFault,
-        Ending::Full => Status::TooLong,
-    }
+    run_core::run::<GroundAlone<Ground>, S, K>(alloc, source, sink)
 }
 
 /// Runs `receive`, which is not built yet: nothing is read, and line 1 is refused.
 pub fn run_receive<S: Source, K: Sink>(alloc: Global, source: &mut S, sink: &mut K) -> Status
     requires { K.spare sink.old ≡ None }
     ensures unread { source.new ≡ source.old }
-    ensures refused { HasRefused unbuilt_command (K.written sink.old) (K.written sink.new) (K.faults sink.old) (K.faults sink.new) result }
+    ensures refused { HasRefused (K.written sink.old) (K.written sink.new)
+        (K.faults sink.old) (K.faults sink.new) result }
     ensures spare { K.spare sink.new ≡ None }
     ensures reach { K.reach sink.new ≡ K.reach sink.old }
-    ensures sink_faults { K.faults sink.old ≤ K.faults sink.new }
 {
-    refuse(alloc, 1, Reason::NotBuilt, sink)
+    refuse(alloc, sink)
 }
 
 /// Runs `gdl`, which is not built yet: nothing is read, line 1 is refused, and nothing is written.
@@ -178,14 +178,35 @@ pub fn run_gdl<S: Source, K: Sink>(alloc: Global, source: &mut S, sink: &mut K) 
     }
 }
 
-/// Runs `make` for so many minutes of traffic from a seed, which is not built yet: line 1 is refused.
+/// Runs `make` for so many minutes of traffic from a seed, which is not built yet: line 1 is
+/// refused.
 pub fn run_make<K: Sink>(alloc: Global, count: u32, seed: u64, sink: &mut K) -> Status
     requires spare { K.spare sink.old ≡ None }
     requires count { (1 ≤ count) × (count ≤ 1000) }
-    ensures refused { HasRefused unbuilt_command (K.written sink.old) (K.written sink.new) (K.faults sink.old) (K.faults sink.new) result }
+    ensures refused { HasRefused (K.written sink.old) (K.written sink.new)
+        (K.faults sink.old) (K.faults sink.new) result }
     ensures spare { K.spare sink.new ≡ None }
     ensures reach { K.reach sink.new ≡ K.reach sink.old }
-    ensures sink_faults { K.faults sink.old ≤ K.faults sink.new }
 {
-    refuse(alloc, 1, Reason::NotBuilt, sink)
+    refuse(alloc, sink)
+}
+
+/// Refuses line 1 for a command that is not built yet.
+fn refuse<K: Sink>(alloc: Global, sink: &mut K) -> Status
+    requires { K.spare sink.old ≡ None }
+    ensures refused { HasRefused (K.written sink.old) (K.written sink.new)
+        (K.faults sink.old) (K.faults sink.new) result }
+    ensures spare { K.spare sink.new ≡ None }
+    ensures reach { K.reach sink.new ≡ K.reach sink.old }
+{
+    let Ok(text) = print_refused(alloc, 1, &Reason::NotBuilt) else {
+        return Status::NoMemory;
+    };
+    match write_all(sink, text.all()) {
+        Ok(()) => Status::Refused {
+            line: 1,
+            reason: Reason::NotBuilt,
+        },
+        Err(_) => Status::WriteFault,
+    }
 }

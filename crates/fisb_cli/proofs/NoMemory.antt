@@ -1,14 +1,36 @@
--- Want of memory is an answer to every input.
-use Rattle.std.proofs.Common.{ℕ, List, Option, Some, None, inl, refl}
-use Rattle.fisb_app.specs.Parties.{IsLinkDecided, IsGroundDecided}
-use Rattle.fisb_app.specs.declared.status.Status.TheVariants.{NoMemory}
+-- A run that did not begin for want of memory.
+use Rattle.std.proofs.Common.{◌≡◌, ℕ, ◌++◌, List, [], Option, Some, None, IfSome, inl, refl, sym, append-nil, arith}
+use Rattle.std.specs.Io.KnownBytes.{Consumes, Appends}
+use Rattle.fisb_wire.specs.Faults.{Rose}
+use Rattle.run_core.specs.Run.{Task, Ends, HasRun, IsDecided, IsJudged, stopped}
+use Rattle.run_core.specs.declared.status.Status.TheVariants.{NoMemory}
 
-pub link-without-memory : (left : Option (List ℕ)) (reads_before reads_after faults_before faults_after : ℕ)
-    → IsLinkDecided left reads_before reads_after faults_before faults_after NoMemory
-link-without-memory None _ _ _ _ = tt
-link-without-memory (Some input) _ _ _ _ = λ no_read_failed no_write_failed. inl refl
+consumes-nothing : (left : Option (List ℕ)) → Consumes left left []
+consumes-nothing None = tt
+consumes-nothing (Some bytes) = refl
 
-pub ground-without-memory : (left : Option (List ℕ)) (reads_before reads_after faults_before faults_after : ℕ)
-    → IsGroundDecided left reads_before reads_after faults_before faults_after NoMemory
-ground-without-memory None _ _ _ _ = tt
-ground-without-memory (Some input) _ _ _ _ = λ no_read_failed no_write_failed. inl refl
+appends-nothing : (written : Option (List ℕ)) → Appends written written []
+appends-nothing None = tt
+appends-nothing (Some bytes) = sym (append-nil bytes)
+
+-- it took nothing and wrote nothing
+pub unbegun-run : (task : Task) (e : Ends) → HasRun task e e NoMemory
+unbegun-run task e = (
+  refl,
+  (
+    [],
+    stopped,
+    record {
+      took = record { consumed = consumes-nothing e.left; ended = (refl, omega arith) };
+      written = (0, omega arith, appends-nothing e.written);
+    },
+  ),
+)
+
+judged-without-memory : (task : Task) (left : Option (List ℕ)) (reads writes : ℕ) → IfSome left (λ input.
+    (Rose reads reads → ⊥) → (Rose writes writes → ⊥) → IsJudged task input NoMemory)
+judged-without-memory task None reads writes = tt
+judged-without-memory task (Some input) reads writes = λ reading writing. inl refl
+
+pub decided-without-memory : (task : Task) (e : Ends) → IsDecided task e e NoMemory
+decided-without-memory task e = judged-without-memory task e.left e.reads e.writes

@@ -2,9 +2,9 @@
 use Rattle.std.specs.Prelude.{◌≡◌, ℕ, List, [], ◌∷◌, drop, codes}
 use Rattle.std.specs.declared.io.ErrorKind.{ErrorKind}
 use Rattle.std.specs.declared.io.ErrorKind.TheVariants.{OutOfMemory}
-use Rattle.fisb_app.specs.Status.{code_of}
-use Rattle.fisb_app.specs.declared.status.Status.{Status}
-use Rattle.fisb_app.specs.declared.status.Status.TheVariants.{NoMemory}
+use Rattle.run_core.specs.Status.{code_of}
+use Rattle.run_core.specs.declared.status.Status.{Status}
+use Rattle.run_core.specs.declared.status.Status.TheVariants.{NoMemory}
 
 -- where the words of the command line can't be had: the number of a want of memory, or else 1
 abbrev pub number_without_words : ErrorKind → ℕ

@@ -3,9 +3,9 @@ ghost use Rattle.std.specs.Prelude.{◌≡◌, ◌⊎◌, IfOk, IfErr, IsSomeAnd
 ghost use Rattle.std.specs.IoError.{error_kind};
 ghost use Rattle.std.specs.Vec.Iter.{into_iter_items};
 ghost use Rattle.fisb_app.specs.Command.{command_named, IsUnbuilt};
-ghost use Rattle.fisb_app.specs.Run.{HasRefused};
-ghost use Rattle.fisb_app.specs.Parties.{HasRunLink, HasRunGround, IsLinkDecided, IsGroundDecided};
-ghost use Rattle.fisb_app.specs.Script.{unbuilt_command};
+ghost use Rattle.fisb_app.specs.Unbuilt.{HasRefused};
+ghost use Rattle.fisb_app.specs.Work.{ground_work, link_work, promised_work};
+ghost use Rattle.run_core.specs.Run.{HasRun, IsDecided, ends, task_of};
 ghost use Rattle.fisb_cli.specs.Ending.{EndsAs, IsGdlAlone, IsGroundAlone, IsLinkAlone, number_without_words, words_of};
 
 use fisb_app::{Status, run};
@@ -15,9 +15,9 @@ use std::env::Args;
 use std::io;
 use std::io::ErrorKind;
 
-/// Runs the command that the words name, and answers the number with which the program ends: that of the run's
-/// status, 0 or 2 to 7. Where the words can't be had nothing is read, written or run, and it is 7 for want of memory,
-/// or else 1.
+/// Runs the command that the words name, and answers the number with which the program ends: that of
+/// the run's status, 0 or 2 to 7. If the words can't be had nothing is read, written or run, and the
+/// number is 7 for want of memory, or else 1.
 pub fn run_args<S: Source, K: Sink>(
     alloc: Global,
     args: io::Result<Args>,
@@ -25,22 +25,40 @@ pub fn run_args<S: Source, K: Sink>(
     sink: &mut K,
 ) -> u8
     requires { K.spare sink.old ≡ None }
-    ensures wordless { IfErr args (λ error. (result ≡ number_without_words (error_kind error)) × (source.new ≡ source.old) × (sink.new ≡ sink.old)) }
-    ensures usage { IfOk args (λ args. result ≡ 2 → command_named (map string_bytes (words_of (into_iter_items args))) ≡ None) }
-    ensures unnamed { IfOk args (λ args. command_named (map string_bytes (words_of (into_iter_items args))) ≡ None → (result ≡ 2) ⊎ (result ≡ 7)) }
+    ensures wordless { IfErr args (λ error.
+        (result ≡ number_without_words (error_kind error))
+        × (source.new ≡ source.old) × (sink.new ≡ sink.old)) }
+    ensures usage { IfOk args (λ args. result ≡ 2
+        → command_named (map string_bytes (words_of (into_iter_items args))) ≡ None) }
+    ensures unnamed { IfOk args (λ args.
+        command_named (map string_bytes (words_of (into_iter_items args))) ≡ None
+        → (result ≡ 2) ⊎ (result ≡ 7)) }
     ensures untouched { result ≡ 2 → (source.new ≡ source.old) × (sink.new ≡ sink.old) }
-    ensures unbuilt { IfOk args (λ args. IsSomeAnd (command_named (map string_bytes (words_of (into_iter_items args)))) IsUnbuilt →
-        (source.new ≡ source.old) × EndsAs result (HasRefused unbuilt_command (K.written sink.old) (K.written sink.new) (K.faults sink.old) (K.faults sink.new))) }
-    ensures gdl { IfOk args (λ args. IsGdlAlone (map string_bytes (words_of (into_iter_items args))) →
-        (source.new ≡ source.old) × (sink.new ≡ sink.old) × ((result ≡ 3) ⊎ (result ≡ 7))) }
-    ensures link { IfOk args (λ args. IsLinkAlone (map string_bytes (words_of (into_iter_items args))) →
-        EndsAs result (λ status. HasRunLink (S.left source.old) (S.left source.new) (S.faults source.old) (S.faults source.new)
-        (K.written sink.old) (K.written sink.new) (K.faults sink.old) (K.faults sink.new) status
-        × IsLinkDecided (S.left source.old) (S.faults source.old) (S.faults source.new) (K.faults sink.old) (K.faults sink.new) status)) }
-    ensures ground_alone { IfOk args (λ args. IsGroundAlone (map string_bytes (words_of (into_iter_items args))) →
-        EndsAs result (λ status. HasRunGround (S.left source.old) (S.left source.new) (S.faults source.old) (S.faults source.new)
-        (K.written sink.old) (K.written sink.new) (K.faults sink.old) (K.faults sink.new) status
-        × IsGroundDecided (S.left source.old) (S.faults source.old) (S.faults source.new) (K.faults sink.old) (K.faults sink.new) status)) }
+    ensures unbuilt { IfOk args (λ args. IsSomeAnd
+        (command_named (map string_bytes (words_of (into_iter_items args)))) IsUnbuilt
+        → (source.new ≡ source.old) × EndsAs result (HasRefused (K.written sink.old)
+        (K.written sink.new) (K.faults sink.old) (K.faults sink.new))) }
+    ensures gdl { IfOk args (λ args. IsGdlAlone (map string_bytes (words_of (into_iter_items args)))
+        → (source.new ≡ source.old) × (sink.new ≡ sink.old) × ((result ≡ 3) ⊎ (result ≡ 7))) }
+    ensures link { IfOk args (λ args. IsLinkAlone (map string_bytes (words_of (into_iter_items args)))
+        → EndsAs result (λ status. HasRun (task_of promised_work)
+        (ends (S.left source.old) (S.faults source.old) (K.written sink.old) (K.faults sink.old))
+        (ends (S.left source.new) (S.faults source.new) (K.written sink.new) (K.faults sink.new))
+        status
+        × IsDecided (task_of link_work)
+        (ends (S.left source.old) (S.faults source.old) (K.written sink.old) (K.faults sink.old))
+        (ends (S.left source.new) (S.faults source.new) (K.written sink.new) (K.faults sink.new))
+        status)) }
+    ensures ground_alone { IfOk args (λ args.
+        IsGroundAlone (map string_bytes (words_of (into_iter_items args)))
+        → EndsAs result (λ status. HasRun (task_of ground_work)
+        (ends (S.left source.old) (S.faults source.old) (K.written sink.old) (K.faults sink.old))
+        (ends (S.left source.new) (S.faults source.new) (K.written sink.new) (K.faults sink.new))
+        status
+        × IsDecided (task_of ground_work)
+        (ends (S.left source.old) (S.faults source.old) (K.written sink.old) (K.faults sink.old))
+        (ends (S.left source.new) (S.faults source.new) (K.written sink.new) (K.faults sink.new))
+        status)) }
 {
     match args {
         Ok(args) => match words(alloc, args) {
@@ -60,7 +78,7 @@ fn words(alloc: Global, args: Args) -> Result<Vec<String>, AllocError>
     args.collect(alloc)
 }
 
-/// The number with which the program ends where its words can't be had: that of a want of memory, or 1.
+/// The number with which the program ends if its words can't be had: that of a want of memory, or 1.
 fn number_without_words(error: &io::Error) -> u8
     ensures { result ≡ number_without_words (error_kind error.now) }
 {

@@ -1,7 +1,9 @@
 use Rattle.std.proofs.Common.{IsSomeAnd, map, string_bytes, refl, sym, ◌∙◌, subst}
 use Rattle.fisb_app.specs.Command.{command_named, IsUnbuilt}
-use Rattle.fisb_app.specs.declared.status.Status.TheVariants.{NoMemory}
-use Rattle.fisb_cli.proofs.NoMemory.{link-without-memory, ground-without-memory}
+use Rattle.run_core.specs.Run.{ends, task_of}
+use Rattle.fisb_app.specs.Work.{link_work, ground_work, promised_work}
+use Rattle.run_core.specs.declared.status.Status.TheVariants.{NoMemory}
+use Rattle.fisb_cli.proofs.NoMemory.{unbegun-run, decided-without-memory}
 use Rattle.fisb_cli.proofs.SomeCommand.{of-the-value}
 use Rattle.fisb_cli.proofs.ending.run_args.Goals as goal
 
@@ -14,12 +16,14 @@ returns-in-Ok-words-clause-unbuilt g c =
 
 pub returns-in-Err-words-clause-unbuilt : goal.returns-in-Err-words-clause-unbuilt
 returns-in-Err-words-clause-unbuilt g c =
-    rw c.in-Ok.is (λ is_unbuilt. (refl, (NoMemory, c.code-in-Err-words.ensures, tt)))
+    rw c.in-Ok.is (λ is_unbuilt. (refl, (NoMemory, c.code-in-Err-words.ensures, refl)))
 
 pub returns-in-Err-words-clause-link : goal.returns-in-Err-words-clause-link
 returns-in-Err-words-clause-link g c =
-    rw c.in-Ok.is (λ alone. (NoMemory, c.code-in-Err-words.ensures, (tt, link-without-memory _ _ _ _ _)))
+    let e = ends (g.S.Source.left c.args.source.now) (g.S.Source.faults c.args.source.now) (g.K.Sink.written c.args.sink.now) (g.K.Sink.faults c.args.sink.now) in
+    rw c.in-Ok.is (λ alone. (NoMemory, c.code-in-Err-words.ensures, (unbegun-run (task_of promised_work) e, decided-without-memory (task_of link_work) e)))
 
 pub returns-in-Err-words-clause-ground_alone : goal.returns-in-Err-words-clause-ground_alone
 returns-in-Err-words-clause-ground_alone g c =
-    rw c.in-Ok.is (λ alone. (NoMemory, c.code-in-Err-words.ensures, (tt, ground-without-memory _ _ _ _ _)))
+    let e = ends (g.S.Source.left c.args.source.now) (g.S.Source.faults c.args.source.now) (g.K.Sink.written c.args.sink.now) (g.K.Sink.faults c.args.sink.now) in
+    rw c.in-Ok.is (λ alone. (NoMemory, c.code-in-Err-words.ensures, (unbegun-run (task_of ground_work) e, decided-without-memory (task_of ground_work) e)))

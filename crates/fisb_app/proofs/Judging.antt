@@ -1,0 +1,78 @@
+-- The answer to a line, by its form and by what stands against it.
+use Rattle.std.proofs.Common.{◌≡◌, ℕ, ◌&&◌, Bool, true, false, if◌then◌else◌, List, ◌∷◌, Option, Some, None, Ok, refl, sym, ap, ◌∙◌}
+use Rattle.std.specs.Option.{option_or}
+use Rattle.std.specs.List.{cons_option}
+use Rattle.life_table.specs.LifeTable.{LifeTable}
+use Rattle.script_core.specs.Script.{Line}
+use Rattle.script_core.specs.Fields.{line_of}
+use Rattle.script_core.specs.declared.reason.Reason.{Reason}
+use Rattle.script_core.specs.declared.reason.Reason.TheVariants.{Station, NotBuilt, NotHere}
+use Rattle.fisb_app.specs.declared.party.Party.{Party}
+use Rattle.fisb_app.specs.declared.party.Party.TheVariants.{Ground}
+use Rattle.fisb_app.specs.Past.{lines_of, moment_of, latest, has_begun}
+use Rattle.fisb_app.specs.Reading.{CanCome, front_refusal, built_refusal, party_refusal, station_refusal, clock_refusal, own_refusal, is_unbuilt, is_station, is_heard_or_shown}
+use Rattle.fisb_app.specs.Output.{Shows, given_text}
+use Rattle.fisb_app.specs.Work.{answer, answer_under, formed_answer, line_answer, text_unless, opening_table}
+
+-- a line is one more of those acted on
+pub lines-more : (raw : List ℕ) (past : List (List ℕ)) (line : Line) → line_of raw ≡ Some line → lines_of (raw ∷ past) ≡ line ∷ lines_of past
+lines-more raw past line is = ap (λ one. cons_option one (lines_of past)) is
+
+pub answer-formed : (party : Party) (shows : Shows) (bytes : List ℕ) (past : List (List ℕ)) (raw : List ℕ) (table : LifeTable) (form : Option Line)
+    → opening_table bytes ≡ Ok table → line_of raw ≡ form
+    → answer party shows bytes past raw ≡ formed_answer party shows table (lines_of past) form
+unfolding answer
+answer-formed party shows bytes past raw table form opened is =
+    ap (λ t. answer_under party shows t (lines_of past) (line_of raw)) opened
+    ∙ ap (formed_answer party shows table (lines_of past)) is
+
+-- the front reasons come before those of the content
+pub answer-front : (party : Party) (shows : Shows) (table : LifeTable) (acted : List Line) (line : Line) (front own : Option Reason)
+    → front_refusal party (has_begun acted) (latest acted) line ≡ front → own_refusal table acted line ≡ own
+    → line_answer party shows table acted line ≡ text_unless (given_text party shows table acted line) (option_or front own)
+answer-front party shows table acted line front own is so =
+    ap (λ f. text_unless (given_text party shows table acted line) (option_or f (own_refusal table acted line))) is
+    ∙ ap (λ o. text_unless (given_text party shows table acted line) (option_or front o)) so
+
+-- the same front reasons by the clock and the beginning that are kept
+pub front-kept : (party : Party) (acted : List Line) (line : Line) (begun : Bool) (clock : Option ℕ) (found : Option Reason)
+    → begun ≡ has_begun acted → clock ≡ latest acted → found ≡ front_refusal party begun clock line
+    → front_refusal party (has_begun acted) (latest acted) line ≡ found
+front-kept party acted line begun clock found b c is =
+    ap (λ x. front_refusal party x (latest acted) line) (sym b) ∙ ap (λ x. front_refusal party begun x line) (sym c) ∙ sym is
+
+-- the first of two reasons is none: both are
+pub or-none : {A : Type 0} (a b : Option A) → option_or a b ≡ None → (a ≡ None) × (b ≡ None)
+or-none None b e = (refl, e)
+or-none (Some x) b e = cc
+
+none-else : {A : Type 0} (test : Bool) (x : A) → (if test then Some x else None) ≡ None → test ≡ false
+none-else true x e = cc
+none-else false x e = refl
+
+both-false : (first begun : Bool) → (first && begun) ≡ false → first ≡ true → begun ≡ false
+both-false true begun e is = e
+both-false false begun e is = cc
+
+-- a line against which nothing of the front stands
+pub record IsClear (party : Party) (acted : List Line) (line : Line) : Type 0 where
+  pub can : CanCome acted line
+  pub here : party_refusal party line ≡ None
+  pub clock : clock_refusal (moment_of line) (latest acted) ≡ None
+
+pub clear : (party : Party) (acted : List Line) (line : Line) → front_refusal party (has_begun acted) (latest acted) line ≡ None → IsClear party acted line
+clear party acted line e =
+    let one = or-none (built_refusal line) _ e in
+    let two = or-none (party_refusal party line) _ one.1 in
+    let three = or-none (station_refusal (has_begun acted) line) _ two.1 in
+    record {
+      can = record {
+        built = none-else (is_unbuilt line) NotBuilt one.0;
+        first = both-false (is_station line) (has_begun acted) (none-else _ Station three.0);
+      };
+      here = two.0;
+      clock = three.1;
+    }
+
+pub not-heard : (line : Line) → party_refusal Ground line ≡ None → is_heard_or_shown line ≡ false
+not-heard line e = none-else (is_heard_or_shown line) NotHere e

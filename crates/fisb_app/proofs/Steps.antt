@@ -1,0 +1,125 @@
+-- One line more: what the parts of an actor leave.
+use Rattle.std.proofs.Common.{◌≡◌, ℕ, ◌||◌, not, Bool, true, false, if◌then◌else◌, List, ◌∷◌, length, map, Option, Some, None, option_map, Result, Ok, Err, refl, sym, ap, subst, ◌∙◌}
+use Rattle.std.specs.Option.{option_or, option_and_then}
+use Rattle.uplink_weave.specs.Functions.{payload_in, lost_block_in}
+use Rattle.life_table.specs.LifeTable.{LifeTable}
+use Rattle.dlac_text.specs.declared.text_fault.TextFault.{TextFault}
+use Rattle.ground_core.specs.Refusal.{GiveRefusal}
+use Rattle.ground_core.specs.Told.{IsToldAt, IsToldOfText}
+use Rattle.ground_core.specs.declared.fault.GiveFault.TheVariants.{BadText}
+use Rattle.receiver_core.specs.Reception.{Reception}
+use Rattle.receiver_core.specs.Hearing.{HearRefusal, clock, lost, no_application, last_above, clock_of, refusal_of_air, payload_refusal, is_valid}
+use Rattle.script_core.specs.Script.{Line}
+use Rattle.script_core.specs.Fields.{line_of}
+use Rattle.script_core.specs.declared.reason.Reason.{Reason}
+use Rattle.script_core.specs.declared.reason.Reason.TheVariants.{Clock}
+use Rattle.run_core.specs.Actor.{HasActed}
+use Rattle.run_core.specs.declared.stop.Stop.{Stop}
+use Rattle.run_core.specs.declared.stop.Stop.TheVariants.{Refused, NoMemory}
+use Rattle.fisb_app.specs.declared.sending.Sending.{Sending}
+use Rattle.fisb_app.specs.declared.link.Link.{Link}
+use Rattle.fisb_app.specs.declared.ground_alone.GroundAlone.{GroundAlone}
+use Rattle.fisb_app.specs.Past.{lines_of, reception_by, receptions, sent_frames, moment_of, latest, has_begun, is_empty, events, station_of}
+use Rattle.fisb_app.specs.Reading.{receiver_refusal, reason_of_update}
+use Rattle.fisb_app.specs.Output.{heard_by}
+use Rattle.fisb_app.specs.Work.{text_unless}
+use Rattle.fisb_app.specs.Stands.{Sends, Hears, Holds, KeepsClock, LinkHolds, IsLink, AloneHolds, IsAlone, HasUnheard, TellsRefusal, sent_view, aired_view}
+use Rattle.fisb_app.proofs.Judging.{lines-more}
+
+-- a text's fault at a moment that is not too early
+pub told-text : (last : Option ℕ) (refusal : Option GiveRefusal) (text : TextFault) (stop : Stop)
+    → ((r : Option GiveRefusal) → IsToldOfText r text → TellsRefusal (option_map reason_of_update r) stop)
+    → IsToldAt last refusal (BadText text) → TellsRefusal (option_or (option_map Clock last) (option_map reason_of_update refusal)) stop
+told-text None refusal text stop tells is = tells refusal is
+told-text (Some last) refusal text stop tells is = cc
+
+-- a stop that tells the reason against a line is the answer
+pub tells-acted : (S : Type 0) (told : Result (List ℕ) Reason) (own : Option Reason) (given : List ℕ) (stop : Stop) → told ≡ text_unless given own
+    → TellsRefusal own stop → HasActed told S (Err stop)
+tells-acted S told own given (Refused why) e is = e ∙ ap (text_unless given) is
+tells-acted S told own given NoMemory e is = tt
+
+pub holds-moved : {G : Type 0} (sends : Sends G) (bytes : List ℕ) (acted : List Line) (before after : Sending G)
+    → after.table ≡ before.table → after.ground ≡ before.ground → Holds sends bytes acted before → Holds sends bytes acted after
+holds-moved sends bytes acted before after table ground h = record {
+  opened = h.opened ∙ ap Ok (sym table);
+  ground = subst (λ t. sends t (station_of acted) (events acted) after.ground) (sym table)
+      (subst (λ g. sends before.table (station_of acted) (events acted) g) (sym ground) h.ground);
+}
+
+pub link-moved : {G E : Type 0} (sends : Sends G) (hears : Hears E) (bytes : List ℕ) (acted : List Line) (before after : Link G E)
+    → after.sending.table ≡ before.sending.table → after.sending.ground ≡ before.sending.ground → after.sent ≡ before.sent → after.ear ≡ before.ear
+    → LinkHolds sends hears bytes acted before → LinkHolds sends hears bytes acted after
+link-moved sends hears bytes acted before after table ground sent ear h = record {
+  holds = holds-moved sends bytes acted before.sending after.sending table ground h.holds;
+  sent = ap (λ s. map sent_view s.items) sent ∙ h.sent ∙ ap (λ t. map aired_view (sent_frames t acted)) (sym table);
+  ear = subst (λ t. hears t (receptions t acted) after.ear) (sym table)
+      (subst (λ e. hears before.sending.table (receptions before.sending.table acted) e) (sym ear) h.ear);
+}
+
+pub link-next : {G E : Type 0} (sends : Sends G) (hears : Hears E) (bytes : List ℕ) (past : List (List ℕ)) (raw : List ℕ) (line : Line) (old mid new : Link G E)
+    → line_of raw ≡ Some line → IsLink sends hears bytes past old → KeepsClock old.sending mid.sending → LinkHolds sends hears bytes (line ∷ lines_of past) mid
+    → new.sending.table ≡ mid.sending.table → new.sending.ground ≡ mid.sending.ground → new.sent ≡ mid.sent → new.ear ≡ mid.ear
+    → new.sending.clock ≡ option_or (moment_of line) mid.sending.clock → new.sending.has_begun ≡ (mid.sending.has_begun || not (is_empty line))
+    → IsLink sends hears bytes (raw ∷ past) new
+link-next sends hears bytes past raw line old mid new is s keeps h table ground sent ear clocked begun =
+    let more = lines-more raw past line is in record {
+      parts = subst (λ acted. LinkHolds sends hears bytes acted new) (sym more) (link-moved sends hears bytes (line ∷ lines_of past) mid new table ground sent ear h);
+      clock = clocked ∙ ap (option_or (moment_of line)) (keeps.clock ∙ s.clock) ∙ ap latest (sym more);
+      begun = begun ∙ ap (λ b. b || not (is_empty line)) (keeps.begun ∙ s.begun) ∙ ap has_begun (sym more);
+    }
+
+pub alone-next : {G : Type 0} (sends : Sends G) (bytes : List ℕ) (past : List (List ℕ)) (raw : List ℕ) (line : Line) (old mid new : GroundAlone G)
+    → line_of raw ≡ Some line → IsAlone sends bytes past old → KeepsClock old.sending mid.sending → AloneHolds sends bytes (line ∷ lines_of past) mid
+    → new.sending.table ≡ mid.sending.table → new.sending.ground ≡ mid.sending.ground → new.sent ≡ mid.sent
+    → new.sending.clock ≡ option_or (moment_of line) mid.sending.clock → new.sending.has_begun ≡ (mid.sending.has_begun || not (is_empty line))
+    → IsAlone sends bytes (raw ∷ past) new
+alone-next sends bytes past raw line old mid new is s keeps h table ground sent clocked begun =
+    let more = lines-more raw past line is in record {
+      parts = subst (λ acted. AloneHolds sends bytes acted new) (sym more) (record {
+        holds = holds-moved sends bytes (line ∷ lines_of past) mid.sending new.sending table ground h.holds;
+        sent = sent ∙ h.sent ∙ ap (λ t. length (sent_frames t (line ∷ lines_of past))) (sym table);
+      });
+      clock = clocked ∙ ap (option_or (moment_of line)) (keeps.clock ∙ s.clock) ∙ ap latest (sym more);
+      begun = begun ∙ ap (λ b. b || not (is_empty line)) (keeps.begun ∙ s.begun) ∙ ap has_begun (sym more);
+    }
+
+-- a frame that is not heard for its bytes is in time
+no-clock-lost : (last : Option ℕ) (rest : Option HearRefusal) (block : ℕ) → option_or (option_map clock last) rest ≡ Some (lost block) → option_map Clock last ≡ None
+no-clock-lost None rest block e = refl
+no-clock-lost (Some kept) rest block e = cc
+
+no-clock-invalid : (last : Option ℕ) (rest : Option HearRefusal) → option_or (option_map clock last) rest ≡ Some no_application → option_map Clock last ≡ None
+no-clock-invalid None rest e = refl
+no-clock-invalid (Some kept) rest e = cc
+
+valid-clock : (valid : Bool) (kept : ℕ) → (if valid then None else Some no_application) ≡ Some (clock kept) → ⊥
+valid-clock true kept e = cc
+valid-clock false kept e = cc
+
+bytes-clock : (block : Option ℕ) (payload : Option (List ℕ)) (kept : ℕ) → option_or (option_map lost block) (option_and_then payload_refusal payload) ≡ Some (clock kept) → ⊥
+bytes-clock (Some b) payload kept e = cc
+bytes-clock None None kept e = cc
+bytes-clock None (Some p) kept e = valid-clock (is_valid p) kept e
+
+only-clock : (last block : Option ℕ) (payload : Option (List ℕ)) (kept : ℕ)
+    → option_or (option_map clock last) (option_or (option_map lost block) (option_and_then payload_refusal payload)) ≡ Some (clock kept) → option_map Clock last ≡ Some (Clock kept)
+only-clock (Some k) block payload kept e = let same : k ≡ kept = cc in ap (λ x. Some (Clock x)) same
+only-clock None block payload kept e = absurd (bytes-clock block payload kept e)
+
+pub unheard-clock : (past : List Reception) (moment kept : ℕ) (air : List ℕ) → refusal_of_air past moment air ≡ Some (clock kept) → receiver_refusal past moment ≡ Some (Clock kept)
+unheard-clock past moment kept air e = only-clock (last_above (clock_of past) moment) (lost_block_in air) (payload_in air) kept e
+
+pub unheard-lost : (table : LifeTable) (past : List Reception) (moment block : ℕ) (air text : List ℕ) → refusal_of_air past moment air ≡ Some (lost block)
+    → text ≡ heard_by table past moment air (Some (lost block)) → HasUnheard table past moment air (Ok text)
+unheard-lost table past moment block air text e is = (
+  no-clock-lost (last_above (clock_of past) moment) _ block e,
+  (is ∙ ap (heard_by table past moment air) (sym e), ap (λ r. reception_by r moment (payload_in air)) e),
+)
+
+pub unheard-invalid : (table : LifeTable) (past : List Reception) (moment : ℕ) (air text : List ℕ) → refusal_of_air past moment air ≡ Some no_application
+    → text ≡ heard_by table past moment air (Some no_application) → HasUnheard table past moment air (Ok text)
+unheard-invalid table past moment air text e is = (
+  no-clock-invalid (last_above (clock_of past) moment) _ e,
+  (is ∙ ap (heard_by table past moment air) (sym e), ap (λ r. reception_by r moment (payload_in air)) e),
+)

@@ -1,0 +1,103 @@
+-- A frame more that was sent.
+use Rattle.std.proofs.Common.{◌≡◌, ◌↔◌, IsTrue, ℕ, ◌+◌, ◌||◌, Bool, true, false, List, [], ◌∷◌, ◌++◌, length, map, refl, sym, ap, ◌∙◌, decimal, codes, arith}
+use Rattle.std.proofs.lemmas.List.{length-map}
+use Rattle.uplink_frame.specs.declared.station.StationId.{StationId}
+use Rattle.uplink_frame.specs.Station.{same_station}
+use Rattle.life_table.specs.LifeTable.{LifeTable}
+use Rattle.ground_core.specs.History.{Event}
+use Rattle.ground_core.specs.Airing.{Frame, frame_after}
+use Rattle.ground_core.specs.Broadcast.{history_of, frames}
+use Rattle.ground_core.specs.OnAir.{IsOnAir}
+use Rattle.ground_core.specs.declared.air_frame.AirFrame.{AirFrame}
+use Rattle.script_core.specs.Script.{Line, empty, station, text, turn, hear, show, unbuilt}
+use Rattle.script_core.specs.Refusal.{spaced}
+use Rattle.hex.specs.Hex.{encode_lower}
+use Rattle.fisb_app.specs.Past.{events, station_of, sent_frames, air_of, has_begun}
+use Rattle.fisb_app.specs.Output.{sent_words}
+use Rattle.fisb_app.specs.Stands.{Aired, aired_view}
+
+or-false : (a b : Bool) → (a || b) ≡ false → a ≡ false
+or-false true b e = cc
+or-false false b e = refl
+
+or-true : (a : Bool) → (a || true) ≡ false → ⊥
+or-true true e = cc
+or-true false e = cc
+
+abbrev pub Told : Type 0
+Told = (a b : StationId) → IsTrue (same_station a b) ↔ (a ≡ b)
+
+-- all events of a station are its history
+pub history-back : Told → (place : StationId) (past : List Event) → history_of place (map (λ event. record { station = place; event = event }) past) ≡ past
+history-back told place [] = refl
+history-back told place (event ∷ past) =
+    let same : same_station place place ≡ true = (told place place).1 refl in
+    rw same (ap (λ rest. event ∷ rest) (history-back told place past))
+
+pub frames-more : Told → (table : LifeTable) (acted : List Line) (moment slot : ℕ)
+    → sent_frames table (turn moment slot ∷ acted) ≡ sent_frames table acted ++ frame_after table (station_of acted) (events acted) moment slot ∷ []
+frames-more told table acted moment slot =
+    ap (λ past. sent_frames table acted ++ frame_after table (station_of acted) past moment slot ∷ []) (history-back told (station_of acted) (events acted))
+
+pub map-last : {A B : Type 0} (f : A → B) (xs : List A) (x : A) → map f (xs ++ x ∷ []) ≡ map f xs ++ f x ∷ []
+map-last f [] x = refl
+map-last f (a ∷ more) x = ap (λ rest. f a ∷ rest) (map-last f more x)
+
+pub length-last : {A : Type 0} (xs : List A) (x : A) → length (xs ++ x ∷ []) ≡ length xs + 1
+length-last [] x = refl
+length-last (a ∷ more) x = let rest = length-last more x in omega (arith, rest)
+
+pub aired-alike : (sent : Frame) (frame : AirFrame) → IsOnAir sent frame → record { moment = frame.moment; air = frame.air } ≡ aired_view sent
+aired-alike sent frame is =
+    ap (λ m. record { moment = m; air = frame.air }) is.moment ∙ ap (λ a. record { moment = sent.moment; air = a }) is.air
+
+-- one frame more is kept
+pub kept-more : Told → (table : LifeTable) (acted : List Line) (moment slot : ℕ) (kept : List Aired) (frame : AirFrame)
+    → kept ≡ map aired_view (sent_frames table acted) → IsOnAir (frame_after table (station_of acted) (events acted) moment slot) frame
+    → kept ++ record { moment = frame.moment; air = frame.air } ∷ [] ≡ map aired_view (sent_frames table (turn moment slot ∷ acted))
+kept-more told table acted moment slot kept frame is on =
+    let sent = frame_after table (station_of acted) (events acted) moment slot in
+    ap (λ list. list ++ record { moment = frame.moment; air = frame.air } ∷ []) is
+    ∙ ap (λ one. map aired_view (sent_frames table acted) ++ one ∷ []) (aired-alike sent frame on)
+    ∙ sym (map-last aired_view (sent_frames table acted) sent)
+    ∙ ap (map aired_view) (sym (frames-more told table acted moment slot))
+
+-- the numbers that are written are those of the frame
+abbrev pub air_words : ℕ → AirFrame → List (List ℕ)
+air_words index frame = codes "sent" ∷ decimal index ∷ decimal frame.moment ∷ decimal frame.slot ∷ decimal frame.bodies ∷ decimal frame.used ∷ []
+
+pub words-alike : (index : ℕ) (sent : Frame) (frame : AirFrame) → IsOnAir sent frame → air_words index frame ≡ sent_words index sent
+words-alike index sent air is =
+    ap (λ m. codes "sent" ∷ decimal index ∷ decimal m ∷ decimal air.slot ∷ decimal air.bodies ∷ decimal air.used ∷ []) is.moment
+    ∙ ap (λ s. codes "sent" ∷ decimal index ∷ decimal sent.moment ∷ decimal s ∷ decimal air.bodies ∷ decimal air.used ∷ []) is.slot
+    ∙ ap (λ b. codes "sent" ∷ decimal index ∷ decimal sent.moment ∷ decimal sent.slot ∷ decimal b ∷ decimal air.used ∷ []) is.bodies
+    ∙ ap (λ u. codes "sent" ∷ decimal index ∷ decimal sent.moment ∷ decimal sent.slot ∷ decimal (length sent.segments) ∷ decimal u ∷ []) is.used
+
+pub air_text-alike : (index : ℕ) (sent : Frame) (frame : AirFrame) → IsOnAir sent frame
+    → spaced (air_words index frame ++ encode_lower frame.air ∷ []) ≡ spaced (sent_words index sent ++ encode_lower (air_of sent) ∷ [])
+air_text-alike index sent frame is =
+    ap (λ words. spaced (words ++ encode_lower frame.air ∷ [])) (words-alike index sent frame is)
+    ∙ ap (λ bytes. spaced (sent_words index sent ++ encode_lower bytes ∷ [])) is.air
+
+-- as many were kept as were sent
+pub count-alike : {A B C : Type 0} (f : A → C) (g : B → C) (xs : List A) (ys : List B) → map f xs ≡ map g ys → length xs ≡ length ys
+count-alike f g xs ys e = sym (length-map xs f) ∙ ap length e ∙ length-map ys g
+
+-- before a line that is not empty there is no event
+pub unbegun-events : (acted : List Line) → has_begun acted ≡ false → events acted ≡ []
+unbegun-events [] e = refl
+unbegun-events (empty ∷ past) e = unbegun-events past (or-false (has_begun past) _ e)
+unbegun-events (station latitude longitude site ∷ past) e = absurd (or-true (has_begun past) e)
+unbegun-events (text moment version chars ∷ past) e = absurd (or-true (has_begun past) e)
+unbegun-events (turn moment slot ∷ past) e = absurd (or-true (has_begun past) e)
+unbegun-events (hear moment frame ∷ past) e = absurd (or-true (has_begun past) e)
+unbegun-events (show moment ∷ past) e = absurd (or-true (has_begun past) e)
+unbegun-events (unbuilt ∷ past) e = absurd (or-true (has_begun past) e)
+
+-- before it no frame was sent, whatever station is named
+pub unbegun-frames : (table : LifeTable) (acted : List Line) (line : Line) → has_begun acted ≡ false → events (line ∷ acted) ≡ events acted
+    → sent_frames table (line ∷ acted) ≡ sent_frames table acted
+unbegun-frames table acted line e same =
+    let none = unbegun-events acted e in
+    ap (λ list. frames table (map (λ event. record { station = station_of (line ∷ acted); event = event }) list)) (same ∙ none)
+    ∙ sym (ap (λ list. frames table (map (λ event. record { station = station_of acted; event = event }) list)) none)

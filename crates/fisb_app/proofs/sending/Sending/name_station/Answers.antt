@@ -1,0 +1,14 @@
+use Rattle.std.proofs.Common.{[], ◌∷◌, sym, subst}
+use Rattle.script_core.specs.Script.{station}
+use Rattle.fisb_app.specs.Past.{station_of}
+use Rattle.fisb_app.proofs.Turning.{unbegun-events}
+use Rattle.fisb_app.proofs.sending.Sending.name_station.Goals as goal
+
+pub returns-clause-named : goal.returns-clause-named
+returns-clause-named g c = λ bytes acted none h.
+    let now = station_of (station c.args.lat c.args.lon c.args.site ∷ acted) in
+    let sends = g.G.Sender.stands in record {
+      opened = h.opened;
+      ground = subst (λ e. sends c.args.self.now.table now e c.new.result) (sym (unbegun-events acted none))
+          (subst (λ t. sends t now [] c.new.result) c.in_ok-table.ensures c.new.ensures);
+    }

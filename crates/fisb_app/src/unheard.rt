@@ -1,0 +1,46 @@
+//! What is told of a frame that is not heard, and of a picture that is not shown.
+ghost use Rattle.std.specs.Prelude.{◌≡◌, ℕ, List, Option, option_map};
+ghost use Rattle.life_table.specs.LifeTable.{LifeTable as Table};
+ghost use Rattle.receiver_core.specs.Hearing.{IsHearFault, IsShowFault, refusal_of_air};
+ghost use Rattle.receiver_core.specs.Reception.{Reception};
+ghost use Rattle.script_core.specs.declared.reason.Reason.TheVariants.{Clock};
+ghost use Rattle.fisb_app.specs.Stands.{HasUnheard, TellsRefusal};
+
+use crate::printing::{print_lost, print_no_application};
+use fisb_time::Moment;
+use fisb_wire::Bytes;
+use receiver_core::{HearFault, ShowFault};
+use run_core::Stop;
+use script_core::Reason;
+use std::alloc::{AllocError, Global};
+
+/// The text of a frame that is not heard, or why the line is not acted on.
+pub(crate) fn print_unheard(alloc: Global, moment: Moment, fault: HearFault) -> Result<Bytes, Stop>
+    ensures { (table : Table) (past : List Reception) (air : List ℕ)
+        → IsHearFault (refusal_of_air past moment air) fault
+        → HasUnheard table past moment air result }
+{
+    match fault {
+        HearFault::Clock { kept } => Err(Stop::Refused(Reason::Clock { kept })),
+        HearFault::Lost { block } => match print_lost(alloc, moment, block) {
+            Ok(text) => Ok(text),
+            Err(AllocError) => Err(Stop::NoMemory),
+        },
+        HearFault::NoApplication => match print_no_application(alloc, moment) {
+            Ok(text) => Ok(text),
+            Err(AllocError) => Err(Stop::NoMemory),
+        },
+        HearFault::NoMemory => Err(Stop::NoMemory),
+    }
+}
+
+/// Why no picture is shown.
+pub(crate) fn stop_of_show(fault: ShowFault) -> Stop
+    ensures { (last : Option ℕ) → IsShowFault last fault
+        → TellsRefusal (option_map Clock last) result }
+{
+    match fault {
+        ShowFault::Clock { kept } => Stop::Refused(Reason::Clock { kept }),
+        ShowFault::NoMemory => Stop::NoMemory,
+    }
+}

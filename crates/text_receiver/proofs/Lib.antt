@@ -1,5 +1,0 @@
-mod Keeping
-mod Unsegmented
-mod Places
-mod Lives
-mod Steps
