@@ -7,7 +7,8 @@ use Rattle.uplink_frame.specs.UplinkFrame.{header_in}
 use Rattle.life_table.specs.LifeTable.{LifeTable}
 use Rattle.receiver_core.specs.Reception.{Reception}
 use Rattle.receiver_core.specs.Answers.{HasHeard, HasTakenPayload}
-use Rattle.receiver_core.specs.Hearing.{HearRefusal, clock, last_above, clock_of, refusal_of_air, unread_view}
+use Rattle.receiver_core.specs.Hearing.{HearRefusal, clock, clock_of, refusal_of_air, unread_view}
+use Rattle.segment_core.specs.Store.{last_above}
 use Rattle.receiver_core.specs.declared.heard.Heard.{Heard}
 use Rattle.script_core.specs.declared.reason.Reason.TheVariants.{Clock}
 use Rattle.run_core.specs.declared.stop.Stop.{Stop}

@@ -17,7 +17,8 @@ use Rattle.ground_core.specs.Airing.{Frame, frame_payload}
 use Rattle.ground_core.specs.Broadcast.{StationEvent, IsBroadcast, IsNext, IsNotBefore}
 use Rattle.ground_core.specs.Sent.{FramesReadBack}
 use Rattle.receiver_core.specs.Reception.{Reception, received_picture}
-use Rattle.receiver_core.specs.Hearing.{last_above, clock_of, is_valid, payload_refusal, refusal_of_air, clock, lost, no_application}
+use Rattle.receiver_core.specs.Hearing.{clock_of, is_valid, payload_refusal, refusal_of_air, clock, lost, no_application}
+use Rattle.segment_core.specs.Store.{last_above}
 use Rattle.fisb_link.specs.LinkPicture.{link_picture}
 use Rattle.fisb_link.specs.Hearing.{IsInTime, IsAfterHearings, AreHeard, receptions_of, payload_sent}
 use Rattle.fisb_link.specs.PicturesAgree.{PicturesAgree, HearingsStay}

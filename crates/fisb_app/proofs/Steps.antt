@@ -8,7 +8,8 @@ use Rattle.ground_core.specs.Refusal.{GiveRefusal}
 use Rattle.ground_core.specs.Told.{IsToldAt, IsToldOfText}
 use Rattle.ground_core.specs.declared.fault.GiveFault.TheVariants.{BadText}
 use Rattle.receiver_core.specs.Reception.{Reception}
-use Rattle.receiver_core.specs.Hearing.{HearRefusal, clock, lost, no_application, last_above, clock_of, refusal_of_air, payload_refusal, is_valid}
+use Rattle.receiver_core.specs.Hearing.{HearRefusal, clock, lost, no_application, clock_of, refusal_of_air, payload_refusal, is_valid}
+use Rattle.segment_core.specs.Store.{last_above}
 use Rattle.script_core.specs.Script.{Line}
 use Rattle.script_core.specs.Fields.{line_of}
 use Rattle.script_core.specs.declared.reason.Reason.{Reason}

@@ -8,10 +8,9 @@ use Rattle.ground_core.specs.Update as updates
 use Rattle.ground_core.specs.History.{items}
 use Rattle.ground_core.specs.Airing.{Frame}
 use Rattle.ground_core.specs.Refusal.{GiveRefusal, bad_text, no_key, coarse, ahead, expired, not_newer, no_file, give_refusal}
-use Rattle.ground_core.specs.Told.{early}
+use Rattle.segment_core.specs.Store.{last_above}
 use Rattle.ground_core.specs.OnAir.{clock_of}
 use Rattle.receiver_core.specs.Reception.{Reception}
-use Rattle.receiver_core.specs.Hearing.{last_above}
 use Rattle.receiver_core.specs.Hearing as heard
 use Rattle.script_core.specs.Script.{Line, empty, station, text, turn, hear, show, unbuilt}
 use Rattle.script_core.specs.declared.reason.Reason.{Reason}
@@ -99,13 +98,13 @@ reason_of_update no_file = NoFile
 -- a ground takes nothing before its last event, and a receiver nothing before its last reception; the clock of the script
 -- keeps both
 abbrev pub text_refusal : LifeTable → List Line → ℕ → ℕ → List ℕ → Option Reason
-text_refusal table acted moment version chars = option_or (option_map Clock (early (clock_of (events acted)) moment))
+text_refusal table acted moment version chars = option_or (option_map Clock (last_above (clock_of (events acted)) moment))
     (option_map reason_of_update
     (give_refusal table (items table (station_of acted) (events acted)) moment (updates.text version chars)))
 
 abbrev pub turn_refusal : ℕ → List Line → ℕ → Option Reason
 turn_refusal count acted moment = if nat_lt count frame_limit
-    then option_map Clock (early (clock_of (events acted)) moment) else Some Frames
+    then option_map Clock (last_above (clock_of (events acted)) moment) else Some Frames
 
 -- a frame is heard once it was sent, and not too late
 abbrev pub frame_refusal : ℕ → ℕ → Option Frame → Option Reason

@@ -7,7 +7,8 @@ ghost use Rattle.ground_core.specs.History.{Event, accepted, fill, items};
 ghost use Rattle.ground_core.specs.Airing.{frame_after};
 ghost use Rattle.ground_core.specs.Update.{text as text_update};
 ghost use Rattle.ground_core.specs.Refusal.{give_refusal};
-ghost use Rattle.ground_core.specs.Told.{IsToldAt, early, kept_told};
+ghost use Rattle.ground_core.specs.Told.{IsToldAt, kept_told};
+ghost use Rattle.segment_core.specs.Store.{last_above};
 ghost use Rattle.ground_core.specs.OnAir.{IsOnAir, clock_of};
 ghost use Rattle.ground_core.specs.StandsFor.{StandsFor};
 
@@ -36,12 +37,12 @@ pub(crate) trait Sender: Drop {
             (accepted moment (text_update version text.now) ∷ history) self.new) }
         ensures nothing_against { (table : Table) (station : Place) (history : List Event)
             → stands table station history self.old
-            → OnOk result ((early (clock_of history) moment ≡ None)
+            → OnOk result ((last_above (clock_of history) moment ≡ None)
             × (give_refusal table (items table station history) moment
             (text_update version text.now) ≡ None)) }
         ensures refused { (table : Table) (station : Place) (history : List Event)
             → stands table station history self.old
-            → IfErr result (IsToldAt (early (clock_of history) moment)
+            → IfErr result (IsToldAt (last_above (clock_of history) moment)
             (give_refusal table (items table station history) moment
             (text_update version text.now))) };
 
@@ -56,10 +57,10 @@ pub(crate) trait Sender: Drop {
             → IfOk result (IsOnAir (frame_after table station history moment slot)) }
         ensures in_time { (table : Table) (station : Place) (history : List Event)
             → stands table station history self.old
-            → OnOk result (early (clock_of history) moment ≡ None) }
+            → OnOk result (last_above (clock_of history) moment ≡ None) }
         ensures refused { (table : Table) (station : Place) (history : List Event)
             → stands table station history self.old
-            → IfErr result (λ fault. early (clock_of history) moment ≡ Some (kept_told fault)) };
+            → IfErr result (λ fault. last_above (clock_of history) moment ≡ Some (kept_told fault)) };
 }
 
 impl Sender for Ground {

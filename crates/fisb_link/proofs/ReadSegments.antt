@@ -28,7 +28,8 @@ use Rattle.ground_core.specs.Item.{Item, Segment, segment_of, segments_of, file_
 use Rattle.ground_core.specs.Airing.{Frame}
 use Rattle.ground_core.specs.Sound.{IsReadProduct}
 use Rattle.ground_core.specs.Sent.{IsAired}
-use Rattle.receiver_core.specs.Reception.{is_known_product, is_large, arrival_named, arrival_with_row, arrival_of_apdu, arrival_in}
+use Rattle.receiver_core.specs.Reception.{is_large, arrival_with_version, arrival_with_row, arrival_of_apdu, arrival_in}
+use Rattle.segment_core.specs.Store.{is_read_product}
 use Rattle.receiver_core.specs.Reception as reception
 use Rattle.receiver_core.specs.declared.unread.UnreadReason.{UnreadReason}
 use Rattle.receiver_core.specs.declared.unread.UnreadReason.TheVariants.{Stale, Product, Files}
@@ -85,7 +86,7 @@ parts-bytes form payload are n =
     ]
 
 -- the products that are read
-known : (product : ℕ) → IsReadProduct product → is_known_product product ≡ true
+known : (product : ℕ) → IsReadProduct product → is_read_product product ≡ true
 known product (inl e) = or_left _ _ (or_left _ _ (eq-eqb product 63 e))
 known product (inr (inl e)) = or_left _ _ (or_right _ _ (eq-eqb product 64 e))
 known product (inr (inr e)) = or_right _ _ (eq-eqb product 413 e)
@@ -141,7 +142,7 @@ body-back layers table all s are item_in of_item =
 -- and is not one of too many
 not-large : (cut : Bool) (fields : Seg) → fields.count ≤ 64
     → is_large (cond cut (Some fields) None) ≡ false
-not-large true fields few = le-ltb reception.segment_limit fields.count few
+not-large true fields few = le-ltb reception.most_segments fields.count few
 not-large false fields few = refl
 
 -- the time round trip holds for what was live when it was sent, and is heard in time
@@ -202,14 +203,14 @@ arrival-read table all sent frame s received setting aired range after soon =
     ≡ fresh_or_stale (nat_lt received (w.version + life)) (arrival_of (joint s)) =
     ap (arrival_of_apdu table station received)
     (body-back layers table all s are aired.item_in aired.of_item)
-    ∙ cond-true (is_known_product w.product)
+    ∙ cond-true (is_read_product w.product)
     (arrival_with_row station received apdu (longest table w.product)) (Err Product)
     (known w.product sound.product)
     ∙ ap (arrival_with_row station received apdu) listed.has_row
     ∙ cond-false (is_large apdu.segmentation) (Err Files)
-    (arrival_named station received apdu life (named w.form apdu.time received))
+    (arrival_with_version station received apdu life (named w.form apdu.time received))
     (not-large cut (fields_of s.item s.number) sound.few_segments)
-    ∙ ap (arrival_named station received apdu life)
+    ∙ ap (arrival_with_version station received apdu life)
     (named-segment layers table all frame received s setting.is_table are aired range after
     soon) in
     subst (λ (from : StationId). result_ok (arrival_in table from received (fisb_frame (body_of s)))

@@ -5,7 +5,7 @@ ghost use Rattle.fisb_link.specs.PicturesAgree.{HearingsStay, PicturesAgree};
 use apdu_core::{apdu_reads_back, shown_fits};
 use fisb_time::form_round_trip;
 use ground_core::{frames_read_back, histories_have_items, items_are_of_stations};
-use picture_core::laws::{order_of_keys, same_pictures, shown_is_newest};
+use picture_core::laws::{keys_are_ordered, same_pictures, shown_is_newest};
 use segment_core::laws::{
     completed_grows, files_complete, only_files_complete, whole_files_complete,
 };
@@ -28,7 +28,7 @@ pub fn pictures_agree()
     files_complete();
     whole_files_complete();
     completed_grows();
-    order_of_keys();
+    keys_are_ordered();
     shown_is_newest();
     same_pictures();
 }

@@ -26,7 +26,8 @@ use Rattle.ground_core.specs.Refusal.{give_refusal}
 use Rattle.ground_core.specs.Piece.{Piece, Latest, IsKept, HasPlace, ArePlaced, piece_of, live_by, left_pieces, fitting_pieces}
 use Rattle.ground_core.specs.Putting.{IsPut, IsAsBefore, IsItemOf}
 use Rattle.ground_core.specs.StandsFor.{StandsFor, clock_of, moment_now, latest_of, latest_of_item, is_filed}
-use Rattle.ground_core.specs.Told.{early, refusal_by}
+use Rattle.ground_core.specs.Told.{refusal_by}
+use Rattle.segment_core.specs.Store.{last_above}
 use Rattle.ground_core.specs.Views.{latest_at, count_at, pieces_in, piece_at}
 use Rattle.ground_core.specs.declared.item.SentItem.{SentItem}
 use Rattle.ground_core.specs.declared.ground.Ground.{Ground}
@@ -41,17 +42,17 @@ use Rattle.ground_core.proofs.Versions.{has_key_of_text, one_life, reports_withi
 use Rattle.ground_core.proofs.Placed.{placed_put}
 use Rattle.ground_core.proofs.Queue.{IsFilled, filled, given_line}
 
-pub not_early : (last moment : ℕ) → early (Some last) moment ≡ None → last ≤ moment
+pub not_early : (last moment : ℕ) → last_above (Some last) moment ≡ None → last ≤ moment
 not_early last moment h = elim (cases_Bool (nat_lt moment last)) [
   | inl t ↦ (let bad : Some last ≡ None = ap (λ b. if b then Some last else None) (sym t) ∙ h in absurd (cc))
   | inr f ↦ ltb-false moment last f
 ]
 
-pub not_before : (history : List Event) (moment : ℕ) → early (clock_of history) moment ≡ None → IsNotBefore moment history
+pub not_before : (history : List Event) (moment : ℕ) → last_above (clock_of history) moment ≡ None → IsNotBefore moment history
 not_before [] moment h = tt
 not_before (event ∷ past) moment h = not_early (moment_of event) moment h
 
-pub clock_below : (history : List Event) (moment : ℕ) → early (clock_of history) moment ≡ None → moment_now history ≤ moment
+pub clock_below : (history : List Event) (moment : ℕ) → last_above (clock_of history) moment ≡ None → moment_now history ≤ moment
 clock_below [] moment h = omega arith
 clock_below (event ∷ past) moment h = not_early (moment_of event) moment h
 
@@ -122,7 +123,7 @@ pub record IsTaken (old : Ground) (moment : ℕ) (new : Ground) : Type 0 where
   pub among : (p : Piece) → IsIn p (pieces_in new.line) → IsIn p (pieces_in old.line)
 
 pub filled_of : (table : LifeTable) (station : StationId) (history : List Event) (moment slot : ℕ) (old : Ground) (new : List Piece) → StandsFor table station old history
-    → early (clock_of history) moment ≡ None
+    → last_above (clock_of history) moment ≡ None
     → filter (live_by (latest_at old.newest) moment) new
     ≡ left_pieces 424 (filter (live_by (latest_at old.newest) moment) (pieces_in old.line))
     ++ fitting_pieces 424 (filter (live_by (latest_at old.newest) moment) (pieces_in old.line))
@@ -134,7 +135,7 @@ filled_of table station history moment slot old new s e n =
     (lives_same table station history moment old s (clock_below history moment e)) n)
 
 pub fill_stands : (table : LifeTable) (station : StationId) (history : List Event) (moment slot : ℕ) (old new : Ground) → StandsFor table station old history
-    → early (clock_of history) moment ≡ None → slot < 32 → IsMoment moment → IsTaken old moment new
+    → last_above (clock_of history) moment ≡ None → slot < 32 → IsMoment moment → IsTaken old moment new
     → StandsFor table station new (fill moment slot ∷ history)
 fill_stands table station history moment slot old new s e lt m t =
     let all : List Item = items table station history in
@@ -262,7 +263,7 @@ given_kept true moment latest last kept h = inl refl
 given_kept false moment latest last kept h = h
 
 pub give_stands : (table : LifeTable) (station : StationId) (history : List Event) (moment version : ℕ) (chars : List ℕ) (old new : Ground) (item : SentItem)
-    → StandsFor table station old history → early (clock_of history) moment ≡ None → IsMoment moment → IsMoment version → IsUtf8 chars
+    → StandsFor table station old history → last_above (clock_of history) moment ≡ None → IsMoment moment → IsMoment version → IsUtf8 chars
     → give_refusal table (items table station history) moment (text version chars) ≡ None
     → IsMade table station history moment version chars item → IsPut old moment item new
     → StandsFor table station new (accepted moment (text version chars) ∷ history)

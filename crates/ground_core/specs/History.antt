@@ -26,11 +26,11 @@ is_rival table moment w other = is_segmented other.weather && is_kept table mome
     && (other.weather.product == w.product) && (other.weather.version == w.version)
 
 -- the greatest life of all rows: no update is accepted once its version and this life have passed
-abbrev pub life_of : LifeTable → ℕ → ℕ
-life_of table product = unwrap_or (longest table product) 0
+abbrev pub longest_life : LifeTable → ℕ → ℕ
+longest_life table product = unwrap_or (longest table product) 0
 
 abbrev pub greatest_life : LifeTable → ℕ
-greatest_life table = max (life_of table 413) (max (life_of table 63) (life_of table 64))
+greatest_life table = max (longest_life table 413) (max (longest_life table 63) (longest_life table 64))
 
 abbrev pub has_number : ℕ → Option ℕ → Bool
 has_number n None = false

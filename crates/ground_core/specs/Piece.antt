@@ -14,13 +14,13 @@ pub record Piece : Type 0 where
   pub file : File
   pub number : ℕ
 
-abbrev pub keys_of : Item → List Key
-keys_of item = map (λ entry. entry.key) item.weather.entries
+abbrev pub item_keys : Item → List Key
+item_keys item = map (λ entry. entry.key) item.weather.entries
 
 abbrev pub piece_of : Segment → Piece
 piece_of s = record {
   serial = s.item.serial;
-  keys = keys_of s.item;
+  keys = item_keys s.item;
   file = file_of s.item;
   number = s.number;
 }

@@ -18,11 +18,6 @@ use Rattle.ground_core.specs.declared.fault.FillFault.TheVariants.{Clock as Fill
 use Rattle.ground_core.specs.declared.fault.GiveFault.{GiveFault}
 use Rattle.ground_core.specs.declared.fault.GiveFault.TheVariants.{Clock, BadText, FewWords, Unlisted, Coarse, Ahead, Expired, NotNewer, NoFile, NoMemory}
 
--- the last moment, where this one is below it
-abbrev pub early : Option ℕ → ℕ → Option ℕ
-early None moment = None
-early (Some last) moment = if nat_lt moment last then Some last else None
-
 -- want of memory is never told as a fault of the text
 abbrev pub IsToldOfText : Option GiveRefusal → TextFault → Type 0
 IsToldOfText refusal (BadCharacter place) = refusal ≡ Some (bad_text (bad_character place))

@@ -13,7 +13,7 @@ use crate::air_frame::{AirFrame, air_of};
 use crate::fault::{FillFault, GiveFault};
 use crate::files::Files;
 use crate::item::{SentItem, count_of, is_segmented};
-use crate::judging::{encoded, file_number, keyed, version_fault};
+use crate::judging::{file_number, key_of_text, payload_of_text, version_fault};
 use crate::line::Line;
 use crate::newest::{Given, Newest};
 use apdu_core::apdu_reads_back;
@@ -46,7 +46,8 @@ pub struct Ground {
 
 impl Ground {
     ghost use Rattle.ground_core.specs.Airing.{frame_after};
-    ghost use Rattle.ground_core.specs.Told.{IsTold, IsToldAt, early, kept_told, refusal_by};
+    ghost use Rattle.ground_core.specs.Told.{IsTold, IsToldAt, kept_told, refusal_by};
+    ghost use Rattle.segment_core.specs.Store.{last_above};
     ghost use Rattle.ground_core.specs.StandsFor.{StandsFor, IsOnAir, clock_of};
     ghost use Rattle.ground_core.specs.Views.{latest_at, count_at};
     ghost use Rattle.ground_core.specs.Putting.{IsPut, IsAsBefore, IsItemOf};
@@ -95,14 +96,14 @@ impl Ground {
             (text_update version text.now) ∷ history)) }
         ensures nothing_against { (table : Table) (station : Place) (history : List Event)
             → StandsFor table station self.old history
-            → OnOk result ((early (clock_of history) moment ≡ None)
+            → OnOk result ((last_above (clock_of history) moment ≡ None)
             × (give_refusal table (items table station history) moment
             (text_update version text.now) ≡ None)) }
 
         // The fault is the first reason, and the object stands for the same history.
         ensures refused { (table : Table) (station : Place) (history : List Event)
             → StandsFor table station self.old history
-            → IfErr result (IsToldAt (early (clock_of history) moment)
+            → IfErr result (IsToldAt (last_above (clock_of history) moment)
             (give_refusal table (items table station history) moment
             (text_update version text.now))) }
         ensures same { (table : Table) (station : Place) (history : List Event)
@@ -113,7 +114,7 @@ impl Ground {
         if let Some(kept) = self.later_clock(moment) {
             return Err(GiveFault::Clock { kept });
         }
-        let item = self.judged(moment, version, text)?;
+        let item = self.item_of_text(moment, version, text)?;
         self.put(moment, item)
     }
 
@@ -135,11 +136,11 @@ impl Ground {
             → IfOk result (IsOnAir (frame_after table station history moment slot)) }
         ensures in_time { (table : Table) (station : Place) (history : List Event)
             → StandsFor table station self.old history
-            → OnOk result (early (clock_of history) moment ≡ None) }
+            → OnOk result (last_above (clock_of history) moment ≡ None) }
 
         ensures refused { (table : Table) (station : Place) (history : List Event)
             → StandsFor table station self.old history
-            → IfErr result (λ fault. early (clock_of history) moment ≡ Some (kept_told fault)) }
+            → IfErr result (λ fault. last_above (clock_of history) moment ≡ Some (kept_told fault)) }
         ensures same { OnErr result (self.new ≡ self.old) }
 
         ensures room { IfOk result (λ frame. frame.used ≤ 424) }
@@ -163,7 +164,7 @@ impl Ground {
 
     /// The moment of the last accepted call, where the given one is below it.
     fn later_clock(&self, moment: Moment) -> Option<Moment>
-        ensures last { result ≡ early self.now.clock moment }
+        ensures last { result ≡ last_above self.now.clock moment }
         ensures in_range { IsMoment moment }
     {
         let seconds = moment.seconds();
@@ -174,7 +175,7 @@ impl Ground {
     }
 
     /// What is sent of a text, or the first reason against it.
-    fn judged(&self, moment: Moment, version: Moment, text: &str) -> Result<SentItem, GiveFault>
+    fn item_of_text(&self, moment: Moment, version: Moment, text: &str) -> Result<SentItem, GiveFault>
         requires { length text.now < 2 ^ 32 }
         ensures item { IfOk result (IsItemOf self.now.table (latest_at self.now.newest)
             (count_at self.now.files) self.now.given
@@ -188,8 +189,8 @@ impl Ground {
             moment (text_update version text.now))) }
     {
         payload_size();
-        let payload = encoded(self.alloc, text)?;
-        let key = keyed(self.alloc, &self.table, text)?;
+        let payload = payload_of_text(self.alloc, text)?;
+        let key = key_of_text(self.alloc, &self.table, text)?;
         let Some(row) = self.table.text_row(key.kind.all()) else {
             return Err(GiveFault::Unlisted);
         };

@@ -25,7 +25,7 @@ use text_reports::{KeyFault, TextKey, key_of};
 const FILE_NUMBERS: u64 = 1024;
 
 /// The payload of a text, or why it cannot be sent.
-pub(crate) fn encoded(alloc: Global, text: &str) -> Result<Bytes, GiveFault>
+pub(crate) fn payload_of_text(alloc: Global, text: &str) -> Result<Bytes, GiveFault>
     requires { length text.now < 2 ^ 32 }
     ensures payload { IfOk result (λ bytes. bytes ≡ text_payload text.now) }
     ensures sendable { IfOk result (λ _. IsSendable text.now) }
@@ -41,7 +41,7 @@ pub(crate) fn encoded(alloc: Global, text: &str) -> Result<Bytes, GiveFault>
 }
 
 /// The key of a text, or why it has none.
-pub(crate) fn keyed(alloc: Global, table: &LifeTable, text: &str) -> Result<TextKey, GiveFault>
+pub(crate) fn key_of_text(alloc: Global, table: &LifeTable, text: &str) -> Result<TextKey, GiveFault>
     ensures key { IfOk result (λ key. text_key table.now text.now ≡ Ok (key_view key)) }
     ensures fault { IfErr result (λ fault. (latest : Key → Option Latest)
         (count : ℕ → ℕ → ℕ) (moment version : ℕ)

@@ -6,7 +6,7 @@ ghost use Rattle.ground_core.specs.Sent.{ItemsAreOfStations, FramesReadBack};
 use apdu_core::apdu_reads_back;
 use dlac_text::{payload_size, reading_undoes_writing, refused_texts};
 use life_table::longest_is_greatest;
-use picture_core::laws::order_of_keys;
+use picture_core::laws::keys_are_ordered;
 use uplink_frame::{bodies_read_back, stations_are_told};
 
 /// The law that what an accepted update says is sound weather, given in time.
@@ -18,7 +18,7 @@ pub fn accepted_is_given()
     payload_size();
     reading_undoes_writing();
     longest_is_greatest();
-    order_of_keys();
+    keys_are_ordered();
 }
 
 /// The law of the items of a history: file numbers are unique, and so are serials, and key and version.
@@ -27,7 +27,7 @@ pub fn histories_have_items()
     ensures { HistoriesHaveItems }
 {
     accepted_is_given();
-    order_of_keys();
+    keys_are_ordered();
 }
 
 /// The law that the items of a broadcast are those of its stations.

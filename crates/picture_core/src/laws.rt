@@ -20,7 +20,7 @@ ghost use Rattle.picture_core.specs.Shown.{AddsSame, IsShown, shown_with};
 /// The order of keys is strict and total, and finds equal exactly the keys that are one, as
 /// their test does.
 #[inline]
-pub fn order_of_keys()
+pub fn keys_are_ordered()
     ensures total { IsTotalOrder key_cmp }
     ensures same { (a b : Key) → Decides (same_key a b) (a ≡ b) }
     ensures agrees { (a b : Key) → is_eq (key_cmp a b) ≡ same_key a b }

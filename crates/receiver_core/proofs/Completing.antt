@@ -9,7 +9,7 @@ use Rattle.std.proofs.lemmas.List.Sums.{sum_by-append, sum_by_push}
 use Rattle.apdu_core.specs.declared.unit.Seg.{Seg}
 use Rattle.uplink_frame.specs.Laws.{StationsAreTold}
 use Rattle.uplink_frame.specs.Station.{same_station}
-use Rattle.segment_core.specs.Arrival.{Arrival, Whole, completed, completed_after, completes, has_piece, is_piece, joined, other_numbers, same_file, whole_with}
+use Rattle.segment_core.specs.Arrival.{Arrival, Whole, completed, completed_after, completes, has_piece, is_piece, joined_payload, other_numbers, same_file, whole_with}
 use Rattle.receiver_core.proofs.JoinedSizes.{is_of_file, joined_size}
 use Rattle.receiver_core.proofs.Weights.{all_at, all_but, all_more, all_same, any_same, cond_below, sum_above, sum_of_two}
 
@@ -185,16 +185,16 @@ module _ (told : StationsAreTold) (live : ℕ → ℕ → Bool) where
   ]
 
   joined_weight : (came : List Arrival) (a : Arrival) (s : Seg)
-      → whole_weight (whole_with a (joined came a s)) ≤ sum_by (file_weight a s) came
+      → whole_weight (whole_with a (joined_payload came a s)) ≤ sum_by (file_weight a s) came
   joined_weight came a s = elim (cases_Bool (live a.product a.version)) [
     | inl alive ↦
         let size = joined_size a s came in
         let weighs = sum_above (λ b. cond (is_of_file a s b b.segmentation) (length b.payload) 0) (file_weight a s) came
         (λ b. live_file a s alive b b.segmentation) in
-        let own = cond-true (live a.product a.version) (length (joined came a s)) 0 alive in
+        let own = cond-true (live a.product a.version) (length (joined_payload came a s)) 0 alive in
         omega (arith, size, weighs, own)
     | inr dead ↦
-        let own = cond-false (live a.product a.version) (length (joined came a s)) 0 dead in
+        let own = cond-false (live a.product a.version) (length (joined_payload came a s)) 0 dead in
         omega (arith, own)
   ]
 

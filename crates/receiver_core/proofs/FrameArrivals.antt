@@ -14,7 +14,8 @@ use Rattle.apdu_core.specs.declared.fault.ApduFault.{ApduFault}
 use Rattle.apdu_core.specs.Apdu.{Apdu, apdu_of, apdu_of_header, form_in, header_length, is_bad, is_segmented_in, segmentation_in}
 use Rattle.life_table.specs.LifeTable.{LifeTable, longest}
 use Rattle.segment_core.specs.Arrival.{Arrival}
-use Rattle.receiver_core.specs.Reception.{arrival_in, arrival_named, arrival_of_apdu, arrival_with_row, is_known_product, is_large}
+use Rattle.receiver_core.specs.Reception.{arrival_in, arrival_with_version, arrival_of_apdu, arrival_with_row, is_large}
+use Rattle.segment_core.specs.Store.{is_read_product}
 use Rattle.receiver_core.proofs.Completing.{IsNumbered}
 
 -- what a header leaves of a body
@@ -92,7 +93,7 @@ pub record IsOfFrame (received : ℕ) (frame : InformationFrame) (a : Arrival) :
 
 module _ (names : NamesNear) (station : StationId) (received : ℕ) (frame : InformationFrame) (a : Arrival) where
   by_name : (apdu : Apdu) (life : ℕ) (o : Option ℕ) → named apdu.form apdu.time received ≡ o
-      → arrival_named station received apdu life o ≡ Ok a → IsWithin frame.body apdu.segmentation apdu.payload
+      → arrival_with_version station received apdu life o ≡ Ok a → IsWithin frame.body apdu.segmentation apdu.payload
       → IsOfFrame received frame a
   by_name apdu life None is arrives within = absurd (cc)
   by_name apdu life (Some version) is arrives within =
@@ -119,7 +120,7 @@ module _ (names : NamesNear) (station : StationId) (received : ℕ) (frame : Inf
       → arrival_of_apdu table station received read ≡ Ok a → IsOfFrame received frame a
   by_apdu table (Err fault) is arrives = absurd (cc)
   by_apdu table (Ok apdu) is arrives =
-      by_row apdu (longest table apdu.product) (ok_before (is_known_product apdu.product) _ _ a arrives)
+      by_row apdu (longest table apdu.product) (ok_before (is_read_product apdu.product) _ _ a arrives)
       (body_leaves frame.body apdu is)
 
   pub arrives_of_frame : (table : LifeTable) → arrival_in table station received frame ≡ Ok a → IsOfFrame received frame a

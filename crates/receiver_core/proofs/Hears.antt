@@ -6,10 +6,10 @@ use Rattle.bit_fields.specs.Bits.{AreBytes}
 use Rattle.fisb_time.specs.Moment.{IsMoment}
 use Rattle.life_table.specs.LifeTable.{LifeTable}
 use Rattle.uplink_weave.specs.Functions.{payload_in, lost_block_in}
-use Rattle.segment_core.specs.Store.{IsNotBefore, StandsFor as StandsForArrivals}
+use Rattle.segment_core.specs.Store.{IsNotBefore, StandsFor as StandsForArrivals, last_above}
 use Rattle.picture_core.specs.Kept.{IsStore, live_entries, put_all}
 use Rattle.receiver_core.specs.Answers.{HasHeard}
-use Rattle.receiver_core.specs.Hearing.{HearRefusal, IsHeardOf, clock_of, clock, is_valid, last_above, lost, no_application, payload_refusal, refusal_of_air}
+use Rattle.receiver_core.specs.Hearing.{HearRefusal, IsHeardOf, clock_of, clock, is_valid, lost, no_application, payload_refusal, refusal_of_air}
 use Rattle.receiver_core.specs.Laws.{FramesAreReception, KeepsReception, arrivals_heard, entries_heard}
 use Rattle.receiver_core.specs.Reception.{Reception, contents}
 use Rattle.receiver_core.specs.StandsFor.{Held, StandsFor, last_moment}

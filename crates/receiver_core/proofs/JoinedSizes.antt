@@ -5,7 +5,7 @@ use Rattle.std.proofs.lemmas.Bool.{cases_Bool, cond-true, cond-false, eqb-true, 
 use Rattle.std.proofs.lemmas.List.Concat.{length-flat_map}
 use Rattle.std.proofs.lemmas.List.Sums.{sum_by-cons}
 use Rattle.apdu_core.specs.declared.unit.Seg.{Seg}
-use Rattle.segment_core.specs.Arrival.{Arrival, bytes_of_piece, first_piece, is_piece, joined, same_file}
+use Rattle.segment_core.specs.Arrival.{Arrival, bytes_of_piece, first_piece, is_piece, joined_payload, same_file}
 use Rattle.receiver_core.proofs.Weights.{sum_below_two, sum_none}
 
 -- an arrival of this file
@@ -76,7 +76,7 @@ joined_sum a s first count (b ∷ came) =
     let whole = sum_by-cons (λ c. cond (is_of_file a s c c.segmentation) (length c.payload) 0) b came in
     omega (arith, split, one, more, whole)
 
-pub joined_size : (a : Arrival) (s : Seg) (came : List Arrival) → length (joined came a s)
+pub joined_size : (a : Arrival) (s : Seg) (came : List Arrival) → length (joined_payload came a s)
     ≤ sum_by (λ b. cond (is_of_file a s b b.segmentation) (length b.payload) 0) came
 joined_size a s came =
     let size = length-flat_map (λ n. bytes_of_piece (first_piece came a s n)) (range_with_len 1 s.count) in

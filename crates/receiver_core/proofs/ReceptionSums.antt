@@ -11,7 +11,7 @@ use Rattle.uplink_frame.specs.UplinkFrame.{InformationFrame, information_frames}
 use Rattle.segment_core.specs.Arrival.{Arrival}
 use Rattle.segment_core.specs.Store.{is_live, longest_of}
 use Rattle.segment_core.specs.declared.arrived.Longest.{Longest}
-use Rattle.receiver_core.specs.Bound.{longest_life, may_live, number_alive}
+use Rattle.receiver_core.specs.Bound.{greatest_life, may_live, number_alive}
 use Rattle.receiver_core.specs.Hearing.{AreReceptions}
 use Rattle.receiver_core.specs.Reception.{Reception, arrival_in, arrivals, arrivals_in, station_heard}
 use Rattle.receiver_core.specs.StandsFor.{longest_lives}
@@ -69,7 +69,7 @@ module _ (names : NamesNear) (table : LifeTable) (moment : ℕ) where
   lives_by heard product version near lives =
       let below = ltb-true moment (version + longest_of (longest_lives table) product) lives in
       let most = longest_by (longest_lives table) (product == 63) (product == 64) in
-      lt-ltb moment (heard.moment + longest_life table + 60) (omega (arith, below, most, near))
+      lt-ltb moment (heard.moment + greatest_life table + 60) (omega (arith, below, most, near))
 
   -- a part of each frame that lives
   pub reception_sum : (heard : Reception) (k : ℕ) (w : Arrival → ℕ) → length heard.payload ≡ 432

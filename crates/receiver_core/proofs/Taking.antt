@@ -4,14 +4,14 @@ use Rattle.std.proofs.lemmas.List.{append-nil}
 use Rattle.std.specs.List.{list_all}
 use Rattle.apdu_core.specs.declared.unit.Seg.{Seg}
 use Rattle.life_table.specs.LifeTable.{LifeTable}
-use Rattle.segment_core.specs.Arrival.{Arrival, completes, has_piece, joined, other_numbers, whole_with}
+use Rattle.segment_core.specs.Arrival.{Arrival, completes, has_piece, joined_payload, other_numbers, whole_with}
 use Rattle.segment_core.specs.Store.{StandsFor, Store, answer_of, is_live, live_answer, taken_with}
 use Rattle.segment_core.specs.Views.{arrival_view}
 use Rattle.segment_core.specs.declared.arrived.Arrived.{Arrived}
 use Rattle.segment_core.specs.declared.arrived.Longest.{Longest}
 use Rattle.segment_core.specs.declared.arrived.Taken.{Taken}
 use Rattle.segment_core.specs.declared.arrived.Taken.TheVariants as taken
-use Rattle.receiver_core.specs.Steps.{arrived_with, counted, entries_of_whole, frame_entries, taken_reasons, whole_taken}
+use Rattle.receiver_core.specs.Steps.{arrived_with, arrival_in_time, entries_of_whole, frame_entries, taken_reasons, whole_taken}
 use Rattle.receiver_core.specs.UnreadParts.{frame_reasons, whole_reasons}
 use Rattle.receiver_core.specs.declared.unread.UnreadReason.{UnreadReason}
 use Rattle.receiver_core.specs.declared.unread.UnreadReason.TheVariants as reasons
@@ -35,14 +35,14 @@ live_whole : (before : List Arrival) (a : Arrival) (s : Option Seg) → whole_ta
 live_whole before a None = refl
 live_whole before a (Some s) =
     whole_by (has_piece before a s s.number) (list_all (has_piece before a s) (other_numbers s)) a
-    (joined (before ++ a ∷ []) a s)
+    (joined_payload (before ++ a ∷ []) a s)
 
 live_told : (table : LifeTable) (before : List Arrival) (a : Arrival) (s : Option Seg)
     → taken_reasons table a (live_answer before a s) ≡ whole_reasons table (completes before a s)
 live_told table before a None = refl
 live_told table before a (Some s) =
     told_by table (has_piece before a s s.number) (list_all (has_piece before a s) (other_numbers s)) a
-    (joined (before ++ a ∷ []) a s)
+    (joined_payload (before ++ a ∷ []) a s)
 
 entries_by : (table : LifeTable) (before : List Arrival) (a : Arrival) (live : Bool)
     → entries_of_whole table (whole_taken a (if live then live_answer before a a.segmentation else taken.Stale))
@@ -64,7 +64,7 @@ joined_by before a false = sym (append-nil before)
 -- what is read of a frame, and what the joiner holds and answers by it
 pub joins : (lives own : Longest) (moment : ℕ) (before : List Arrival) (a : Arrived)
     (read : Result Arrival UnreadReason) (store : Store)
-    → own ≡ lives → counted lives moment (Ok a) ≡ read → StandsFor store (taken_with own moment before (arrival_view a))
+    → own ≡ lives → arrival_in_time lives moment (Ok a) ≡ read → StandsFor store (taken_with own moment before (arrival_view a))
     → StandsFor store (arrived_with before read)
 joins lives own moment before a read store same is stands =
     subst (StandsFor store)
@@ -73,7 +73,7 @@ joins lives own moment before a read store same is stands =
 
 pub brings : (table : LifeTable) (lives own : Longest) (moment : ℕ) (before : List Arrival) (a : Arrived)
     (read : Result Arrival UnreadReason)
-    (answer : Taken) → own ≡ lives → counted lives moment (Ok a) ≡ read → answer ≡ answer_of own moment before (arrival_view a)
+    (answer : Taken) → own ≡ lives → arrival_in_time lives moment (Ok a) ≡ read → answer ≡ answer_of own moment before (arrival_view a)
     → entries_of_whole table (whole_taken (arrival_view a) answer) ≡ frame_entries table before read
 brings table lives own moment before a read answer same is answered =
     ap (λ t. entries_of_whole table (whole_taken (arrival_view a) t))
@@ -82,7 +82,7 @@ brings table lives own moment before a read answer same is answered =
 
 pub tells : (table : LifeTable) (lives own : Longest) (moment : ℕ) (before : List Arrival) (a : Arrived)
     (read : Result Arrival UnreadReason)
-    (answer : Taken) → own ≡ lives → counted lives moment (Ok a) ≡ read → answer ≡ answer_of own moment before (arrival_view a)
+    (answer : Taken) → own ≡ lives → arrival_in_time lives moment (Ok a) ≡ read → answer ≡ answer_of own moment before (arrival_view a)
     → taken_reasons table (arrival_view a) answer ≡ frame_reasons table before read
 tells table lives own moment before a read answer same is answered =
     ap (taken_reasons table (arrival_view a)) (answered ∙ ap (λ l. answer_of l moment before (arrival_view a)) same)

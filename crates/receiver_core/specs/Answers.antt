@@ -2,7 +2,8 @@
 use Rattle.std.specs.Prelude.{◌≡◌, ℕ, List, ◌∷◌, Option, Some, None, Result, OnOk, OnErr, IfOk, IfErr}
 use Rattle.life_table.specs.LifeTable.{LifeTable}
 use Rattle.picture_core.specs.declared.entry.Entry.{Entry as ShownEntry}
-use Rattle.receiver_core.specs.Hearing.{HearRefusal, IsHearFault, IsHeardOf, IsPictureOf, IsShowFault, clock_of, last_above}
+use Rattle.receiver_core.specs.Hearing.{HearRefusal, IsHearFault, IsHeardOf, IsPictureOf, IsShowFault, clock_of}
+use Rattle.segment_core.specs.Store.{last_above}
 use Rattle.receiver_core.specs.Reception.{Reception}
 use Rattle.receiver_core.specs.declared.heard.Heard.{Heard}
 use Rattle.receiver_core.specs.declared.heard.HearFault.{HearFault}

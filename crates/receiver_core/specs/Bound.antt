@@ -8,12 +8,12 @@ use Rattle.receiver_core.specs.Reception.{Reception}
 use Rattle.receiver_core.specs.StandsFor.{Held, IsSettled, StandsFor, last_moment, longest_lives}
 
 -- the longest life of all products that are read; 0 in a table without rows
-abbrev pub longest_life : LifeTable → ℕ
-longest_life table = let lives = longest_lives table in max lives.regional (max lives.conus lives.text)
+abbrev pub greatest_life : LifeTable → ℕ
+greatest_life table = let lives = longest_lives table in max lives.regional (max lives.conus lives.text)
 
 -- something that a reception brought may live at the moment
 abbrev pub may_live : LifeTable → ℕ → Reception → Bool
-may_live table moment heard = nat_lt moment (heard.moment + longest_life table + 60)
+may_live table moment heard = nat_lt moment (heard.moment + greatest_life table + 60)
 
 -- how many of them are such
 abbrev pub number_alive : LifeTable → ℕ → List Reception → ℕ

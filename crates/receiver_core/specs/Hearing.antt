@@ -1,12 +1,13 @@
 -- What a receiver answers to a frame, by what it heard before. A frame counts where each of its blocks is near a code word
 -- (RTCA DO-282B) and its header says that the application data are valid.
-use Rattle.std.specs.Prelude.{◌≡◌, ⊤, ℕ, Bool, true, nat_lt, if◌then◌else◌, List, [], ◌∷◌, length, map, Option, Some, None}
+use Rattle.std.specs.Prelude.{◌≡◌, ⊤, ℕ, Bool, true, if◌then◌else◌, List, [], ◌∷◌, length, map, Option, Some, None}
 use Rattle.std.specs.Option.{option_or, option_and_then, option_map}
 use Rattle.bit_fields.specs.Bits.{AreBytes}
 use Rattle.fisb_time.specs.Moment.{IsMoment}
 use Rattle.uplink_frame.specs.UplinkFrame.{header_in}
 use Rattle.uplink_weave.specs.Functions.{payload_in, lost_block_in}
 use Rattle.life_table.specs.LifeTable.{LifeTable}
+use Rattle.segment_core.specs.Store.{last_above}
 use Rattle.picture_core.specs.Views.{entry_view, shown_value}
 use Rattle.picture_core.specs.declared.entry.Entry.{Entry as ShownEntry}
 use Rattle.receiver_core.specs.Reception.{Reception, received_picture}
@@ -22,11 +23,6 @@ use Rattle.receiver_core.specs.declared.heard.ShowFault.TheVariants.{Clock as Sh
 abbrev pub clock_of : List Reception → Option ℕ
 clock_of [] = None
 clock_of (heard ∷ past) = Some heard.moment
-
--- the last moment, where this one is below it
-abbrev pub last_above : Option ℕ → ℕ → Option ℕ
-last_above None moment = None
-last_above (Some last) moment = if nat_lt moment last then Some last else None
 
 abbrev pub is_valid : List ℕ → Bool
 is_valid payload = (header_in payload).app_valid

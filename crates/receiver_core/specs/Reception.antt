@@ -12,6 +12,7 @@ use Rattle.apdu_core.specs.declared.fault.ApduFault.TheVariants as faults
 use Rattle.apdu_core.specs.Apdu.{Apdu, apdu_of}
 use Rattle.life_table.specs.LifeTable.{LifeTable, longest}
 use Rattle.segment_core.specs.Arrival.{Arrival, Whole, completed}
+use Rattle.segment_core.specs.Store.{is_read_product}
 use Rattle.picture_core.specs.Contents.{text_product, payload_entries}
 use Rattle.picture_core.specs.Entry.{Entry}
 use Rattle.picture_core.specs.Picture.{picture}
@@ -28,22 +29,18 @@ fault_reason faults.Short = Short
 fault_reason faults.Flagged = Flagged
 fault_reason faults.BadSegment = Segment
 
--- the radar products and text
-abbrev pub is_known_product : ℕ → Bool
-is_known_product product = (product == 63) || (product == 64) || (product == text_product)
-
 -- the most segments of a file
-abbrev pub segment_limit : ℕ
-segment_limit = 64
+abbrev pub most_segments : ℕ
+most_segments = 64
 
 abbrev pub is_large : Option Seg → Bool
 is_large None = false
-is_large (Some s) = nat_lt segment_limit s.count
+is_large (Some s) = nat_lt most_segments s.count
 
 -- its time names the version; it counts before the longest life of its product has passed
-abbrev pub arrival_named : StationId → ℕ → Apdu → ℕ → Option ℕ → Result Arrival UnreadReason
-arrival_named station received a life None = Err Time
-arrival_named station received a life (Some version) = if nat_lt received (version + life)
+abbrev pub arrival_with_version : StationId → ℕ → Apdu → ℕ → Option ℕ → Result Arrival UnreadReason
+arrival_with_version station received a life None = Err Time
+arrival_with_version station received a life (Some version) = if nat_lt received (version + life)
     then Ok (record {
       station = station;
       product = a.product;
@@ -56,11 +53,11 @@ arrival_named station received a life (Some version) = if nat_lt received (versi
 abbrev pub arrival_with_row : StationId → ℕ → Apdu → Option ℕ → Result Arrival UnreadReason
 arrival_with_row station received a None = Err NoRow
 arrival_with_row station received a (Some life) = if is_large a.segmentation then Err Files
-    else arrival_named station received a life (named a.form a.time received)
+    else arrival_with_version station received a life (named a.form a.time received)
 
 abbrev pub arrival_of_apdu : LifeTable → StationId → ℕ → Result Apdu ApduFault → Result Arrival UnreadReason
 arrival_of_apdu table station received (Err fault) = Err (fault_reason fault)
-arrival_of_apdu table station received (Ok a) = if is_known_product a.product
+arrival_of_apdu table station received (Ok a) = if is_read_product a.product
     then arrival_with_row station received a (longest table a.product)
     else Err Product
 

@@ -18,9 +18,9 @@ use Rattle.receiver_core.specs.declared.unread.UnreadReason.{UnreadReason}
 use Rattle.receiver_core.specs.declared.unread.UnreadReason.TheVariants.{Stale}
 
 -- what is read counts where the longest life of its product has not passed
-abbrev pub counted : Longest → ℕ → Result Arrived UnreadReason → Result Arrival UnreadReason
-counted lives moment (Err reason) = Err reason
-counted lives moment (Ok a) = if is_live lives moment a.product a.version then Ok (arrival_view a) else Err Stale
+abbrev pub arrival_in_time : Longest → ℕ → Result Arrived UnreadReason → Result Arrival UnreadReason
+arrival_in_time lives moment (Err reason) = Err reason
+arrival_in_time lives moment (Ok a) = if is_live lives moment a.product a.version then Ok (arrival_view a) else Err Stale
 
 -- the payload that an answer makes whole
 abbrev pub whole_taken : Arrival → Taken → Option Whole

@@ -2,9 +2,9 @@
 ghost use Rattle.std.specs.Prelude.{◌≡◌, ℕ, IfOk, true};
 ghost use Rattle.uplink_frame.specs.Views.{frame_view};
 ghost use Rattle.segment_core.specs.Store.{FitsFile, is_read_product};
-ghost use Rattle.receiver_core.specs.Reception.{arrival_in, is_known_product, is_large};
+ghost use Rattle.receiver_core.specs.Reception.{arrival_in, is_large};
 ghost use Rattle.receiver_core.specs.StandsFor.{longest_lives};
-ghost use Rattle.receiver_core.specs.Steps.{counted};
+ghost use Rattle.receiver_core.specs.Steps.{arrival_in_time};
 
 use crate::unread::UnreadReason;
 use apdu_core::{Apdu, ApduFault, Seg, read_apdu};
@@ -24,7 +24,7 @@ pub(crate) fn read_arrival<'a>(
     moment: Moment,
     frame: &InfoFrame<'a>,
 ) -> Result<Arrived<'a>, UnreadReason>
-    ensures counted { counted (longest_lives table.now) moment result
+    ensures counted { arrival_in_time (longest_lives table.now) moment result
         ≡ arrival_in table.now station moment (frame_view frame.now) }
     ensures product { IfOk result (λ a. is_read_product a.product ≡ true) }
     ensures segment { IfOk result (λ a. FitsFile a.seg) }
@@ -38,7 +38,7 @@ pub(crate) fn read_arrival<'a>(
         Err(ApduFault::Flagged) => return Err(UnreadReason::Flagged),
         Err(ApduFault::BadSegment) => return Err(UnreadReason::Segment),
     };
-    if !is_known_product(apdu.product) {
+    if !is_read_product(apdu.product) {
         return Err(UnreadReason::Product);
     }
     if table.longest(apdu.product).is_none() {
@@ -60,8 +60,8 @@ pub(crate) fn read_arrival<'a>(
 }
 
 /// Whether the product is radar or text.
-fn is_known_product(product: u16) -> bool
-    ensures { result ≡ is_known_product product }
+fn is_read_product(product: u16) -> bool
+    ensures { result ≡ is_read_product product }
 {
     product == 63 || product == 64 || product == 413
 }

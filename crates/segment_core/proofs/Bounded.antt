@@ -13,10 +13,10 @@ use Rattle.std.proofs.lemmas.Map.Entries.{length-values_of, sum_by-remove_entry}
 use Rattle.std.proofs.lemmas.Map.Keys.{sorted_head, sorted_tail}
 use Rattle.apdu_core.specs.declared.unit.Seg.{Seg}
 use Rattle.segment_core.specs.Arrival.{Arrival, is_piece, has_piece, other_numbers, whole_with, completes}
-use Rattle.segment_core.specs.Kept.{Pieces, held, kept_piece, was_whole, piece_name, arrival_named}
+use Rattle.segment_core.specs.Kept.{Pieces, kept_under, kept_piece, was_whole, piece_name, arrival_named}
 use Rattle.segment_core.specs.Kept.{fields_of, same_piece}
 use Rattle.segment_core.specs.Store.{Store, StandsFor, is_live, is_live_at, live_answer}
-use Rattle.segment_core.specs.Bound.{AreNamedOnce, IsPurged, IsBounded, piece_size, live_arrivals, payload_in}
+use Rattle.segment_core.specs.Bound.{AreNamedOnce, IsPurged, IsBounded, piece_size, live_arrivals, payload_made_whole}
 use Rattle.segment_core.specs.declared.piece_name.PieceName.{PieceName}
 use Rattle.segment_core.specs.declared.arrived.Longest.{Longest}
 use Rattle.segment_core.specs.contracts.piece_name.PieceNameOrd.TheImpl as order
@@ -24,7 +24,7 @@ use Rattle.segment_core.proofs.PieceNames.{agrees, bool_same, same-is, same-self
 use Rattle.segment_core.proofs.Stands.{first, is, is-named}
 
 -- names in their order stand once
-absent-above : (k : PieceName) (es : Pieces) → AllByRecursion (λ y. order.ghosts.cmp k y ≡ Less) (keys_of es) → held es k ≡ None
+absent-above : (k : PieceName) (es : Pieces) → AllByRecursion (λ y. order.ghosts.cmp k y ≡ Less) (keys_of es) → kept_under es k ≡ None
 absent-above k [] above = refl
 absent-above k (e ∷ es) above =
     let other : same_piece k e.0 ≡ false = sym (agrees k e.0) ∙ ap is_eq above.0 in
@@ -43,14 +43,14 @@ same-turned a b = bool_same (same_piece a b) (same_piece b a)
     (λ (e : same_piece b a ≡ true). subst (λ (x : PieceName). same_piece x b ≡ true) (same-is b a e) (same-self b))
 
 -- without a name, the others are held came before
-held-without : (k q : PieceName) (es : Pieces) → AreNamedOnce es → held (remove_entry (same_piece k) es) q
-    ≡ cond (same_piece k q) None (held es q)
+held-without : (k q : PieceName) (es : Pieces) → AreNamedOnce es → kept_under (remove_entry (same_piece k) es) q
+    ≡ cond (same_piece k q) None (kept_under es q)
 held-without k q [] once = elim (cases_Bool (same_piece k q)) [ inl t ↦ rw t refl | inr f ↦ rw f refl ]
 held-without k q (e ∷ es) once = elim (cases_Bool (same_piece k e.0)) [
   | inl here ↦ elim (cases_Bool (same_piece k q)) [
     | inl is ↦
         let at : e.0 ≡ q = sym (same-is k e.0 here) ∙ same-is k q is in
-        rw (here, is) (ap (held es) (sym at) ∙ once.0)
+        rw (here, is) (ap (kept_under es) (sym at) ∙ once.0)
     | inr other ↦
         let moved : same_piece q e.0 ≡ false = ap (same_piece q) (sym (same-is k e.0 here)) ∙ same-turned q k ∙ other in
         rw (here, other, moved) refl
@@ -72,14 +72,14 @@ once-without k [] once = tt
 once-without k (e ∷ es) once = elim (cases_Bool (same_piece k e.0)) [
   | inl here ↦ rw here once.1
   | inr there ↦ rw there (
-    held-without k e.0 es once.1 ∙ cond-none (same_piece k e.0) (held es e.0) once.0,
+    held-without k e.0 es once.1 ∙ cond-none (same_piece k e.0) (kept_under es e.0) once.0,
     once-without k es once.1,
   )
 ]
 
 -- each value that is held has its weight in the first arrival of its name
 abbrev Fits : (Option (List ℕ) → ℕ) → (Arrival → ℕ) → List Arrival → Pieces → Type 0
-Fits f g came es = (k : PieceName) (v : Option (List ℕ)) → held es k ≡ Some v
+Fits f g came es = (k : PieceName) (v : Option (List ℕ)) → kept_under es k ≡ Some v
     → (a : Arrival) × (first came k k.number ≡ Some a) × (f v ≤ g a)
 
 at_most : (f : Option (List ℕ) → ℕ) (x : ℕ) (o : Option (Option (List ℕ))) → ((v : Option (List ℕ)) → o ≡ Some v → f v ≤ x)
@@ -107,13 +107,13 @@ weighed_one f g a came before es once fits None none =
 weighed_one f g a came before es once fits (Some s) seg =
     let name : PieceName = piece_name a s in
     let rest : Fits f g came (remove_entry (same_piece name) es) = λ k v h.
-    let kept = absurd_piece (same_piece name k) (held es k) v (sym (held-without name k es once) ∙ h) in
+    let kept = absurd_piece (same_piece name k) (kept_under es k) v (sym (held-without name k es once) ∙ h) in
     let found = fits k v kept.1 in
     let other : is k k.number a ≡ false = is-named k k.number a s seg ∙ same-turned k name ∙ kept.0 in
     (found.0, sym (cond-false (is k k.number a) (Some a) (first came k k.number) other) ∙ found.1, found.2) in
     let less = before (remove_entry (same_piece name) es) (once-without name es once) rest in
     let more = sum_by-cons g a came in
-    let here : unwrap_or (option_map f (lookup (same_piece name) es)) 0 ≤ g a = at_most f (g a) (held es name) (λ v h.
+    let here : unwrap_or (option_map f (lookup (same_piece name) es)) 0 ≤ g a = at_most f (g a) (kept_under es name) (λ v h.
     let found = fits name v h in
     let own : is name name.number a ≡ true = is-named name name.number a s seg ∙ same-self name in
     let some : Some a ≡ Some found.0 = sym (cond-true (is name name.number a) (Some a) (first came name name.number) own)
@@ -127,7 +127,7 @@ weighed : (f : Option (List ℕ) → ℕ) (g : Arrival → ℕ) (came : List Arr
     → sum_by f (values_of es) ≤ sum_by g came
 weighed f g [] [] once fits = omega arith
 weighed f g [] (e ∷ es) once fits =
-    let found = fits e.0 e.1 (cond-true (same_piece e.0 e.0) (Some e.1) (held es e.0) (same-self e.0)) in
+    let found = fits e.0 e.1 (cond-true (same_piece e.0 e.0) (Some e.1) (kept_under es e.0) (same-self e.0)) in
     let none : None ≡ Some found.0 = found.1 in
     absurd (cc)
 weighed f g (a ∷ came) es once fits = weighed_one f g a came (weighed f g came) es once fits a.segmentation refl
@@ -167,7 +167,7 @@ kept_fits : (f : Option (List ℕ) → ℕ) (g : Arrival → ℕ) → ((b : Bool
     → (store : Store) (moment : ℕ) (taken : List Arrival) → StandsFor store taken → IsPurged store moment
     → Fits f g (live_arrivals store.longest moment taken) store.pieces
 kept_fits f g each store moment taken stands purged k v h =
-    let some : is_some (held store.pieces k) ≡ true = ap is_some h in
+    let some : is_some (kept_under store.pieces k) ≡ true = ap is_some h in
     let live = purged.live k some in
     let at_clock : is_live_at store.longest store.clock k ≡ true =
     ap (λ (clock : Option ℕ). is_live_at store.longest clock k) purged.clock ∙ live in
@@ -204,7 +204,7 @@ stores-bounded store moment taken stands purged = record {
 
 -- an answer is whole exactly where the arrival completes its file
 complete_by : (taken : List Arrival) (a : Arrival) (o : Option Seg)
-    → completes taken a o ≡ option_map (whole_with a) (payload_in (live_answer taken a o))
+    → completes taken a o ≡ option_map (whole_with a) (payload_made_whole (live_answer taken a o))
 complete_by taken a None = refl
 complete_by taken a (Some s) = elim (cases_Bool (has_piece taken a s s.number)) [
   | inl again ↦ rw again refl
@@ -215,5 +215,5 @@ complete_by taken a (Some s) = elim (cases_Bool (has_piece taken a s s.number)) 
 ]
 
 pub answers-complete : (taken : List Arrival) (a : Arrival)
-    → completes taken a a.segmentation ≡ option_map (whole_with a) (payload_in (live_answer taken a a.segmentation))
+    → completes taken a a.segmentation ≡ option_map (whole_with a) (payload_made_whole (live_answer taken a a.segmentation))
 answers-complete taken a = complete_by taken a a.segmentation

@@ -13,7 +13,7 @@ use Rattle.list_members.specs.Membership.{IsIn}
 use Rattle.list_members.proofs.Members.{IsIn-before, IsIn-after, IsIn-either, IsIn-filter, IsIn-from_filter}
 use Rattle.list_members.proofs.ListMembers.{in_filter_map, filter_map_has, in_one}
 use Rattle.segment_core.specs.File.{File, is_segmented, parts_of, part_of, segmentation_of}
-use Rattle.segment_core.specs.Arrival.{Arrival, Whole, whole_with, joined, other_numbers, completes}
+use Rattle.segment_core.specs.Arrival.{Arrival, Whole, whole_with, joined_payload, other_numbers, completes}
 use Rattle.segment_core.specs.Arrival.{completed_after}
 use Rattle.segment_core.specs.Joining.{Segment, segment, arrival_of, whole_of, AreSent, HasAll, IsOfFile}
 use Rattle.segment_core.proofs.Parts.{parts-whole, are_parts}
@@ -71,7 +71,7 @@ completing before station f number = not (has station f number before)
 -- what an arrival of segments makes whole
 abbrev made : List Segment → StationId → File → ℕ → Whole
 made before station f number = whole_with (arrival_of (segment station f number))
-    (joined (map arrival_of before ++ arrival_of (segment station f number) ∷ []) (arrival_of (segment station f 1))
+    (joined_payload (map arrival_of before ++ arrival_of (segment station f number) ∷ []) (arrival_of (segment station f 1))
     (fields_of f 1))
 
 all_cut : (before : List Segment) (station : StationId) (f : File) (number : ℕ) (all : List Segment) → IsOfSent all station f
@@ -93,7 +93,7 @@ made-is before station f number all of_sent among has_all =
     ≡ map arrival_of before ++ arrival_of (segment station f number) ∷ [] =
     map-append arrival_of before (segment station f number ∷ []) in
     ap (whole_with (arrival_of (segment station f number)))
-    (ap (λ (arrived : List Arrival). joined arrived (arrival_of (segment station f 1)) (fields_of f 1)) (sym moved)
+    (ap (λ (arrived : List Arrival). joined_payload arrived (arrival_of (segment station f 1)) (fields_of f 1)) (sym moved)
     ∙ joined-is all station f (before ++ segment station f number ∷ []) of_sent among has_all)
 
 -- what a segment of a file that is cut completes: that file, where it has all

@@ -10,7 +10,7 @@ use Rattle.uplink_frame.specs.Laws.{StationsAreTold}
 use Rattle.apdu_core.specs.declared.unit.Seg.{Seg}
 use Rattle.list_members.specs.Membership.{IsIn}
 use Rattle.segment_core.specs.File.{File, is_segmented, parts_of, part_of, segmentation_of}
-use Rattle.segment_core.specs.Arrival.{same_file, is_piece, first_piece, has_piece, bytes_of_piece, joined}
+use Rattle.segment_core.specs.Arrival.{same_file, is_piece, first_piece, has_piece, bytes_of_piece, joined_payload}
 use Rattle.segment_core.specs.Joining.{Segment, segment, arrival_of, AreApart, HasAll}
 use Rattle.segment_core.proofs.Parts.{are_parts}
 use Rattle.segment_core.proofs.Ranges.{in_range, flat_map_same, read_all}
@@ -135,7 +135,7 @@ first-is all station f number (x ∷ xs) of_sent among h = elim (cases_Bool (is_
 -- all of them joined are the payload
 pub joined-is : (all : List Segment) (station : StationId) (f : File) (xs : List Segment) → IsOfSent all station f
     → AreAmong xs all → HasAll xs station f
-    → joined (map arrival_of xs) (arrival_of (segment station f 1)) (fields_of f 1) ≡ f.payload
+    → joined_payload (map arrival_of xs) (arrival_of (segment station f 1)) (fields_of f 1) ≡ f.payload
 joined-is all station f xs of_sent among has_all =
     flat_map_same _ (part_of f) (range_with_len 1 (length (parts_of f))) (λ n there.
     let within = in_range n 1 (length (parts_of f)) there in

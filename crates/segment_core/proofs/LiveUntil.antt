@@ -6,7 +6,7 @@ use Rattle.apdu_core.specs.declared.unit.Seg.{Seg}
 use Rattle.undo_map.specs.Marked.{Marked}
 use Rattle.segment_core.specs.Arrival.{Arrival}
 use Rattle.segment_core.specs.HeldPieces.{held_after}
-use Rattle.segment_core.specs.Kept.{Pieces, held, piece_name, same_piece}
+use Rattle.segment_core.specs.Kept.{Pieces, kept_under, piece_name, same_piece}
 use Rattle.segment_core.specs.Store.{AreLiveUntil, AreMarkedLiveUntil, is_live, live_pieces, longest_of}
 use Rattle.segment_core.specs.declared.piece_name.PieceName.{PieceName}
 use Rattle.segment_core.specs.declared.arrived.Longest.{Longest}
@@ -17,11 +17,11 @@ abbrev pub MarkedPieces : Type 0
 MarkedPieces = Marked PieceName (Option (List ℕ))
 
 -- what is held in the first entry, and what in the others
-held-first : (e : PieceName × Option (List ℕ)) (es : Pieces) → is_some (held (e ∷ es) e.0) ≡ true
+held-first : (e : PieceName × Option (List ℕ)) (es : Pieces) → is_some (kept_under (e ∷ es) e.0) ≡ true
 held-first e es = rw (same-self e.0) refl
 
-held-later : (e : PieceName × Option (List ℕ)) (es : Pieces) (q : PieceName) → is_some (held es q) ≡ true
-    → is_some (held (e ∷ es) q) ≡ true
+held-later : (e : PieceName × Option (List ℕ)) (es : Pieces) (q : PieceName) → is_some (kept_under es q) ≡ true
+    → is_some (kept_under (e ∷ es) q) ≡ true
 held-later e es q some = elim (cases_Bool (same_piece q e.0)) [
   | inl is ↦ rw is refl
   | inr not ↦ rw not some
@@ -50,7 +50,7 @@ live_pieces-all longest due moment (e ∷ es) before all =
 
 -- with an arrival of a file that is not stale before it either
 until-after : (longest : Longest) (due : ℕ) (pieces later : Pieces) (a : Arrival) (o : Option Seg)
-    → ((q : PieceName) → held later q ≡ held_after pieces a o q) → due ≤ a.version + longest_of longest a.product
+    → ((q : PieceName) → kept_under later q ≡ held_after pieces a o q) → due ≤ a.version + longest_of longest a.product
     → AreLiveUntil longest due pieces → AreLiveUntil longest due later
 until-after longest due pieces later a None becomes own all q some = all q (ap is_some (sym (becomes q)) ∙ some)
 until-after longest due pieces later a (Some s) becomes own all q some =
@@ -65,7 +65,7 @@ until-lower longest due was marked lower all = (
 )
 
 pub until-taken : (longest : Longest) (due : ℕ) (old new : MarkedPieces) (a : Arrival) (o : Option Seg)
-    → ((q : PieceName) → held new.entries q ≡ held_after old.entries a o q) → new.mark ≡ old.mark
+    → ((q : PieceName) → kept_under new.entries q ≡ held_after old.entries a o q) → new.mark ≡ old.mark
     → due ≤ a.version + longest_of longest a.product
     → AreMarkedLiveUntil longest due old → AreMarkedLiveUntil longest due new
 until-taken longest due old new a o becomes mark own all = (

@@ -16,7 +16,7 @@ use Rattle.list_members.proofs.ListMembers.{any_in, in_any}
 use Rattle.uplink_frame.specs.declared.station.StationId.{StationId}
 use Rattle.uplink_frame.specs.Station.{same_flag, same_station}
 use Rattle.undo_map.specs.Marked.{with_all}
-use Rattle.segment_core.specs.Kept.{Pieces, held, same_piece, numbered}
+use Rattle.segment_core.specs.Kept.{Pieces, kept_under, same_piece, with_number}
 use Rattle.segment_core.specs.HeldPieces.{is_number_of, others_held, held_with}
 use Rattle.segment_core.specs.declared.piece_name.PieceName.{PieceName}
 use Rattle.segment_core.specs.contracts.piece_name.PieceNameOrd.TheImpl as order
@@ -72,9 +72,9 @@ agrees a b =
     (a.count == b.count) (a.number == b.number)
     ∙ both_tied _ _ _ _ station rest)
 
-pub found-held : (name : PieceName) (pieces : Pieces) → lookup (is_at (order.ghosts.cmp name)) pieces ≡ held pieces name
-found-held name [] = refl
-found-held name (e ∷ pieces) = rw (agrees name e.0, found-held name pieces) refl
+pub kept-found : (name : PieceName) (pieces : Pieces) → lookup (is_at (order.ghosts.cmp name)) pieces ≡ kept_under pieces name
+kept-found name [] = refl
+kept-found name (e ∷ pieces) = rw (agrees name e.0, kept-found name pieces) refl
 
 flag_of : (a b : Bool) → same_flag a b ≡ true → a ≡ b
 flag_of true true e = refl
@@ -123,9 +123,9 @@ same-self a = and_from _ _ (and_from _ _ (and_from _ _ (and_from _ _ (and_from _
     (eq-eqb a.number a.number refl)
 
 pub held_first : (k : PieceName) (v : Option (List ℕ)) (q : PieceName) (e : PieceName × Option (List ℕ)) (es : Pieces)
-    → held (insert_entry order.ghosts.cmp es k v) q ≡ cond (same_piece q k) (Some v) (held es q)
+    → kept_under (insert_entry order.ghosts.cmp es k v) q ≡ cond (same_piece q k) (Some v) (kept_under es q)
     → (o : Ordering) → order.ghosts.cmp k e.0 ≡ o
-    → held (insert_entry order.ghosts.cmp (e ∷ es) k v) q ≡ cond (same_piece q k) (Some v) (held (e ∷ es) q)
+    → kept_under (insert_entry order.ghosts.cmp (e ∷ es) k v) q ≡ cond (same_piece q k) (Some v) (kept_under (e ∷ es) q)
 held_first k v q e es rest Less is = rw is refl
 held_first k v q e es rest Equal is =
     let same : k ≡ e.0 = same-is k e.0 (sym (agrees k e.0) ∙ ap is_eq is) in
@@ -147,70 +147,70 @@ held_first k v q e es rest Greater is = elim (cases_Bool (same_piece q e.0)) [
 
 -- what is held after a write
 pub held-write : (k : PieceName) (v : Option (List ℕ)) (q : PieceName) (es : Pieces)
-    → held (insert_entry order.ghosts.cmp es k v) q ≡ cond (same_piece q k) (Some v) (held es q)
+    → kept_under (insert_entry order.ghosts.cmp es k v) q ≡ cond (same_piece q k) (Some v) (kept_under es q)
 held-write k v q [] = refl
 held-write k v q (e ∷ es) = held_first k v q e es (held-write k v q es) (order.ghosts.cmp k e.0) refl
 
 abbrev pub alone : PieceName → ℕ → PieceName × Option (List ℕ)
-alone name number = (numbered name number, None)
+alone name number = (with_number name number, None)
 
 held-alone : (name q : PieceName) (ns : List ℕ) (es : Pieces)
-    → held (with_all order.ghosts.cmp es (map (alone name) ns)) q
-    ≡ cond (list_any (λ (n : ℕ). same_piece q (numbered name n)) ns) (Some None) (held es q)
+    → kept_under (with_all order.ghosts.cmp es (map (alone name) ns)) q
+    ≡ cond (list_any (λ (n : ℕ). same_piece q (with_number name n)) ns) (Some None) (kept_under es q)
 held-alone name q [] es = refl
 held-alone name q (n ∷ ns) es =
-    let later = held-alone name q ns (insert_entry order.ghosts.cmp es (numbered name n) None) in
-    let here = held-write (numbered name n) None q es in
-    elim (cases_Bool (same_piece q (numbered name n))) [
-      | inl t ↦ elim (cases_Bool (list_any (λ (k : ℕ). same_piece q (numbered name k)) ns)) [
+    let later = held-alone name q ns (insert_entry order.ghosts.cmp es (with_number name n) None) in
+    let here = held-write (with_number name n) None q es in
+    elim (cases_Bool (same_piece q (with_number name n))) [
+      | inl t ↦ elim (cases_Bool (list_any (λ (k : ℕ). same_piece q (with_number name k)) ns)) [
         | inl more ↦ rw t (later ∙ rw more refl)
         | inr none ↦ rw t (later ∙ rw none (here ∙ rw t refl))
       ]
-      | inr f ↦ rw f (later ∙ ap (cond (list_any (λ (k : ℕ). same_piece q (numbered name k)) ns) (Some None))
+      | inr f ↦ rw f (later ∙ ap (cond (list_any (λ (k : ℕ). same_piece q (with_number name k)) ns) (Some None))
           (here ∙ rw f refl))
     ]
 
 any_number : (name q : PieceName)
-    → list_any (λ (n : ℕ). same_piece q (numbered name n)) (range_with_len 1 name.count) ≡ is_number_of name q
+    → list_any (λ (n : ℕ). same_piece q (with_number name n)) (range_with_len 1 name.count) ≡ is_number_of name q
 any_number name q = bool_same _ _
-    (λ (any : list_any (λ (n : ℕ). same_piece q (numbered name n)) (range_with_len 1 name.count) ≡ true).
-    let some = any_in (λ (n : ℕ). same_piece q (numbered name n)) (range_with_len 1 name.count) any in
-    let same : q ≡ numbered name some.0 = same-is q (numbered name some.0) some.2 in
+    (λ (any : list_any (λ (n : ℕ). same_piece q (with_number name n)) (range_with_len 1 name.count) ≡ true).
+    let some = any_in (λ (n : ℕ). same_piece q (with_number name n)) (range_with_len 1 name.count) any in
+    let same : q ≡ with_number name some.0 = same-is q (with_number name some.0) some.2 in
     let number : some.0 ≡ q.number = ap (λ (p : PieceName). p.number) (sym same) in
     let within = in_range some.0 1 name.count some.1 in
-    and_from _ _ (and_from _ _ (ap (λ (n : ℕ). same_piece q (numbered name n)) (sym number) ∙ some.2)
+    and_from _ _ (and_from _ _ (ap (λ (n : ℕ). same_piece q (with_number name n)) (sym number) ∙ some.2)
     (le-leb 1 q.number (omega arith))) (le-leb q.number name.count (omega arith)))
     (λ (is : is_number_of name q ≡ true).
     let both = and_parts _ _ is in
     let parts = and_parts _ _ both.0 in
     let least = leb-true 1 q.number parts.1 in
     let most = leb-true q.number name.count both.1 in
-    in_any (λ (n : ℕ). same_piece q (numbered name n)) q.number (range_with_len 1 name.count)
+    in_any (λ (n : ℕ). same_piece q (with_number name n)) q.number (range_with_len 1 name.count)
     (range_has q.number 1 name.count least (omega arith)) parts.0)
 
 -- what is held after the numbers of a file were written alone
 pub held-numbers : (name q : PieceName) (es : Pieces)
-    → held (with_all order.ghosts.cmp es (map (alone name) (range_with_len 1 name.count))) q
-    ≡ cond (is_number_of name q) (Some None) (held es q)
+    → kept_under (with_all order.ghosts.cmp es (map (alone name) (range_with_len 1 name.count))) q
+    ≡ cond (is_number_of name q) (Some None) (kept_under es q)
 held-numbers name q es = held-alone name q (range_with_len 1 name.count) es
-    ∙ ap (λ (b : Bool). cond b (Some None) (held es q)) (any_number name q)
+    ∙ ap (λ (b : Bool). cond b (Some None) (kept_under es q)) (any_number name q)
 
 pub alone_more : (name : PieceName) (n : ℕ) (old new : Pieces) (k : PieceName) → new ≡ old ++ (k, None) ∷ []
-    → old ≡ map (alone name) (range_with_len 1 n) → k ≡ numbered name (n + 1) → new ≡ map (alone name)
+    → old ≡ map (alone name) (range_with_len 1 n) → k ≡ with_number name (n + 1) → new ≡ map (alone name)
     (range_with_len 1 (n + 1))
 alone_more name n old new k e was is =
     e ∙ rw (was, is) (sym (map-range_with_len_more (alone name) 1 n (n + 1) (omega arith)))
 
 -- what is held after a segment was taken that makes its file whole, and after one that waits
-pub whole-held : (old new pairs : Pieces) (name : PieceName) (payload : List ℕ) → is_some (held old name) ≡ false
+pub whole-held : (old new pairs : Pieces) (name : PieceName) (payload : List ℕ) → is_some (kept_under old name) ≡ false
     → others_held old name ≡ true → new ≡ with_all order.ghosts.cmp old pairs
     → pairs ≡ map (alone name) (range_with_len 1 name.count)
-    → (other : PieceName) → held new other ≡ held_with old name payload other
+    → (other : PieceName) → kept_under new other ≡ held_with old name payload other
 whole-held old new pairs name payload fresh others e pairs_are other =
     rw (e, pairs_are, fresh, others) (held-numbers name other old)
 
-pub waits-held : (old new : Pieces) (name : PieceName) (payload bytes : List ℕ) → is_some (held old name) ≡ false
+pub waits-held : (old new : Pieces) (name : PieceName) (payload bytes : List ℕ) → is_some (kept_under old name) ≡ false
     → others_held old name ≡ false → new ≡ insert_entry order.ghosts.cmp old name (Some bytes) → bytes ≡ payload
-    → (other : PieceName) → held new other ≡ held_with old name payload other
+    → (other : PieceName) → kept_under new other ≡ held_with old name payload other
 waits-held old new name payload bytes fresh others e same other =
     rw (e, same, fresh, others) (held-write name (Some payload) other old)

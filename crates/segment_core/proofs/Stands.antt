@@ -10,8 +10,8 @@ use Rattle.std.proofs.lemmas.List.Folds.{find-append, list_any-append}
 use Rattle.list_members.specs.Membership.{IsIn}
 use Rattle.apdu_core.specs.declared.unit.Seg.{Seg}
 use Rattle.uplink_frame.specs.Station.{same_station}
-use Rattle.segment_core.specs.Arrival.{Arrival, is_piece, first_piece, has_piece, bytes_of_piece, joined, other_numbers}
-use Rattle.segment_core.specs.Kept.{Pieces, IsNumbered, held, kept_of, kept_piece, was_whole, numbered, piece_name}
+use Rattle.segment_core.specs.Arrival.{Arrival, is_piece, first_piece, has_piece, bytes_of_piece, joined_payload, other_numbers}
+use Rattle.segment_core.specs.Kept.{Pieces, IsNumbered, kept_under, kept_of, kept_piece, was_whole, with_number, piece_name}
 use Rattle.segment_core.specs.Kept.{arrival_named, fields_of, same_piece}
 use Rattle.segment_core.specs.HeldPieces.{is_held, others_held, bytes_at, held_bytes, joined_held, held_answer}
 use Rattle.segment_core.specs.HeldPieces.{held_with, is_number_of}
@@ -87,7 +87,7 @@ or_none (Some x) = refl
 
 -- an arrival with segment fields is the piece that its name says
 pub is-named : (q : PieceName) (n : ℕ) (a : Arrival) (s : Seg) → a.segmentation ≡ Some s → is q n a
-    ≡ same_piece (numbered q n) (piece_name a s)
+    ≡ same_piece (with_number q n) (piece_name a s)
 is-named q n a s seg =
     ap (is_piece (arrival_named q) (fields_of q) n a) seg
     ∙ ap (λ (b : Bool). same_file_as q a s && b) (same_number s.number n)
@@ -111,16 +111,16 @@ kept_other xs a q none = kept_same (xs ++ a ∷ []) xs q
 pub record IsKnown (pieces : Pieces) (taken : List Arrival) (a : Arrival) (s : Seg) : Type 0 where
   pub segmentation_is : a.segmentation ≡ Some s
   pub number : IsNumbered (piece_name a s)
-  pub keeps : (n : ℕ) → 1 ≤ n → n ≤ s.count → held pieces (numbered (piece_name a s) n)
-      ≡ kept_of taken (numbered (piece_name a s) n)
+  pub keeps : (n : ℕ) → 1 ≤ n → n ≤ s.count → kept_under pieces (with_number (piece_name a s) n)
+      ≡ kept_of taken (with_number (piece_name a s) n)
 
 module _ (pieces : Pieces) (taken : List Arrival) (a : Arrival) (s : Seg) (known : IsKnown pieces taken a s) where
   held-has : (n : ℕ) → 1 ≤ n → n ≤ s.count → is_held pieces (piece_name a s) n ≡ has taken (piece_name a s) n
   held-has n least most = ap is_some (known.keeps n least most)
-      ∙ mapped_some (kept_piece (was_whole taken (numbered (piece_name a s) n))) (first taken (piece_name a s) n)
+      ∙ mapped_some (kept_piece (was_whole taken (with_number (piece_name a s) n))) (first taken (piece_name a s) n)
       ∙ has-first taken (piece_name a s) n
 
-  here : is_some (held pieces (piece_name a s)) ≡ has taken (piece_name a s) s.number
+  here : is_some (kept_under pieces (piece_name a s)) ≡ has taken (piece_name a s) s.number
   here = held-has s.number known.number.0 known.number.1
 
   others : others_held pieces (piece_name a s) ≡ list_all (has taken (piece_name a s)) (other_numbers s)
@@ -130,12 +130,12 @@ module _ (pieces : Pieces) (taken : List Arrival) (a : Arrival) (s : Seg) (known
   is-own : (n : ℕ) → is (piece_name a s) n a ≡ (n == s.number)
   is-own n = bool_same (is (piece_name a s) n a) (n == s.number)
       (λ (e : is (piece_name a s) n a ≡ true).
-      let same = same-is (numbered (piece_name a s) n) (piece_name a s)
+      let same = same-is (with_number (piece_name a s) n) (piece_name a s)
       (sym (is-named (piece_name a s) n a s known.segmentation_is) ∙ e) in
       eq-eqb n s.number (ap (λ (p : PieceName). p.number) same))
       (λ (e : (n == s.number) ≡ true).
       is-named (piece_name a s) n a s known.segmentation_is
-      ∙ ap (λ (k : ℕ). same_piece (numbered (piece_name a s) k) (piece_name a s)) (eqb-true n s.number e)
+      ∙ ap (λ (k : ℕ). same_piece (with_number (piece_name a s) k) (piece_name a s)) (eqb-true n s.number e)
       ∙ same-self (piece_name a s))
 
   -- with others missing, no number of the file was whole before
@@ -164,20 +164,20 @@ module _ (pieces : Pieces) (taken : List Arrival) (a : Arrival) (s : Seg) (known
       → bytes_at pieces (piece_name a s) a.payload n ≡ bytes_of_piece (first (taken ++ a ∷ []) (piece_name a s) n)
   bytes_same new all n least most (inl own) =
       let at : n ≡ s.number = eqb-true n s.number own in
-      cond-true (n == s.number) a.payload (held_bytes (held pieces (numbered (piece_name a s) n))) own
+      cond-true (n == s.number) a.payload (held_bytes (kept_under pieces (with_number (piece_name a s) n))) own
       ∙ ap bytes_of_piece (sym (ap (first (taken ++ a ∷ []) (piece_name a s)) at ∙ first-own new))
   bytes_same new all n least most (inr other) =
       let there : IsIn n (other_numbers s) = others-in s n least most (eqb-false n s.number other) in
       let some : is_some (first taken (piece_name a s) n) ≡ true =
       has-first taken (piece_name a s) n ∙ all_in (has taken (piece_name a s)) n (other_numbers s) all there in
-      cond-false (n == s.number) a.payload (held_bytes (held pieces (numbered (piece_name a s) n))) other
+      cond-false (n == s.number) a.payload (held_bytes (kept_under pieces (with_number (piece_name a s) n))) other
       ∙ ap held_bytes (known.keeps n least most
       ∙ ap (λ (b : Bool). option_map (kept_piece b) (first taken (piece_name a s) n)) (not_whole new))
       ∙ bytes_first (first taken (piece_name a s) n) some
       ∙ ap bytes_of_piece (sym (first-other n other))
 
   joins : has taken (piece_name a s) s.number ≡ false → list_all (has taken (piece_name a s)) (other_numbers s) ≡ true
-      → joined_held pieces (piece_name a s) a.payload ≡ joined (taken ++ a ∷ []) a s
+      → joined_held pieces (piece_name a s) a.payload ≡ joined_payload (taken ++ a ∷ []) a s
   joins new all = flat_map_same (bytes_at pieces (piece_name a s) a.payload)
       (λ (n : ℕ). bytes_of_piece (first (taken ++ a ∷ []) (piece_name a s) n))
       (range_with_len 1 s.count) (λ n there.
@@ -203,8 +203,8 @@ module _ (pieces : Pieces) (taken : List Arrival) (a : Arrival) (s : Seg) (known
   has-all n = has-with taken a (piece_name a s) n ∙ ap (λ (b : Bool). has taken (piece_name a s) n || b) (is-own n)
 
   abbrev pub Keeps : ℕ → Type 0
-  Keeps n = held_with pieces (piece_name a s) a.payload (numbered (piece_name a s) n) ≡ kept_of (taken ++ a ∷ [])
-      (numbered (piece_name a s) n)
+  Keeps n = held_with pieces (piece_name a s) a.payload (with_number (piece_name a s) n) ≡ kept_of (taken ++ a ∷ [])
+      (with_number (piece_name a s) n)
 
   keeps_again : has taken (piece_name a s) s.number ≡ true → (n : ℕ) → 1 ≤ n → n ≤ s.count → Keeps n
   keeps_again again n least most =
@@ -225,7 +225,7 @@ module _ (pieces : Pieces) (taken : List Arrival) (a : Arrival) (s : Seg) (known
         | inr other ↦ first-other n other
       ] in
       rw (here, again) (known.keeps n least most
-      ∙ sym (kept_same (taken ++ a ∷ []) taken (numbered (piece_name a s) n) same_first each))
+      ∙ sym (kept_same (taken ++ a ∷ []) taken (with_number (piece_name a s) n) same_first each))
 
   keeps_whole : has taken (piece_name a s) s.number ≡ false → list_all (has taken (piece_name a s)) (other_numbers s) ≡ true
       → (n : ℕ) → 1 ≤ n → n ≤ s.count → Keeps n
@@ -243,8 +243,8 @@ module _ (pieces : Pieces) (taken : List Arrival) (a : Arrival) (s : Seg) (known
       each k within.0 (omega arith)) in
       let some : is_some (first (taken ++ a ∷ []) (piece_name a s) n) ≡ true = has-first (taken ++ a ∷ [])
       (piece_name a s) n ∙ each n least most in
-      let is_number : is_number_of (piece_name a s) (numbered (piece_name a s) n) ≡ true =
-      and_from _ _ (and_from _ _ (same-self (numbered (piece_name a s) n)) (le-leb 1 n least)) (le-leb n s.count most) in
+      let is_number : is_number_of (piece_name a s) (with_number (piece_name a s) n) ≡ true =
+      and_from _ _ (and_from _ _ (same-self (with_number (piece_name a s) n)) (le-leb 1 n least)) (le-leb n s.count most) in
       rw (here, new, others, all, is_number, whole) (sym (alone_kept (first (taken ++ a ∷ []) (piece_name a s) n) some))
 
   keeps_waits : has taken (piece_name a s) s.number ≡ false → list_all (has taken (piece_name a s)) (other_numbers s) ≡ false
@@ -260,13 +260,13 @@ module _ (pieces : Pieces) (taken : List Arrival) (a : Arrival) (s : Seg) (known
       elim (cases_Bool (n == s.number)) [
         | inl own ↦
             let at : n ≡ s.number = eqb-true n s.number own in
-            let same : same_piece (numbered (piece_name a s) n) (piece_name a s) ≡ true =
-            ap (λ (k : ℕ). same_piece (numbered (piece_name a s) k) (piece_name a s)) at ∙ same-self (piece_name a s) in
+            let same : same_piece (with_number (piece_name a s) n) (piece_name a s) ≡ true =
+            ap (λ (k : ℕ). same_piece (with_number (piece_name a s) k) (piece_name a s)) at ∙ same-self (piece_name a s) in
             let first_is : first (taken ++ a ∷ []) (piece_name a s) n ≡ Some a =
             ap (first (taken ++ a ∷ []) (piece_name a s)) at ∙ first-own new in
             rw (here, new, others, waits, same, unwhole, first_is) refl
         | inr other ↦
-            let differs : same_piece (numbered (piece_name a s) n) (piece_name a s) ≡ false =
+            let differs : same_piece (with_number (piece_name a s) n) (piece_name a s) ≡ false =
             sym (is-named (piece_name a s) n a s known.segmentation_is) ∙ is-own n ∙ other in
             rw (here, new, others, waits, differs, unwhole, first-other n other)
             (known.keeps n least most ∙ ap (λ (b : Bool). option_map (kept_piece b) (first taken (piece_name a s) n))

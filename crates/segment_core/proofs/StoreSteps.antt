@@ -6,9 +6,9 @@ use Rattle.std.proofs.lemmas.Bool.{false_from_ne_true}
 use Rattle.std.proofs.lemmas.Map.Entries.{lookup-filter-keys}
 use Rattle.apdu_core.specs.declared.unit.Seg.{Seg}
 use Rattle.segment_core.specs.Arrival.{Arrival, is_piece}
-use Rattle.segment_core.specs.Kept.{Pieces, IsNumbered, held, kept_of, numbered, piece_name, arrival_named, fields_of}
+use Rattle.segment_core.specs.Kept.{Pieces, IsNumbered, kept_under, kept_of, with_number, piece_name, arrival_named, fields_of}
 use Rattle.segment_core.specs.Kept.{same_piece}
-use Rattle.segment_core.specs.HeldPieces.{others_held, held_with, is_number_of, held_answer, brought, held_after}
+use Rattle.segment_core.specs.HeldPieces.{others_held, held_with, is_number_of, held_answer, arrival_answer, held_after}
 use Rattle.segment_core.specs.Store.{Store, StandsFor, IsNotBefore, FitsFile, live_answer, answer_of, taken_with}
 use Rattle.segment_core.specs.Store.{is_live, is_live_at, longest_of, live_pieces}
 use Rattle.segment_core.specs.declared.piece_name.PieceName.{PieceName}
@@ -18,7 +18,7 @@ use Rattle.segment_core.proofs.PieceNames.{same-is, same-self}
 use Rattle.segment_core.proofs.Stands.{IsKnown, answers, keeps_file, is-named, kept_other}
 
 pub stands-new : (longest : Longest) → StandsFor (record { longest = longest; clock = None; pieces = [] }) []
-stands-new longest = record { keeps = λ name number live. refl; numbered = λ name some. absurd (cc) }
+stands-new longest = record { keeps = λ name number live. refl; with_number = λ name some. absurd (cc) }
 
 -- what is live later was live before
 earlier-live : (longest : Longest) (clock : Option ℕ) (moment : ℕ) (name : PieceName) → IsNotBefore clock moment
@@ -58,33 +58,33 @@ known-file : (longest : Longest) (clock : Option ℕ) (moment : ℕ) (pieces : P
 known-file longest clock moment pieces taken a s seg number after live stands = record {
   segmentation_is = seg;
   number = number;
-  keeps = λ n least most. stands.keeps (numbered (piece_name a s) n) (least, most)
-      (earlier-live longest clock moment (numbered (piece_name a s) n) after live);
+  keeps = λ n least most. stands.keeps (with_number (piece_name a s) n) (least, most)
+      (earlier-live longest clock moment (with_number (piece_name a s) n) after live);
 }
 
 -- a name is one of the file's where it has its fields
-other-name : (name q : PieceName) → same_piece q (numbered name q.number) ≡ false → same_piece q name ≡ false
+other-name : (name q : PieceName) → same_piece q (with_number name q.number) ≡ false → same_piece q name ≡ false
 other-name name q differs = false_from_ne_true (same_piece q name) (λ (e : same_piece q name ≡ true).
     let same : q ≡ name = same-is q name e in
-    let at : numbered name q.number ≡ name = ap (numbered name) (ap (λ (p : PieceName). p.number) same) in
-    let tied : same_piece q (numbered name q.number) ≡ true = ap (same_piece q) at ∙ e in
+    let at : with_number name q.number ≡ name = ap (with_number name) (ap (λ (p : PieceName). p.number) same) in
+    let tied : same_piece q (with_number name q.number) ≡ true = ap (same_piece q) at ∙ e in
     absurd (cc))
 
-other-file : (name q : PieceName) (n : ℕ) → same_piece q (numbered name q.number) ≡ false → same_piece (numbered q n) name
+other-file : (name q : PieceName) (n : ℕ) → same_piece q (with_number name q.number) ≡ false → same_piece (with_number q n) name
     ≡ false
-other-file name q n differs = false_from_ne_true (same_piece (numbered q n) name)
-    (λ (e : same_piece (numbered q n) name ≡ true).
-    let same : numbered q n ≡ name = same-is (numbered q n) name e in
-    let at : q ≡ numbered name q.number = ap (λ (p : PieceName). numbered p q.number) same in
-    let tied : same_piece q (numbered name q.number) ≡ true = sym (ap (same_piece q) at) ∙ same-self q in
+other-file name q n differs = false_from_ne_true (same_piece (with_number q n) name)
+    (λ (e : same_piece (with_number q n) name ≡ true).
+    let same : with_number q n ≡ name = same-is (with_number q n) name e in
+    let at : q ≡ with_number name q.number = ap (λ (p : PieceName). with_number p q.number) same in
+    let tied : same_piece q (with_number name q.number) ≡ true = sym (ap (same_piece q) at) ∙ same-self q in
     absurd (cc))
 
-held-other : (pieces : Pieces) (name q : PieceName) (payload : List ℕ) → same_piece q (numbered name q.number) ≡ false
-    → held_with pieces name payload q ≡ held pieces q
+held-other : (pieces : Pieces) (name q : PieceName) (payload : List ℕ) → same_piece q (with_number name q.number) ≡ false
+    → held_with pieces name payload q ≡ kept_under pieces q
 held-other pieces name q payload differs =
     let not_number : is_number_of name q ≡ false = and_left _ _ (and_left _ _ differs) in
     let not_name = other-name name q differs in
-    elim (cases_Bool (is_some (held pieces name))) [
+    elim (cases_Bool (is_some (kept_under pieces name))) [
       | inl old ↦ rw old refl
       | inr new ↦ elim (cases_Bool (others_held pieces name)) [
         | inl all ↦ rw (new, all, not_number) refl
@@ -94,16 +94,16 @@ held-other pieces name q payload differs =
 
 -- what holds of each name that is held, of the numbers of the file and of this name holds of each that is held then
 pub held-each : (P : PieceName → Type 0) (pieces : Pieces) (name q : PieceName) (payload : List ℕ)
-    → ((n : ℕ) → 1 ≤ n → n ≤ name.count → P (numbered name n)) → P name
-    → (is_some (held pieces q) ≡ true → P q) → is_some (held_with pieces name payload q) ≡ true → P q
-held-each P pieces name q payload numbers own before some = elim (cases_Bool (is_some (held pieces name))) [
-  | inl old ↦ before (sym (ap is_some (cond-true _ (held pieces q) _ old)) ∙ some)
+    → ((n : ℕ) → 1 ≤ n → n ≤ name.count → P (with_number name n)) → P name
+    → (is_some (kept_under pieces q) ≡ true → P q) → is_some (held_with pieces name payload q) ≡ true → P q
+held-each P pieces name q payload numbers own before some = elim (cases_Bool (is_some (kept_under pieces name))) [
+  | inl old ↦ before (sym (ap is_some (cond-true _ (kept_under pieces q) _ old)) ∙ some)
   | inr new ↦ elim (cases_Bool (others_held pieces name)) [
     | inl all ↦ elim (cases_Bool (is_number_of name q)) [
       | inl is ↦
           let both = and_parts _ _ is in
           let parts = and_parts _ _ both.0 in
-          let same : q ≡ numbered name q.number = same-is q (numbered name q.number) parts.0 in
+          let same : q ≡ with_number name q.number = same-is q (with_number name q.number) parts.0 in
           subst P (sym same) (numbers q.number (leb-true 1 q.number parts.1) (leb-true q.number name.count both.1))
       | inr not ↦ before (let was = rw (new, all, not) at some in was)
     ]
@@ -115,7 +115,7 @@ held-each P pieces name q payload numbers own before some = elim (cases_Bool (is
 ]
 
 held-numbered : (pieces : Pieces) (name q : PieceName) (payload : List ℕ) → IsNumbered name
-    → (is_some (held pieces q) ≡ true → IsNumbered q) → is_some (held_with pieces name payload q) ≡ true → IsNumbered q
+    → (is_some (kept_under pieces q) ≡ true → IsNumbered q) → is_some (held_with pieces name payload q) ≡ true → IsNumbered q
 held-numbered pieces name q payload number =
     held-each IsNumbered pieces name q payload (λ n least most. (least, most)) number
 
@@ -124,14 +124,14 @@ pub stands-piece : (longest : Longest) (clock : Option ℕ) (moment : ℕ) (piec
     (a : Arrival) (s : Seg)
     → a.segmentation ≡ Some s → IsNumbered (piece_name a s) → IsNotBefore clock moment
     → is_live longest moment a.product a.version ≡ true
-    → ((q : PieceName) → held later q ≡ held_with pieces (piece_name a s) a.payload q)
+    → ((q : PieceName) → kept_under later q ≡ held_with pieces (piece_name a s) a.payload q)
     → StandsFor (store longest clock pieces) taken → StandsFor (store longest (Some moment) later) (taken ++ a ∷ [])
 stands-piece longest clock moment pieces later taken a s seg number after live becomes stands =
     let known = known-file longest clock moment pieces taken a s seg number after live stands in
     record {
-      keeps = λ q q_number q_live. elim (cases_Bool (same_piece q (numbered (piece_name a s) q.number))) [
+      keeps = λ q q_number q_live. elim (cases_Bool (same_piece q (with_number (piece_name a s) q.number))) [
         | inl is ↦
-            let same : q ≡ numbered (piece_name a s) q.number = same-is q (numbered (piece_name a s) q.number) is in
+            let same : q ≡ with_number (piece_name a s) q.number = same-is q (with_number (piece_name a s) q.number) is in
             let count : q.count ≡ s.count = ap (λ (p : PieceName). p.count) same in
             let most : q.number ≤ s.count = (let bound = q_number.1 in omega arith) in
             becomes q
@@ -159,7 +159,7 @@ answer-piece longest clock moment pieces taken a s seg number after live stands 
     ∙ sym (cond-true (is_live longest moment a.product a.version) (live_answer taken a a.segmentation) Stale live)
 
 held-live : (longest : Longest) (moment : ℕ) (pieces : Pieces) (q : PieceName)
-    → held (live_pieces longest moment pieces) q ≡ cond (is_live longest moment q.product q.version) (held pieces q) None
+    → kept_under (live_pieces longest moment pieces) q ≡ cond (is_live longest moment q.product q.version) (kept_under pieces q) None
 held-live longest moment pieces q =
     lookup-filter-keys (same_piece q) (λ (k : PieceName). is_live longest moment k.product k.version)
     (is_live longest moment q.product q.version)
@@ -172,16 +172,16 @@ pub stands-purged : (longest : Longest) (clock : Option ℕ) (moment : ℕ) (pie
 stands-purged longest clock moment pieces taken after stands = record {
   keeps = λ name number live.
       held-live longest moment pieces name ∙ cond-true (is_live longest moment name.product name.version)
-      (held pieces name) None live
+      (kept_under pieces name) None live
       ∙ stands.keeps name number (earlier-live longest clock moment name after live);
   numbered = λ name some. elim (cases_Bool (is_live longest moment name.product name.version)) [
     | inl live ↦ stands.numbered name
         (sym (ap is_some (held-live longest moment pieces name
-        ∙ cond-true (is_live longest moment name.product name.version) (held pieces name) None live)) ∙ some)
+        ∙ cond-true (is_live longest moment name.product name.version) (kept_under pieces name) None live)) ∙ some)
     | inr stale ↦
         let gone : false ≡ true =
         sym (ap is_some (held-live longest moment pieces name
-        ∙ cond-false (is_live longest moment name.product name.version) (held pieces name) None stale)) ∙ some in
+        ∙ cond-false (is_live longest moment name.product name.version) (kept_under pieces name) None stale)) ∙ some in
         absurd (cc)
   ];
 }
@@ -190,7 +190,7 @@ stands-purged longest clock moment pieces taken after stands = record {
 pub answer-live : (longest : Longest) (clock : Option ℕ) (moment : ℕ) (pieces : Pieces) (taken : List Arrival) (a : Arrival)
     (o : Option Seg)
     → a.segmentation ≡ o → FitsFile o → IsNotBefore clock moment → is_live longest moment a.product a.version ≡ true
-    → StandsFor (store longest clock pieces) taken → brought pieces a o ≡ answer_of longest moment taken a
+    → StandsFor (store longest clock pieces) taken → arrival_answer pieces a o ≡ answer_of longest moment taken a
 answer-live longest clock moment pieces taken a None seg fits after live stands =
     sym (ap (live_answer taken a) seg)
     ∙ sym (cond-true (is_live longest moment a.product a.version) (live_answer taken a a.segmentation) Stale live)
@@ -200,7 +200,7 @@ answer-live longest clock moment pieces taken a (Some s) seg fits after live sta
 pub stands-live : (longest : Longest) (clock : Option ℕ) (moment : ℕ) (pieces later : Pieces) (taken : List Arrival)
     (a : Arrival) (o : Option Seg)
     → a.segmentation ≡ o → FitsFile o → IsNotBefore clock moment → is_live longest moment a.product a.version ≡ true
-    → ((q : PieceName) → held later q ≡ held_after pieces a o q)
+    → ((q : PieceName) → kept_under later q ≡ held_after pieces a o q)
     → StandsFor (store longest clock pieces) taken → StandsFor (store longest (Some moment) later) (taken ++ a ∷ [])
 stands-live longest clock moment pieces later taken a None seg fits after live becomes stands =
     let same = stands-whole longest clock moment pieces taken a seg after stands in
@@ -214,7 +214,7 @@ stands-live longest clock moment pieces later taken a (Some s) seg fits after li
 pub takes-live : (longest : Longest) (clock : Option ℕ) (moment : ℕ) (pieces later : Pieces) (taken : List Arrival)
     (a : Arrival)
     → FitsFile a.segmentation → IsNotBefore clock moment → is_live longest moment a.product a.version ≡ true
-    → ((q : PieceName) → held later q ≡ held_after pieces a a.segmentation q)
+    → ((q : PieceName) → kept_under later q ≡ held_after pieces a a.segmentation q)
     → StandsFor (store longest clock pieces) taken → StandsFor (store longest (Some moment) later)
     (taken_with longest moment taken a)
 takes-live longest clock moment pieces later taken a fits after live becomes stands =
@@ -232,12 +232,12 @@ takes-stale longest clock moment pieces taken a after stale stands =
     (stands-later longest clock moment pieces taken after stands)
 
 pub live-purged : (longest : Longest) (moment : ℕ) (pieces : Pieces) (name : PieceName)
-    → is_some (held (live_pieces longest moment pieces) name) ≡ true → is_live longest moment name.product name.version ≡ true
+    → is_some (kept_under (live_pieces longest moment pieces) name) ≡ true → is_live longest moment name.product name.version ≡ true
 live-purged longest moment pieces name some = elim (cases_Bool (is_live longest moment name.product name.version)) [
   | inl live ↦ live
   | inr stale ↦
       let gone : false ≡ true =
       sym (ap is_some (held-live longest moment pieces name
-      ∙ cond-false (is_live longest moment name.product name.version) (held pieces name) None stale)) ∙ some in
+      ∙ cond-false (is_live longest moment name.product name.version) (kept_under pieces name) None stale)) ∙ some in
       absurd (cc)
 ]

@@ -38,8 +38,8 @@ bytes_of_piece None = []
 bytes_of_piece (Some b) = b.payload
 
 -- the first pieces of the file in the order of their numbers
-abbrev pub joined : List Arrival → Arrival → Seg → List ℕ
-joined arrived a s = flat_map (λ number. bytes_of_piece (first_piece arrived a s number)) (range_with_len 1 s.count)
+abbrev pub joined_payload : List Arrival → Arrival → Seg → List ℕ
+joined_payload arrived a s = flat_map (λ number. bytes_of_piece (first_piece arrived a s number)) (range_with_len 1 s.count)
 
 -- a payload that is whole
 pub record Whole : Type 0 where
@@ -55,7 +55,7 @@ whole_with a payload = record { product = a.product; version = a.version; payloa
 abbrev pub completes : List Arrival → Arrival → Option Seg → Option Whole
 completes before a None = Some (whole_with a a.payload)
 completes before a (Some s) = if not (has_piece before a s s.number) && list_all (has_piece before a s) (other_numbers s)
-    then Some (whole_with a (joined (before ++ a ∷ []) a s))
+    then Some (whole_with a (joined_payload (before ++ a ∷ []) a s))
     else None
 
 -- the payloads that further arrivals make whole, in the order in which they do

@@ -4,7 +4,7 @@ use Rattle.std.specs.List.{sum_by}
 use Rattle.std.specs.Map.{values_of}
 use Rattle.std.specs.Option.{option_map}
 use Rattle.segment_core.specs.Arrival.{Arrival, whole_with, completes}
-use Rattle.segment_core.specs.Kept.{Pieces, held}
+use Rattle.segment_core.specs.Kept.{Pieces, kept_under}
 use Rattle.segment_core.specs.Store.{Store, StandsFor, is_live, live_answer}
 use Rattle.segment_core.specs.declared.piece_name.PieceName.{PieceName}
 use Rattle.segment_core.specs.declared.arrived.Longest.{Longest}
@@ -14,13 +14,13 @@ use Rattle.segment_core.specs.declared.arrived.Taken.TheVariants.{Whole, Waits, 
 -- no name stands twice
 abbrev pub AreNamedOnce : Pieces → Type 0
 AreNamedOnce [] = Unit {0}
-AreNamedOnce (e ∷ pieces) = (held pieces e.0 ≡ None) × AreNamedOnce pieces
+AreNamedOnce (e ∷ pieces) = (kept_under pieces e.0 ≡ None) × AreNamedOnce pieces
 
 -- its clock stands at the moment, and it holds nothing that is stale there
 pub record IsPurged (store : Store) (moment : ℕ) : Type 0 where
   pub clock : store.clock ≡ Some moment
   pub once : AreNamedOnce store.pieces
-  pub live : (name : PieceName) → is_some (held store.pieces name) ≡ true
+  pub live : (name : PieceName) → is_some (kept_under store.pieces name) ≡ true
       → is_live store.longest moment name.product name.version ≡ true
 
 abbrev pub piece_size : Option (List ℕ) → ℕ
@@ -44,13 +44,13 @@ StoresAreBounded = (store : Store) (moment : ℕ) (taken : List Arrival) → Sta
     → IsBounded store moment taken
 
 -- the payload of an answer that says that one is whole
-abbrev pub payload_in : Taken → Option (List ℕ)
-payload_in (Whole payload) = Some payload
-payload_in Waits = None
-payload_in Again = None
-payload_in Stale = None
+abbrev pub payload_made_whole : Taken → Option (List ℕ)
+payload_made_whole (Whole payload) = Some payload
+payload_made_whole Waits = None
+payload_made_whole Again = None
+payload_made_whole Stale = None
 
 -- an answer says that a payload is whole exactly where the arrival completes it
 abbrev pub AnswersComplete : Type 0
 AnswersComplete = (taken : List Arrival) (a : Arrival)
-    → completes taken a a.segmentation ≡ option_map (whole_with a) (payload_in (live_answer taken a a.segmentation))
+    → completes taken a a.segmentation ≡ option_map (whole_with a) (payload_made_whole (live_answer taken a a.segmentation))

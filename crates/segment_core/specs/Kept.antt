@@ -20,8 +20,8 @@ piece_name a s = record {
 }
 
 -- another segment of the same file
-abbrev pub numbered : PieceName → ℕ → PieceName
-numbered name number = record {
+abbrev pub with_number : PieceName → ℕ → PieceName
+with_number name number = record {
   station = name.station;
   product = name.product;
   version = name.version;
@@ -55,8 +55,8 @@ IsNumbered name = (1 ≤ name.number) × (name.number ≤ name.count)
 abbrev pub Pieces : Type 0
 Pieces = List (PieceName × Option (List ℕ))
 
-abbrev pub held : Pieces → PieceName → Option (Option (List ℕ))
-held pieces name = lookup (same_piece name) pieces
+abbrev pub kept_under : Pieces → PieceName → Option (Option (List ℕ))
+kept_under pieces name = lookup (same_piece name) pieces
 
 -- each number of the file has arrived
 abbrev pub was_whole : List Arrival → PieceName → Bool

@@ -4,8 +4,8 @@ use Rattle.std.specs.Prelude.{filter, Option, Some, None, is_some}
 use Rattle.std.specs.List.{list_all}
 use Rattle.apdu_core.specs.declared.unit.Seg.{Seg}
 use Rattle.undo_map.specs.Marked.{Marked}
-use Rattle.segment_core.specs.Arrival.{Arrival, has_piece, other_numbers, joined}
-use Rattle.segment_core.specs.Kept.{Pieces, IsNumbered, held, kept_of}
+use Rattle.segment_core.specs.Arrival.{Arrival, has_piece, other_numbers, joined_payload}
+use Rattle.segment_core.specs.Kept.{Pieces, IsNumbered, kept_under, kept_of}
 use Rattle.segment_core.specs.declared.piece_name.PieceName.{PieceName}
 use Rattle.segment_core.specs.declared.arrived.Longest.{Longest}
 use Rattle.segment_core.specs.declared.arrived.Taken.{Taken}
@@ -40,8 +40,13 @@ is_live_at longest (Some moment) name = is_live longest moment name.product name
 -- or the number alone once the file was whole; and it holds no numbers but those of files.
 pub record StandsFor (store : Store) (taken : List Arrival) : Type 0 where
   pub keeps : (name : PieceName) → IsNumbered name → is_live_at store.longest store.clock name ≡ true
-      → held store.pieces name ≡ kept_of taken name
-  pub numbered : (name : PieceName) → is_some (held store.pieces name) ≡ true → IsNumbered name
+      → kept_under store.pieces name ≡ kept_of taken name
+  pub numbered : (name : PieceName) → is_some (kept_under store.pieces name) ≡ true → IsNumbered name
+
+-- the last moment, where this one is below it
+abbrev pub last_above : Option ℕ → ℕ → Option ℕ
+last_above None moment = None
+last_above (Some last) moment = if nat_lt moment last then Some last else None
 
 abbrev pub IsNotBefore : Option ℕ → ℕ → Type 0
 IsNotBefore None moment = Unit {0}
@@ -56,7 +61,7 @@ FitsFile (Some s) = (1 ≤ s.number) × (s.number ≤ s.count) × (s.count ≤ 6
 abbrev pub live_answer : List Arrival → Arrival → Option Seg → Taken
 live_answer taken a None = Whole a.payload
 live_answer taken a (Some s) = if has_piece taken a s s.number then Again
-    else (if list_all (has_piece taken a s) (other_numbers s) then Whole (joined (taken ++ a ∷ []) a s) else Waits)
+    else (if list_all (has_piece taken a s) (other_numbers s) then Whole (joined_payload (taken ++ a ∷ []) a s) else Waits)
 
 abbrev pub answer_of : Longest → ℕ → List Arrival → Arrival → Taken
 answer_of longest moment taken a =
@@ -72,7 +77,7 @@ live_pieces longest moment pieces = filter (λ e. is_live longest moment e.0.pro
 
 -- no piece is of a file that is stale before this second
 abbrev pub AreLiveUntil : Longest → ℕ → Pieces → Type 0
-AreLiveUntil longest due pieces = (name : PieceName) → is_some (held pieces name) ≡ true
+AreLiveUntil longest due pieces = (name : PieceName) → is_some (kept_under pieces name) ≡ true
     → due ≤ name.version + longest_of longest name.product
 
 -- the same at the mark too

@@ -3,10 +3,10 @@ ghost use Rattle.std.specs.Prelude.{◌≡◌, ◌+◌, ◌≤◌, IfOk, OnErr, 
 ghost use Rattle.std.specs.List.{range_with_len};
 ghost use Rattle.std.specs.Option.{option_copied};
 ghost use Rattle.segment_core.specs.Bound.{AreNamedOnce};
-ghost use Rattle.segment_core.specs.HeldPieces.{brought, bytes_at, held_after, held_answer};
+ghost use Rattle.segment_core.specs.HeldPieces.{arrival_answer, bytes_at, held_after, held_answer};
 ghost use Rattle.segment_core.specs.HeldPieces.{held_bytes, held_with};
 ghost use Rattle.segment_core.specs.HeldPieces.{joined_held, others_held};
-ghost use Rattle.segment_core.specs.Kept.{IsNumbered, held, numbered};
+ghost use Rattle.segment_core.specs.Kept.{IsNumbered, kept_under, with_number};
 ghost use Rattle.segment_core.specs.Store.{AreMarkedLiveUntil, FitsFile, is_live};
 ghost use Rattle.segment_core.specs.Store.{live_pieces, longest_of};
 ghost use Rattle.segment_core.specs.Views.{arrival_view};
@@ -26,9 +26,9 @@ pub(crate) fn take_live(
     arrived: &Arrived<'_>,
 ) -> Result<Taken, AllocError>
     requires { FitsFile arrived.now.seg }
-    ensures answer { IfOk result (λ taken. taken ≡ brought pieces.old.entries
+    ensures answer { IfOk result (λ taken. taken ≡ arrival_answer pieces.old.entries
         (arrival_view arrived.now) arrived.now.seg) }
-    ensures pieces { IfOk result (λ _. (other : PieceName) → held pieces.new.entries other
+    ensures pieces { IfOk result (λ _. (other : PieceName) → kept_under pieces.new.entries other
         ≡ held_after pieces.old.entries (arrival_view arrived.now)
         arrived.now.seg other) }
     ensures mark { pieces.new.mark ≡ pieces.old.mark }
@@ -36,7 +36,7 @@ pub(crate) fn take_live(
 {
     match arrived.seg {
         None => {
-            let whole = copied(alloc, arrived.payload)?;
+            let whole = copy_of(alloc, arrived.payload)?;
             Ok(Taken::Whole(whole))
         }
         Some(seg) => {
@@ -59,7 +59,7 @@ fn take_piece(
     ensures answer { IfOk result (λ taken. taken
         ≡ held_answer pieces.old.entries name payload.now) }
     ensures pieces { IfOk result (λ _. (other : PieceName) →
-        held pieces.new.entries other ≡ held_with pieces.old.entries name payload.now other) }
+        kept_under pieces.new.entries other ≡ held_with pieces.old.entries name payload.now other) }
     ensures mark { pieces.new.mark ≡ pieces.old.mark }
     ensures err { OnErr result (pieces.new ≡ pieces.old) }
 {
@@ -67,18 +67,18 @@ fn take_piece(
         return Ok(Taken::Again);
     }
     if are_others_held(pieces, &name) {
-        let whole = joined(alloc, pieces, &name, payload)?;
+        let whole = join_pieces(alloc, pieces, &name, payload)?;
         pieces.write_all(numbers_alone(alloc, &name)?)?;
         Ok(Taken::Whole(Bytes::of(whole)))
     } else {
-        let bytes = copied(alloc, payload)?;
+        let bytes = copy_of(alloc, payload)?;
         pieces.write(name, Some(bytes))?;
         Ok(Taken::Waits)
     }
 }
 
 /// A list of the same bytes.
-fn copied(alloc: Global, payload: &[u8]) -> Result<Bytes, AllocError>
+fn copy_of(alloc: Global, payload: &[u8]) -> Result<Bytes, AllocError>
     ensures { IfOk result (λ bytes. bytes ≡ payload.now) }
 {
     let mut bytes = Vec::new(alloc);
@@ -87,20 +87,20 @@ fn copied(alloc: Global, payload: &[u8]) -> Result<Bytes, AllocError>
 }
 
 /// What is held under a name: its piece, or the name alone.
-fn found<'a>(
+fn kept_under<'a>(
     pieces: &'a UndoMap<PieceName, Option<Bytes>>,
     name: &PieceName,
 ) -> Option<&'a Option<Bytes>>
-    ensures { option_copied result ≡ held pieces.now.entries name.now }
+    ensures { option_copied result ≡ kept_under pieces.now.entries name.now }
 {
     pieces.get(name)
 }
 
 /// Whether a name is held, with its piece or alone.
 fn is_held(pieces: &UndoMap<PieceName, Option<Bytes>>, name: &PieceName) -> bool
-    ensures { result ≡ is_some (held pieces.now.entries name.now) }
+    ensures { result ≡ is_some (kept_under pieces.now.entries name.now) }
 {
-    found(pieces, name).is_some()
+    kept_under(pieces, name).is_some()
 }
 
 /// Whether the other segments of the file are held.
@@ -118,9 +118,9 @@ fn are_others_held(pieces: &UndoMap<PieceName, Option<Bytes>>, name: &PieceName)
 
 /// The bytes of the piece of this name; none where there is no piece.
 fn bytes_of<'a>(pieces: &'a UndoMap<PieceName, Option<Bytes>>, name: &PieceName) -> &'a [u8]
-    ensures { result.now ≡ held_bytes (held pieces.now.entries name.now) }
+    ensures { result.now ≡ held_bytes (kept_under pieces.now.entries name.now) }
 {
-    match found(pieces, name) {
+    match kept_under(pieces, name) {
         Some(Some(bytes)) => bytes.all(),
         Some(None) => &[],
         None => &[],
@@ -144,7 +144,7 @@ fn bytes_at<'a>(
 }
 
 /// The pieces of the file in the order of their numbers, with this one.
-fn joined(
+fn join_pieces(
     alloc: Global,
     pieces: &UndoMap<PieceName, Option<Bytes>>,
     name: &PieceName,
@@ -166,7 +166,7 @@ fn numbers_alone(
     name: &PieceName,
 ) -> Result<Vec<(PieceName, Option<Bytes>)>, AllocError>
     ensures { IfOk result (λ pairs. pairs.items
-        ≡ map (λ number. (numbered name.now number, None)) (range_with_len 1 name.now.count)) }
+        ≡ map (λ number. (with_number name.now number, None)) (range_with_len 1 name.now.count)) }
 {
     let mut pairs = Vec::new(alloc);
     for index in 0..name.count {
@@ -176,7 +176,7 @@ fn numbers_alone(
 }
 
 /// The longest life of a product.
-fn life_of(longest: &Longest, product: u16) -> u64
+fn longest_of(longest: &Longest, product: u16) -> u64
     ensures { result ≡ longest_of longest.now product }
 {
     match product {
@@ -190,7 +190,7 @@ fn life_of(longest: &Longest, product: u16) -> u64
 pub(crate) fn is_live(longest: &Longest, moment: Moment, product: u16, version: Moment) -> bool
     ensures { result ≡ is_live longest.now moment product version }
 {
-    let life = life_of(longest, product);
+    let life = longest_of(longest, product);
     moment < version || moment.seconds() - version.seconds() < life
 }
 
@@ -198,7 +198,7 @@ pub(crate) fn is_live(longest: &Longest, moment: Moment, product: u16, version: 
 pub(crate) fn end_of(longest: &Longest, product: u16, version: Moment) -> u64
     ensures { result ≤ version + longest_of longest.now product }
 {
-    version.seconds().saturating_add(life_of(longest, product))
+    version.seconds().saturating_add(longest_of(longest, product))
 }
 
 /// Drops the pieces of files whose product's longest life has passed, where none is stale before

@@ -1,6 +1,6 @@
 //! What names a piece that is kept.
 ghost use Rattle.std.specs.Prelude.{◌≡◌, IfOk};
-ghost use Rattle.segment_core.specs.Kept.{numbered, piece_name};
+ghost use Rattle.segment_core.specs.Kept.{with_number, piece_name};
 ghost use Rattle.segment_core.specs.Views.{arrival_view};
 
 use crate::arrived::Arrived;
@@ -46,7 +46,7 @@ impl PieceName {
 
     /// The name of another segment of the file.
     pub(crate) fn with_number(&self, number: u16) -> PieceName
-        ensures { result ≡ numbered self.now number }
+        ensures { result ≡ with_number self.now number }
     {
         PieceName {
             station: self.station,

@@ -104,7 +104,7 @@ fn word_of(alloc: Global, text: &str) -> Result<Word, KeyFault>
 }
 
 /// The order of two keys, in the words of its definition.
-pub fn order_of_keys(one: &TextKey, other: &TextKey) -> Ordering
+pub fn order_of_text_keys(one: &TextKey, other: &TextKey) -> Ordering
     ensures { result ≡ text_key_cmp (key_view one.now) (key_view other.now) }
 {
     one.cmp(other)

@@ -5,7 +5,7 @@ mod key;
 mod word;
 mod words;
 
-pub use key::{KeyFault, TextKey, key_of, order_of_keys};
+pub use key::{KeyFault, TextKey, key_of, order_of_text_keys};
 pub use word::Word;
 
 #[cfg(test)]

@@ -1,4 +1,4 @@
-use crate::{KeyFault, TextKey, key_of, order_of_keys};
+use crate::{KeyFault, TextKey, key_of, order_of_text_keys};
 use life_table::LifeTable;
 use std::alloc::Global;
 use std::cmp::Ordering;
@@ -82,7 +82,7 @@ fn texts_without_a_key_are_told(rt: HostRuntime) {
 
 /// How the keys of two texts are ordered.
 fn order(alloc: Global, one: &str, other: &str) -> Result<Ordering, KeyFault> {
-    Ok(order_of_keys(&key(alloc, one)?, &key(alloc, other)?))
+    Ok(order_of_text_keys(&key(alloc, one)?, &key(alloc, other)?))
 }
 
 #[test]

@@ -17,7 +17,7 @@ returns c = pictures-agree (record {
     grows = c.completed_grows.ensures;
   };
   pictures = record {
-    same_keys = c.order_of_keys.ensures.same;
+    same_keys = c.keys_are_ordered.ensures.same;
     is_newest = c.shown_is_newest.ensures.is;
     some = c.shown_is_newest.ensures.some;
     step = c.same_pictures.ensures.step;

@@ -8,5 +8,5 @@ returns c = accepted-given (record {
   bytes = c.payload_size.ensures.bytes;
   reads = c.reading_undoes_writing.ensures.text;
   longest_life = c.longest_is_greatest.ensures.texts;
-  same = c.order_of_keys.ensures.same;
+  same = c.keys_are_ordered.ensures.same;
 })

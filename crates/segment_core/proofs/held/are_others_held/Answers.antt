@@ -1,6 +1,6 @@
 use Rattle.std.proofs.Common.{◌+◌, is_some, sym, ap, ◌∙◌, arith}
 use Rattle.segment_core.specs.Arrival.{other_numbers}
-use Rattle.segment_core.specs.Kept.{fields_of, held}
+use Rattle.segment_core.specs.Kept.{fields_of, kept_under}
 use Rattle.segment_core.specs.declared.piece_name.PieceName.{PieceName}
 use Rattle.segment_core.specs.HeldPieces.{is_held}
 use Rattle.segment_core.proofs.Ranges.{in_all, not_all}
@@ -12,7 +12,7 @@ returns-then-not-is_held c =
     sym (not_all (is_held c.args.pieces.now.entries c.args.name.now) (c.loop-index.index + 1)
     (other_numbers (fields_of c.args.name.now))
     (others-in (fields_of c.args.name.now) (c.loop-index.index + 1) (omega arith) (omega arith) c.if-number-name.true)
-    (ap (λ (name : PieceName). is_some (held c.args.pieces.now.entries name)) (sym c.with_number.ensures)
+    (ap (λ (name : PieceName). is_some (kept_under c.args.pieces.now.entries name)) (sym c.with_number.ensures)
     ∙ sym c.is_held.ensures ∙ c.if-not-is_held.true))
 
 pub returns : goal.returns

@@ -1,6 +1,7 @@
 use Rattle.std.proofs.Common.{map, ap, ◌∙◌}
 use Rattle.picture_core.specs.Views.{entry_view}
-use Rattle.receiver_core.specs.Hearing.{last_above, clock_of}
+use Rattle.receiver_core.specs.Hearing.{clock_of}
+use Rattle.segment_core.specs.Store.{last_above}
 use Rattle.fisb_app.specs.Output.{picture_text}
 use Rattle.fisb_app.proofs.Acting.{shown-text}
 use Rattle.fisb_app.proofs.link.Link.show.Goals as goal

@@ -4,10 +4,11 @@ use Rattle.ground_core.specs.History.{items}
 use Rattle.ground_core.specs.Putting.{IsItemOf}
 use Rattle.ground_core.specs.Refusal.{give_refusal}
 use Rattle.ground_core.specs.StandsFor.{clock_of}
-use Rattle.ground_core.specs.Told.{IsTold, early}
+use Rattle.ground_core.specs.Told.{IsTold}
+use Rattle.segment_core.specs.Store.{last_above}
 use Rattle.ground_core.specs.Update.{text}
 use Rattle.ground_core.specs.Views.{latest_at, count_at}
-use Rattle.ground_core.proofs.Judged.{told_in_time}
+use Rattle.ground_core.proofs.ItemOfText.{told_in_time}
 use Rattle.ground_core.proofs.State.{give_stands, same_stands, clock_below, is_made, refusal_same}
 use Rattle.ground_core.proofs.ground.Ground.give_text.Goals as goal
 
@@ -20,7 +21,7 @@ put-requires c =
 
 pub returns-clause-accepted : goal.returns-clause-accepted
 returns-clause-accepted c table station history s =
-    let in_time : early (clock_of history) c.args.moment ≡ None = search rules in
+    let in_time : last_above (clock_of history) c.args.moment ≡ None = search rules in
     let none : give_refusal table (items table station history) c.args.moment (text c.args.version c.args.text.now) ≡ None
     = sym (refusal_same table station history c.args.moment c.args.version c.args.text.now c.args.self.now c.longest_is_greatest.ensures.texts s (clock_below history c.args.moment in_time)) ∙ c.in_ok-item.ensures.none in
     let made = is_made table station history c.args.moment c.args.version c.args.text.now c.args.self.now c.in_ok-item.item c.longest_is_greatest.ensures.texts s (clock_below history c.args.moment in_time) none
@@ -31,7 +32,7 @@ returns-clause-accepted c table station history s =
 
 pub returns-clause-nothing_against : goal.returns-clause-nothing_against
 returns-clause-nothing_against c table station history s =
-    let in_time : early (clock_of history) c.args.moment ≡ None = search rules in
+    let in_time : last_above (clock_of history) c.args.moment ≡ None = search rules in
     let none : give_refusal table (items table station history) c.args.moment (text c.args.version c.args.text.now) ≡ None
     = sym (refusal_same table station history c.args.moment c.args.version c.args.text.now c.args.self.now c.longest_is_greatest.ensures.texts s (clock_below history c.args.moment in_time)) ∙ c.in_ok-item.ensures.none in
     on_ok_weaker c.put.result (λ p. (in_time, none)) c.put.ensures.ok
@@ -43,7 +44,7 @@ returns-clause-same c table station history s =
 pub returns-in_err-item-clause-refused : goal.returns-in_err-item-clause-refused
 returns-in_err-item-clause-refused c table station history s =
     let p = err_from_is_err_and c.from_residual.result c.from_residual.ensures.1 in
-    let in_time : early (clock_of history) c.args.moment ≡ None = search rules in
+    let in_time : last_above (clock_of history) c.args.moment ≡ None = search rules in
     rw (p.1, p.2) (told_in_time _ _ _ in_time (subst (λ r. IsTold r c.in_err-item.field-0.0)
     (refusal_same table station history c.args.moment c.args.version c.args.text.now c.args.self.now c.longest_is_greatest.ensures.texts s (clock_below history c.args.moment in_time))
     c.in_err-item.ensures.fault))

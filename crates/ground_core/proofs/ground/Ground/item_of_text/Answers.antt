@@ -9,8 +9,8 @@ use Rattle.ground_core.specs.Refusal.{version_refusal}
 use Rattle.ground_core.specs.Told.{IsTold, count_refusal}
 use Rattle.ground_core.specs.Views.{latest_at, count_at}
 use Rattle.ground_core.proofs.Accepted.{text_weather}
-use Rattle.ground_core.proofs.Judged.{life_within, told_behind, judged_by, few_bytes, count_below}
-use Rattle.ground_core.proofs.ground.Ground.judged.Goals as goal
+use Rattle.ground_core.proofs.ItemOfText.{life_within, told_behind, judged_by, few_bytes, count_below}
+use Rattle.ground_core.proofs.ground.Ground.item_of_text.Goals as goal
 
 pub returns-in_err-payload-clause-fault : goal.returns-in_err-payload-clause-fault
 returns-in_err-payload-clause-fault c = let p = err_from_is_err_and c.from_residual.result c.from_residual.ensures.1 in

@@ -1,6 +1,6 @@
 use Rattle.segment_core.specs.HeldPieces.{bytes_at}
 use Rattle.segment_core.proofs.Ranges.{joined_more}
-use Rattle.segment_core.proofs.held.joined.Goals as goal
+use Rattle.segment_core.proofs.held.join_pieces.Goals as goal
 
 pub loop-index-preserved : goal.loop-index-preserved
 loop-index-preserved c =

@@ -1,5 +1,5 @@
 use Rattle.picture_core.proofs.Keys.{key_total, is_eq-key_cmp, same_key-Decides}
-use Rattle.picture_core.proofs.laws.order_of_keys.Goals as goal
+use Rattle.picture_core.proofs.laws.keys_are_ordered.Goals as goal
 
 pub returns-clause-total : goal.returns-clause-total
 returns-clause-total c = key_total
