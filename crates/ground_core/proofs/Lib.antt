@@ -13,7 +13,7 @@ pub mod Placed
 pub mod Turns
 pub mod State
 pub mod OnAir
-pub mod Judged
+pub mod ItemOfText
 pub mod Given
 pub mod Items
 pub mod Stations
