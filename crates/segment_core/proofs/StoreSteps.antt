@@ -18,7 +18,7 @@ use Rattle.segment_core.proofs.PieceNames.{same-is, same-self}
 use Rattle.segment_core.proofs.Stands.{IsKnown, answers, keeps_file, is-named, kept_other}
 
 pub stands-new : (longest : Longest) → StandsFor (record { longest = longest; clock = None; pieces = [] }) []
-stands-new longest = record { keeps = λ name number live. refl; with_number = λ name some. absurd (cc) }
+stands-new longest = record { keeps = λ name number live. refl; numbered = λ name some. absurd (cc) }
 
 -- what is live later was live before
 earlier-live : (longest : Longest) (clock : Option ℕ) (moment : ℕ) (name : PieceName) → IsNotBefore clock moment
