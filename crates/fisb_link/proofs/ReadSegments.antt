@@ -34,7 +34,7 @@ use Rattle.receiver_core.specs.Reception as reception
 use Rattle.receiver_core.specs.declared.unread.UnreadReason.{UnreadReason}
 use Rattle.receiver_core.specs.declared.unread.UnreadReason.TheVariants.{Stale, Product, Files}
 use Rattle.fisb_link.proofs.Layers.{Layers, AreAll, Setting}
-use Rattle.fisb_link.proofs.Numbers.{in_range, range_has}
+use Rattle.list_members.proofs.Ranges.{in_range, range_has}
 
 -- the segment of a file that a segment of an item is
 abbrev pub joint : Segment → joining.Segment

@@ -19,7 +19,7 @@ use Rattle.ground_core.specs.Airing.{Frame, has_key}
 use Rattle.fisb_link.specs.LinkPicture.{Hearing, heard_segments, was_heard, is_whole}
 use Rattle.fisb_link.specs.Hearing.{IsAfterHearings, AreHeard}
 use Rattle.fisb_link.proofs.Layers.{Layers, AreAll, Setting}
-use Rattle.fisb_link.proofs.Numbers.{all_in, in_all}
+use Rattle.list_members.proofs.Ranges.{all_in, in_all}
 use Rattle.fisb_link.proofs.ReadSegments.{joint, own-item, number-within, segments-has}
 use Rattle.fisb_link.proofs.HeardSegments.{fresh, files_heard, fresh-heard, aired-heard, heard-fresh}
 

@@ -1,13 +1,13 @@
 -- A segment that waits comes nearer to the front with each fill.
-use Rattle.std.proofs.Common.{◌≡◌, ℕ, zero, suc, ◌+◌, ◌-◌, ◌*◌, ◌/◌, ◌<◌, ◌≤◌, ◌⊎◌, Bool, true, nat_lt, nat_le, cond, if◌then◌else◌, List, [], ◌∷◌, ◌++◌, length, filter, flat_map, refl, sym, ap, subst, ◌∙◌, inl, inr, arith, append-nil, append_assoc}
+use Rattle.std.proofs.Common.{◌≡◌, ℕ, ◌+◌, ◌-◌, ◌*◌, ◌/◌, ◌<◌, ◌≤◌, ◌⊎◌, Bool, true, nat_lt, nat_le, cond, if◌then◌else◌, List, [], ◌∷◌, ◌++◌, length, filter, flat_map, refl, sym, ap, subst, ◌∙◌, inl, inr, arith, append-nil, append_assoc}
 use Rattle.std.proofs.lemmas.Bool.{cases_Bool, leb-true, leb-false, le-leb, lt-ltb, ltb-true, and_parts, and_from}
 use Rattle.std.proofs.lemmas.List.Elements.{filter-append}
 use Rattle.list_members.specs.Membership.{IsIn}
 use Rattle.list_members.proofs.Members.{IsIn-before, IsIn-after, IsIn-from_filter}
 use Rattle.life_table.specs.LifeTable.{LifeTable}
 use Rattle.uplink_frame.specs.declared.station.StationId.{StationId}
-use Rattle.std.specs.List.{range_with_len}
 use Rattle.list_members.proofs.ListMembers.{in_map}
+use Rattle.list_members.proofs.Ranges.{in_range}
 use Rattle.segment_core.specs.File.{numbers_of, parts_of}
 use Rattle.ground_core.specs.Item.{Weather, Item, Segment, room_of, segments_of, segment_of, file_of, end_of}
 use Rattle.ground_core.specs.Update.{Update, text, weather_of}
@@ -172,19 +172,12 @@ few_fills count bytes s line h = elim h.near [
 ]
 
 -- each segment that was given fits a frame
-in_range : (at n k : ℕ) → IsIn k (range_with_len at n) → (at ≤ k) × (k < at + n)
-in_range at zero k i = absurd i
-in_range at (suc n) k i = elim i [
-  | inl e ↦ (omega arith, omega arith)
-  | inr j ↦ (let both = in_range (at + 1) n k j in (omega (arith, both.0), omega (arith, both.1)))
-]
-
 fits_frame : (all : List Item) (s : Segment) → IsLogged all s → room_of s ≤ 424
 fits_frame all s h =
     let file = file_of s.item in
     let w = in_map (segment_of s.item) s (numbers_of file) h.of_item in
     let same : s.number ≡ w.0 = ap (λ (x : Segment). x.number) w.2 in
-    let range = in_range 1 (length (parts_of file)) w.0 w.1 in
+    let range = in_range w.0 1 (length (parts_of file)) w.1 in
     let fits = part_fits file s.number (omega (arith, range.0, same)) (omega (arith, range.1, same)) in
     omega (arith, fits)
 
