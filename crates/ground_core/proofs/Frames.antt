@@ -21,7 +21,7 @@ use Rattle.ground_core.specs.Broadcast.{StationEvent, IsBroadcast, IsNext, histo
 use Rattle.ground_core.specs.Sound.{IsSound, AcceptedIsGiven, HistoriesHaveItems}
 use Rattle.ground_core.specs.Sent.{IsFrame, FramesReadBack, fisb_frames_of}
 use Rattle.ground_core.proofs.Segments.{body_size, is_segment_of}
-use Rattle.ground_core.proofs.Stations.{station-history, in_all}
+use Rattle.ground_core.proofs.Stations.{station-history, of_all}
 use Rattle.ground_core.proofs.Aired.{fitting-fits, aired-after, items-lead}
 
 -- what the crates below promise of frames and bodies, and this one of items
@@ -104,7 +104,7 @@ new-frame layers table station past moment slot is_table fits next is =
           let aired = aired-after table station before moment s h in
           let item_in = (aired.of_item).item_in in
           record {
-            item_in = in_all layers.stations table past station s.item item_in;
+            item_in = of_all layers.stations table past station s.item item_in;
             of_item = (aired.of_item).of_item;
             of_station = are.of_station s.item item_in;
             not_ahead = items-lead layers.given table station before moment s.item is_table history next.not_before item_in;

@@ -32,7 +32,8 @@ pub fn histories_have_items()
     keys_are_ordered();
 }
 
-/// The law that the items of a broadcast are those of its stations.
+/// The law that each station of a broadcast has a history, and that the items of the broadcast are
+/// those of its stations.
 #[inline]
 pub fn items_are_of_stations()
     ensures { ItemsAreOfStations }
