@@ -2,12 +2,13 @@
 -- longest life of its product has passed.
 use Rattle.std.proofs.Common.{◌≡◌, ℕ, ◌+◌, ◌<◌, ◌≤◌, Bool, true, false, nat_lt, cond, List, length, Option, Some, None, unwrap_or, Result, Ok, Err, refl, sym, ap, subst, ◌∙◌, inl, inr, arith}
 use Rattle.std.specs.Result.{result_ok}
-use Rattle.std.proofs.lemmas.Bool.{cases_Bool, cond-true, cond-false, or_left, or_right, eq-eqb, le-ltb}
+use Rattle.std.proofs.lemmas.Bool.{cases_Bool, cond-true, cond-false, or_cases, eqb-true, le-ltb}
 use Rattle.fisb_time.specs.Moment.{IsMoment}
 use Rattle.fisb_time.specs.TimeFields.{shown}
 use Rattle.fisb_time.specs.Naming.{named, window}
 use Rattle.fisb_time.specs.declared.form.TimeForm.{TimeForm}
 use Rattle.fisb_time.specs.declared.form.TimeForm.TheVariants.{Minute, Second, DayMinute, DaySecond}
+use Rattle.life_table.specs.Products.{regional_radar, conus_radar, text_product, is_read_product}
 use Rattle.life_table.specs.LifeTable.{LifeTable, longest}
 use Rattle.life_table.specs.Rules.{IsTable, IsWithinForm}
 use Rattle.apdu_core.specs.declared.unit.Seg.{Seg}
@@ -23,10 +24,8 @@ use Rattle.segment_core.specs.Joining.{arrival_of, segment}
 use Rattle.segment_core.specs.Joining as joining
 use Rattle.ground_core.specs.Item.{Item, Segment, segment_of, segments_of, file_of, body_of}
 use Rattle.ground_core.specs.Airing.{Frame}
-use Rattle.ground_core.specs.Sound.{IsReadProduct}
 use Rattle.ground_core.specs.Sent.{IsAired}
 use Rattle.receiver_core.specs.Reception.{is_large, arrival_with_version, arrival_with_row, arrival_of_apdu, arrival_in}
-use Rattle.segment_core.specs.Store.{is_read_product}
 use Rattle.receiver_core.specs.Reception as reception
 use Rattle.receiver_core.specs.declared.unread.UnreadReason.{UnreadReason}
 use Rattle.receiver_core.specs.declared.unread.UnreadReason.TheVariants.{Stale, Product, Files}
@@ -51,16 +50,15 @@ segments-has layers item n least most =
     (layers.segments item (segment_of item n)).1
     (record { item_is = refl; least = least; most = most })
 
--- the products that are read
-known : (product : ℕ) → IsReadProduct product → is_read_product product ≡ true
-known product (inl e) = or_left _ _ (or_left _ _ (eq-eqb product 63 e))
-known product (inr (inl e)) = or_left _ _ (or_right _ _ (eq-eqb product 64 e))
-known product (inr (inr e)) = or_right _ _ (eq-eqb product 413 e)
-
-product-fits : (product : ℕ) → IsReadProduct product → product < 2048
-product-fits product (inl e) = omega arith
-product-fits product (inr (inl e)) = omega arith
-product-fits product (inr (inr e)) = omega arith
+-- the products that are read have eleven bits
+product-fits : (product : ℕ) → is_read_product product ≡ true → product < 2048
+product-fits product read = elim (or_cases _ _ read) [
+  | inl radar ↦ elim (or_cases _ _ radar) [
+    | inl e ↦ let is = eqb-true product regional_radar e in omega arith
+    | inr e ↦ let is = eqb-true product conus_radar e in omega arith
+  ]
+  | inr e ↦ let is = eqb-true product text_product e in omega arith
+]
 
 -- the fields of a segment
 abbrev fields_of : Item → ℕ → Seg
@@ -171,7 +169,7 @@ arrival-read table all sent frame s received setting aired range after soon =
     (body-back layers table all s are aired.item_in aired.of_item)
     ∙ cond-true (is_read_product w.product)
     (arrival_with_row station received apdu (longest table w.product)) (Err Product)
-    (known w.product sound.product)
+    sound.product
     ∙ ap (arrival_with_row station received apdu) listed.has_row
     ∙ cond-false (is_large apdu.segmentation) (Err Files)
     (arrival_with_version station received apdu life (named w.form apdu.time received))

@@ -147,7 +147,7 @@ text-sound layers table version chars key row is_table moment_is sendable key_is
     let entry = entry_of key version row.life chars in
     let only : (e : Entry) → IsIn e (entry ∷ []) → e ≡ entry = λ e h. in_one e entry h in
     record {
-      product = inr (inr refl);
+      product = refl;
       version = moment_is;
       shown = shown;
       listed = record { longest_life = longest_life.0; has_row = longest_life.1; not_longer = longest_life.2 };

@@ -1,10 +1,10 @@
 //! The ground.
 ghost use Rattle.std.specs.Prelude.{◌≡◌, ℕ, ◌+◌, ◌≤◌, ◌<◌, ◌^◌, ◌∷◌, [], ◌++◌, List, Option, Some, None, true, length, map, IfOk, IfErr, OnOk, OnErr};
 ghost use Rattle.fisb_time.specs.Moment.{IsMoment};
-ghost use Rattle.life_table.specs.LifeTable.{LifeTable as Table};
+ghost use Rattle.life_table.specs.LifeTable.{LifeTable as Table, greatest_life};
 ghost use Rattle.uplink_frame.specs.declared.station.StationId.{StationId as Place};
 ghost use Rattle.uplink_frame.specs.Station.{FitsStation};
-ghost use Rattle.ground_core.specs.History.{Event, accepted, fill, items, greatest_life};
+ghost use Rattle.ground_core.specs.History.{Event, accepted, fill, items};
 ghost use Rattle.segment_core.specs.File as of_file;
 ghost use Rattle.ground_core.specs.Update.{text as text_update};
 ghost use Rattle.ground_core.specs.Refusal.{give_refusal};

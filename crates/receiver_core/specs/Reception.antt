@@ -10,9 +10,9 @@ use Rattle.apdu_core.specs.declared.unit.Seg.{Seg}
 use Rattle.apdu_core.specs.declared.fault.ApduFault.{ApduFault}
 use Rattle.apdu_core.specs.declared.fault.ApduFault.TheVariants as faults
 use Rattle.apdu_core.specs.Apdu.{Apdu, apdu_of}
+use Rattle.life_table.specs.Products.{is_read_product}
 use Rattle.life_table.specs.LifeTable.{LifeTable, longest}
 use Rattle.segment_core.specs.Arrival.{Arrival, Whole, completed}
-use Rattle.segment_core.specs.Store.{is_read_product}
 use Rattle.picture_core.specs.Contents.{payload_entries}
 use Rattle.picture_core.specs.Entry.{Entry}
 use Rattle.picture_core.specs.Picture.{picture}
