@@ -39,6 +39,7 @@ pub record IsSound (table : LifeTable) (w : Weather) : Type 0 where
   pub versions : (e : Entry) → IsIn e w.entries → e.version ≡ w.version
   pub ends : (e : Entry) → IsIn e w.entries → e.until ≡ end_of w
   pub apart : (e f : Entry) → IsIn e w.entries → IsIn f w.entries → e.key ≡ f.key → e ≡ f
+  -- that each part fits a frame with its header is a law of all payloads, `PartsFitFrames` of `segment_core`
   pub few_segments : length (parts w.form w.payload) ≤ 64
 
 -- sound weather that is given in time, has a file number where it needs one, and is newer than all of its keys before

@@ -12,7 +12,7 @@ ghost use Rattle.ground_core.specs.Refusal.{give_refusal};
 use crate::air_frame::{AirFrame, air_of};
 use crate::fault::{FillFault, GiveFault};
 use crate::files::Files;
-use crate::item::{SentItem, count_of, is_segmented};
+use crate::item::SentItem;
 use crate::judging::{file_number, key_of_text, payload_of_text, version_fault};
 use crate::line::Line;
 use crate::newest::{Given, Newest};
@@ -20,6 +20,7 @@ use apdu_core::apdu_reads_back;
 use dlac_text::payload_size;
 use fisb_time::Moment;
 use life_table::{LifeTable, longest_is_greatest};
+use segment_core::{is_segmented, part_count};
 use std::alloc::Global;
 use std::rc::Rc;
 use uplink_frame::{AppData, StationId};
@@ -175,7 +176,12 @@ impl Ground {
     }
 
     /// What is sent of a text, or the first reason against it.
-    fn item_of_text(&self, moment: Moment, version: Moment, text: &str) -> Result<SentItem, GiveFault>
+    fn item_of_text(
+        &self,
+        moment: Moment,
+        version: Moment,
+        text: &str,
+    ) -> Result<SentItem, GiveFault>
         requires { length text.now < 2 ^ 32 }
         ensures item { IfOk result (IsItemOf self.now.table (latest_at self.now.newest)
             (count_at self.now.files) self.now.given
@@ -209,7 +215,7 @@ impl Ground {
             product: REPORTS,
             form: row.form,
             file,
-            count: count_of(row.form, size) as u16,
+            count: part_count(row.form, size),
             key,
             payload,
         })

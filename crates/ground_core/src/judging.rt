@@ -41,7 +41,11 @@ pub(crate) fn payload_of_text(alloc: Global, text: &str) -> Result<Bytes, GiveFa
 }
 
 /// The key of a text, or why it has none.
-pub(crate) fn key_of_text(alloc: Global, table: &LifeTable, text: &str) -> Result<TextKey, GiveFault>
+pub(crate) fn key_of_text(
+    alloc: Global,
+    table: &LifeTable,
+    text: &str,
+) -> Result<TextKey, GiveFault>
     ensures key { IfOk result (λ key. text_key table.now text.now ≡ Ok (key_view key)) }
     ensures fault { IfErr result (λ fault. (latest : Key → Option Latest)
         (count : ℕ → ℕ → ℕ) (moment version : ℕ)

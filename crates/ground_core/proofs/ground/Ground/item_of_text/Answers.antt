@@ -28,8 +28,8 @@ pub overflow_add-result : goal.overflow_add-result
 overflow_add-result c =
     omega (arith, life_within c.args.self.now.table c.all.result.now _ c.in-Some.ensures.rules (sym c.in-Some.ensures.row), c.seconds.ensures.in_range.1)
 
-pub count_of-requires : goal.count_of-requires
-count_of-requires c = few_bytes _ (length c.args.text.now)
+pub part_count-requires : goal.part_count-requires
+part_count-requires c = few_bytes _ (length c.args.text.now)
     (c.len-size.ensures ∙ ap length c.in_ok-payload.ensures.payload ∙ c.payload_size.ensures.size c.args.text.now) c.in_ok-payload.ensures.sendable.1
 
 pub returns-in-Some-version_fault-clause-fault : goal.returns-in-Some-version_fault-clause-fault
