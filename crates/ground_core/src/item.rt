@@ -7,11 +7,7 @@ ghost use Rattle.segment_core.specs.File as of_file;
 use crate::numbered_key::NumberedKey;
 use fisb_time::{Moment, TimeForm};
 use fisb_wire::Bytes;
-<<<<<<< HEAD
 use segment_core::{is_segmented, part_at};
-use text_reports::TextKey;
-=======
->>>>>>> ea4914a5918fcf58b4f5b99485d272821bcf7387
 
 /// What is sent of an update: its key, its version, the end of its life, and its payload, which is cut into segments where
 /// it is longer than one APDU carries.
