@@ -9,6 +9,7 @@ pub mod Queue
 pub mod Numbers
 pub mod Versions
 pub mod MapKeys
+pub mod LatestKeys
 pub mod Placed
 pub mod Turns
 pub mod State

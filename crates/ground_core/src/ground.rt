@@ -16,6 +16,7 @@ use crate::item::SentItem;
 use crate::judging::{file_number, key_of_text, payload_of_text, version_fault};
 use crate::line::Line;
 use crate::newest::{Given, Newest};
+use crate::numbered_key::NumberedKey;
 use apdu_core::apdu_reads_back;
 use dlac_text::payload_size;
 use fisb_time::Moment;
@@ -200,14 +201,16 @@ impl Ground {
         let Some(row) = self.table.text_row(key.kind.all()) else {
             return Err(GiveFault::Unlisted);
         };
+        let Ok(key) = NumberedKey::new(self.alloc, key) else {
+            return Err(GiveFault::NoMemory);
+        };
         let kept = self.newest.version_of(&key);
         if let Some(fault) = version_fault(moment, version, row.form, row.life, kept) {
             return Err(fault);
         }
         let size = payload.len();
         let segmented = is_segmented(row.form, size);
-        let given = self.files.of(version, REPORTS);
-        let file = file_number(segmented, given)?;
+        let file = file_number(&self.files, version, REPORTS, segmented)?;
         Ok(SentItem {
             serial: self.given,
             version,
@@ -232,27 +235,25 @@ impl Ground {
         let Some(given) = self.given.checked_add(1) else {
             return Err(GiveFault::NoMemory);
         };
-        let Ok(()) = self.files.reserve(item.version, item.product) else {
+        let Ok(()) = self.files.reserve(&item) else {
             return Err(GiveFault::NoMemory);
         };
         let Ok(item) = Rc::new(self.alloc, item) else {
             return Err(GiveFault::NoMemory);
         };
-        let Ok(()) = self.newest.reserve(self.alloc, &item.key) else {
-            return Err(GiveFault::NoMemory);
-        };
+        let before = self.line.len();
         let Ok(()) = self.line.put(&item) else {
-            self.newest.release(&item.key);
             return Err(GiveFault::NoMemory);
         };
-        self.newest.put(
-            &item.key,
-            Given {
-                version: item.version,
-                serial: item.serial,
-                until: item.until,
-            },
-        );
+        let last = Given {
+            version: item.version,
+            serial: item.serial,
+            until: item.until,
+        };
+        let Ok(()) = self.newest.put(&item.key, last) else {
+            self.line.keep_first(before);
+            return Err(GiveFault::NoMemory);
+        };
         self.files.count_item(&item);
         self.files.forget(moment, self.life);
         self.given = given;

@@ -4,10 +4,10 @@ ghost use Rattle.fisb_time.specs.TimeForm.{shows};
 ghost use Rattle.segment_core.specs.File.{parts};
 ghost use Rattle.segment_core.specs.File as of_file;
 
+use crate::numbered_key::NumberedKey;
 use fisb_time::{Moment, TimeForm};
 use fisb_wire::Bytes;
 use segment_core::{is_segmented, part_at};
-use text_reports::TextKey;
 
 /// What is sent of an update: its key, its version, the end of its life, and its payload, which is cut into segments where
 /// it is longer than one APDU carries.
@@ -15,7 +15,7 @@ use text_reports::TextKey;
 pub(crate) struct SentItem {
     /// How many items were given before it.
     pub(crate) serial: u64,
-    pub(crate) key: TextKey,
+    pub(crate) key: NumberedKey,
     pub(crate) version: Moment,
     /// The second at which it is no longer sent.
     pub(crate) until: u64,

@@ -10,6 +10,7 @@ mod judging;
 mod laws;
 mod line;
 mod newest;
+mod numbered_key;
 mod place;
 mod queue_laws;
 

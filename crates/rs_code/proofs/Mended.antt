@@ -1,5 +1,5 @@
 -- A word that is near a code word becomes that code word, once the errors at the places of its locator are added.
-use Rattle.std.proofs.Common.{◌≡◌, ℕ, zero, suc, ◌+◌, ◌-◌, ◌*◌, ◌/◌, ◌%◌, ◌<◌, ◌≤◌, List, [], ◌∷◌, ◌++◌, length, get_or, take, lit<, refl, sym, ◌∙◌, ap, ap₂, subst, arith, inl, inr}
+use Rattle.std.proofs.Common.{◌≡◌, ℕ, zero, suc, ◌+◌, ◌*◌, ◌/◌, ◌<◌, ◌≤◌, List, [], ◌∷◌, length, get_or, take, lit<, sym, ◌∙◌, ap, subst, arith}
 use Rattle.std.specs.Int.Bits.{bit_xor, xor_zero_r}
 use Rattle.std.proofs.lemmas.Bool.{leb-true}
 use Rattle.std.proofs.lemmas.List.{get_or-take, length-take-le}
@@ -7,7 +7,7 @@ use Rattle.gf256_core.specs.Field.{IsField}
 use Rattle.poly256.specs.Polynomial.{element_product, element_power}
 use Rattle.poly256.specs.Laws.{HasFewRoots, HasValues}
 use Rattle.rs_code.specs.CodeWord.{IsInstance, IsNear, power_sum, differences, bound}
-use Rattle.rs_code.specs.Mending.{paired, zero_places, points_of, points_sum, with_errors, IsLocator}
+use Rattle.rs_code.specs.Mending.{zero_places, points_of, points_sum, with_errors, IsLocator}
 use Rattle.rs_code.proofs.PowerSums.{power_sum-sum}
 use Rattle.rs_code.proofs.Distance.{difference, length-difference, get_or-difference, weight-difference, weight}
 use Rattle.rs_code.proofs.Pairing.{paired-front, paired-same_below}

@@ -6,8 +6,11 @@ mod generator;
 mod laws;
 mod locator;
 mod mend;
+mod place_powers;
 mod product;
 mod remainder;
+mod root_powers;
+mod rows;
 #[cfg(test)]
 mod tests;
 mod uplink_rows;

@@ -4,6 +4,7 @@ ghost use Rattle.rs_code.specs.CodeWord.{IsInstance, IsNear, differences, power_
 
 use crate::locator::{byte_law, find_locator};
 use crate::product::times;
+use crate::rows::add_to_sums;
 use crate::values::{add_errors, solve};
 use crate::wrong_places::{find_places, write_points};
 use gf256_core::{Uat, UatTables, field_laws};
@@ -25,8 +26,22 @@ fn sum_of_word(word: &[u8], power: usize) -> Uat
     sum
 }
 
-// The values of a word at `ROOTS` powers of 2, from `first` on.
-pub(crate) fn sums_of<const ROOTS: usize>(word: &[u8], first: usize) -> [u8; ROOTS]
+// The values of a word of at most 20 bytes at 2 raised to 120 and to the 31 numbers after it.
+#[inline]
+fn sums_by_rows(word: &[u8]) -> [u8; 32]
+    requires { length word.now ≤ 20 }
+    ensures { (k : ℕ) → k < 32 → slice_index result k ≡ power_sum word.now (120 + k) }
+{
+    field_laws::<UatTables>();
+    let mut sums = [0; 32];
+    for power in 0..word.len() {
+        add_to_sums(&mut sums, word[word.len() - 1 - power], power);
+    }
+    sums
+}
+
+// The values of a word at `ROOTS` powers of 2, from `first` on, one after another.
+fn sums_one_by_one<const ROOTS: usize>(word: &[u8], first: usize) -> [u8; ROOTS]
     requires { first + ROOTS ≤ 255 }
     ensures long { length result ≡ ROOTS }
     ensures sums { (k : ℕ) → k < ROOTS → slice_index result k ≡ power_sum word.now (first + k) }
@@ -36,6 +51,25 @@ pub(crate) fn sums_of<const ROOTS: usize>(word: &[u8], first: usize) -> [u8; ROO
         sums[k] = sum_of_word(word, first + k).byte();
     }
     sums
+}
+
+// The values of a word at `ROOTS` powers of 2, from `first` on.
+#[inline]
+pub(crate) fn sums_of<const ROOTS: usize>(word: &[u8], first: usize) -> [u8; ROOTS]
+    requires { first + ROOTS ≤ 255 }
+    ensures long { length result ≡ ROOTS }
+    ensures sums { (k : ℕ) → k < ROOTS → slice_index result k ≡ power_sum word.now (first + k) }
+{
+    if first == 120 {
+        if ROOTS <= 32 {
+            if word.len() <= 20 {
+                let mut sums = [0; ROOTS];
+                sums.copy_from_slice(&sums_by_rows(word)[..ROOTS]);
+                return sums;
+            }
+        }
+    }
+    sums_one_by_one(word, first)
 }
 
 // In how many places two words of one length differ.

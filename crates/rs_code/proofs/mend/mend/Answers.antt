@@ -1,8 +1,7 @@
-use Rattle.std.proofs.Common.{◌≡◌, ◌<◌, ◌≤◌, ◌+◌, ◌/◌, ◌*◌, ◌++◌, ℕ, List, length, take, drop, get_or, arith, ap, sym, ◌∙◌, subst, rules}
+use Rattle.std.proofs.Common.{◌≡◌, ◌<◌, ◌≤◌, ◌/◌, ◌++◌, ℕ, List, length, take, drop, get_or, arith, ap, sym, ◌∙◌, subst, rules}
 use Rattle.std.proofs.lemmas.List.{length-take-le, take_at}
 use Rattle.poly256.specs.Laws.{AreDifferent}
-use Rattle.poly256.specs.Polynomial.{element_product, element_power}
-use Rattle.rs_code.specs.Mending.{zero_places, points_of, with_errors, IsLocator}
+use Rattle.rs_code.specs.Mending.{points_of, IsLocator}
 use Rattle.rs_code.proofs.Mended.{IsLocatorOf, few_found, mended}
 use Rattle.rs_code.proofs.ZeroPlaces.{zero_points-apart, zero_places-below, length-points_of}
 use Rattle.rs_code.proofs.mend.mend.Goals as goal

@@ -1,6 +1,6 @@
 use Rattle.std.proofs.Common.{◌≡◌, ◌<◌, ◌+◌, ℕ, get_or, length}
 use Rattle.rs_code.specs.CodeWord.{power_sum}
-use Rattle.rs_code.proofs.mend.sums_of.Given as goal
+use Rattle.rs_code.proofs.mend.sums_one_by_one.Given as goal
 
 abbrev pub invariant-loop-k : goal.invariant-loop-k
 invariant-loop-k g l = record {

@@ -1,7 +1,7 @@
-use Rattle.std.proofs.Common.{◌≡◌, ◌+◌, ℕ, arith, ap, sym, ◌∙◌, length-set}
+use Rattle.std.proofs.Common.{◌+◌, ℕ, arith, ◌∙◌, length-set}
 use Rattle.rs_code.specs.CodeWord.{power_sum}
 use Rattle.rs_code.proofs.Places.{set_grows}
-use Rattle.rs_code.proofs.mend.sums_of.Goals as goal
+use Rattle.rs_code.proofs.mend.sums_one_by_one.Goals as goal
 
 pub loop-k-preserved : goal.loop-k-preserved
 loop-k-preserved g c = record {
