@@ -75,6 +75,15 @@ impl Report {
         }
     }
 
+    /// A report without characters, with room for a number of them.
+    pub(crate) fn with_room(alloc: Global, room: usize) -> Result<Report, AllocError>
+        ensures { IfOk result (λ report. report ≡ []) }
+    {
+        Ok(Report {
+            text: String::with_capacity(alloc, room)?,
+        })
+    }
+
     /// Puts a character at the end.
     pub(crate) fn push(&mut self, character: char) -> Result<(), AllocError>
         requires { IsTrue (is_in_alphabet character) }

@@ -16,6 +16,7 @@ pub mod UplinkTable
 pub mod ProductTables
 pub mod PowerRows
 pub mod PointValues
+pub mod Marked
 pub mod Dividing
 pub mod Words
 pub mod Nearest

@@ -5,6 +5,7 @@ mod code;
 mod generator;
 mod laws;
 mod locator;
+mod marks;
 mod mend;
 mod place_powers;
 mod product;

@@ -1,7 +1,7 @@
 //! The wrong places of a word, from its locator.
-ghost use Rattle.std.specs.Prelude.{◌≡◌, ◌<◌, ◌≤◌, ℕ, List, length, slice_index, take};
-ghost use Rattle.poly256.specs.Polynomial.{element_power, value_at};
-ghost use Rattle.rs_code.specs.Mending.{points_of, zero_places};
+ghost use Rattle.std.specs.Prelude.{◌≡◌, ◌<◌, ◌≤◌, length, take};
+ghost use Rattle.poly256.specs.Polynomial.{value_at};
+ghost use Rattle.rs_code.specs.Mending.{points_of, zero_places, AreValues, AreZeros};
 
 use crate::product::times;
 use crate::rows::add_to_values;
@@ -27,7 +27,7 @@ fn value_of(polynomial: &[u8], point: Uat) -> Uat
 // Writes the values of a polynomial at the points of the places of a word.
 fn write_values<const N: usize>(polynomial: &[u8], values: &mut [u8; N])
     requires { N ≤ 255 }
-    ensures { (k : ℕ) → k < N → slice_index values.new k ≡ value_at polynomial.now (element_power 2 k) }
+    ensures { AreValues N polynomial.now values.new }
 {
     for place in 0..N {
         values[place] = value_of(polynomial, Uat::pow_alpha(place as u32)).byte();
@@ -38,7 +38,7 @@ fn write_values<const N: usize>(polynomial: &[u8], values: &mut [u8; N])
 #[inline]
 fn values_by_rows(polynomial: &[u8]) -> [u8; 96]
     requires { length polynomial.now ≤ 11 }
-    ensures { (k : ℕ) → k < 96 → slice_index result k ≡ value_at polynomial.now (element_power 2 k) }
+    ensures { AreValues 96 polynomial.now result }
 {
     field_laws::<UatTables>();
     let mut values = [0; 96];
@@ -54,7 +54,7 @@ fn values_by_rows(polynomial: &[u8]) -> [u8; 96]
 fn find_zeros<const N: usize>(values: &[u8], places: &mut [u8; N]) -> usize
     requires short { N ≤ 255 }
     requires room { N ≤ length values.now }
-    ensures places { (polynomial : List ℕ) → ((k : ℕ) → k < N → slice_index values.now k ≡ value_at polynomial (element_power 2 k)) → take result places.new ≡ zero_places polynomial N }
+    ensures places { AreZeros N values.now (take result places.new) }
     ensures within { result ≤ N }
     ensures long { length places.new ≡ N }
 {
