@@ -27,7 +27,7 @@ pub fn reports(alloc: Global, payload: &[u8]) -> Result<Vec<Report>, AllocError>
 {
     let codes = six_bit_groups(alloc, payload)?;
     let mut found = Vec::new(alloc);
-    let mut text = Report::empty(alloc);
+    let mut text = Report::with_room(alloc, codes.len())?;
     let mut rest = codes.as_slice();
     while let [code, more @ ..] = rest {
         rest = more;

@@ -75,6 +75,15 @@ impl Report {
         }
     }
 
+    /// A report without characters, with room for so many.
+    pub(crate) fn with_room(alloc: Global, characters: usize) -> Result<Report, AllocError>
+        ensures { IfOk result (λ report. report ≡ []) }
+    {
+        Ok(Report {
+            text: String::with_capacity(alloc, characters)?,
+        })
+    }
+
     /// Puts a character at the end.
     pub(crate) fn push(&mut self, character: char) -> Result<(), AllocError>
         requires { IsTrue (is_in_alphabet character) }

@@ -10,8 +10,8 @@ use Rattle.dlac_text.proofs.decoding.reports.Goals as goal
 All-behind : (codes : List ℕ) → All IsSixBits codes → All IsSixBits (behind 1 codes)
 All-behind codes h = All-take IsSixBits _ (drop 1 codes) (All-drop IsSixBits 1 codes h)
 
-pub loop-rest-preserved-in-Continue-branch-2 : goal.loop-rest-preserved-in-Continue-branch-2
-loop-rest-preserved-in-Continue-branch-2 c = record {
+pub loop-rest-preserved-in-Continue-branch-3 : goal.loop-rest-preserved-in-Continue-branch-3
+loop-rest-preserved-in-Continue-branch-3 c = record {
   joined = step_end _ c.loop-rest.found.items _ c.loop-rest.text _ c.loop-rest.rest.now c.in-len1-up.len_at_least c.in-0.is c.loop-rest.invariant.joined c.in_ok-end_report-in-0.ensures.found c.in_ok-end_report-in-0.ensures.begun;
   six_bits = All-behind c.loop-rest.rest.now c.loop-rest.invariant.six_bits;
 }
