@@ -27,12 +27,12 @@ pub fn reports(alloc: Global, payload: &[u8]) -> Result<Vec<Report>, AllocError>
 {
     let codes = six_bit_groups(alloc, payload)?;
     let mut found = Vec::new(alloc);
-    let mut text = Report::with_room(alloc, codes.len())?;
     let mut rest = codes.as_slice();
+    let mut text = Report::with_room(alloc, codes_to_end(rest))?;
     while let [code, more @ ..] = rest {
         rest = more;
         match *code {
-            END | OTHER_END => end_report(alloc, &mut found, &mut text)?,
+            END | OTHER_END => end_report(alloc, &mut found, &mut text, codes_to_end(more))?,
             TAB => {
                 if let [spaces, behind @ ..] = more {
                     text.push_spaces(*spaces)?;
@@ -42,17 +42,33 @@ pub fn reports(alloc: Global, payload: &[u8]) -> Result<Vec<Report>, AllocError>
             symbol => text.push(character_of(symbol))?,
         }
     }
-    end_report(alloc, &mut found, &mut text)?;
+    end_report(alloc, &mut found, &mut text, 0)?;
     Ok(found)
 }
 
-/// Ends a report: puts the text so far behind the reports, unless it is empty, and begins an empty one.
-fn end_report(alloc: Global, found: &mut Vec<Report>, text: &mut Report) -> Result<(), AllocError>
+/// How many codes stand before one that ends a report: but for what a TAB stands for, there are as
+/// many characters.
+fn codes_to_end(codes: &[u8]) -> usize {
+    let end = codes
+        .iter()
+        .position(|code| *code == END || *code == OTHER_END);
+    end.unwrap_or(codes.len())
+}
+
+/// Ends a report: puts the text so far behind the reports, unless it is empty, and begins an empty
+/// one with room for a number of characters.
+fn end_report(
+    alloc: Global,
+    found: &mut Vec<Report>,
+    text: &mut Report,
+    room: usize,
+) -> Result<(), AllocError>
     ensures found { IfOk result (λ _. found.new.items ≡ found.old.items ++ filter has_characters (text.old ∷ [])) }
     ensures begun { IfOk result (λ _. text.new ≡ []) }
 {
     if !text.is_empty() {
-        found.push(mem::replace(text, Report::empty(alloc)))?;
+        let next = Report::with_room(alloc, room)?;
+        found.push(mem::replace(text, next))?;
     }
     Ok(())
 }

@@ -75,12 +75,12 @@ impl Report {
         }
     }
 
-    /// A report without characters, with room for so many.
-    pub(crate) fn with_room(alloc: Global, characters: usize) -> Result<Report, AllocError>
+    /// A report without characters, with room for a number of them.
+    pub(crate) fn with_room(alloc: Global, room: usize) -> Result<Report, AllocError>
         ensures { IfOk result (λ report. report ≡ []) }
     {
         Ok(Report {
-            text: String::with_capacity(alloc, characters)?,
+            text: String::with_capacity(alloc, room)?,
         })
     }
 

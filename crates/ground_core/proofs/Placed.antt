@@ -13,7 +13,6 @@ use Rattle.ground_core.specs.Putting.{IsPut}
 use Rattle.ground_core.specs.Views.{latest_at, pieces_in, piece_at}
 use Rattle.ground_core.specs.declared.item.SentItem.{SentItem}
 use Rattle.ground_core.specs.declared.ground.Ground.{Ground}
-use Rattle.ground_core.proofs.Parts.{parts_some}
 use Rattle.ground_core.proofs.KeyLemmas.{text_key_is}
 
 pub placed_among : (latest : Key → Option Latest) (old new : List Piece) → ((p : Piece) → IsIn p old → IsIn p new) → ArePlaced latest old → ArePlaced latest new
@@ -91,7 +90,6 @@ pub placed_put : (old new : Ground) (moment : ℕ) (item : SentItem) → IsPut o
     → ArePlaced (latest_at new.newest) (pieces_in new.line)
 placed_put old new moment item put h key kept e =
     let own : Key = text_report (report_key item.key) in
-    let some : 1 ≤ item.count = parts_some item.form item.payload item.count item.counted in
     elim (cases_Bool (same_key own key)) [
       | inl t ↦ (
           let one : Some (record { version = item.version; serial = item.serial; until = item.until }) ≡ Some kept
@@ -100,7 +98,7 @@ placed_put old new moment item put h key kept e =
           let serial : item.serial ≡ kept.serial = cc in
           record {
             piece = piece_at item 1;
-            waits = subst (IsIn (piece_at item 1)) (sym put.line) (IsIn-after (piece_at item 1) (pieces_in old.line) _ (first_number (piece_at item) item.count some));
+            waits = subst (IsIn (piece_at item 1)) (sym put.line) (IsIn-after (piece_at item 1) (pieces_in old.line) _ (first_number (piece_at item) item.count item.some));
             serial = serial;
             of_key = inl (sym (same_report (report_key item.key) key t));
           })

@@ -10,7 +10,7 @@ use Rattle.list_members.proofs.Members.{IsIn-before, IsIn-after, IsIn-either}
 use Rattle.list_members.proofs.ListMembers.{in_map}
 use Rattle.fisb_time.specs.Moment.{IsMoment}
 use Rattle.fisb_time.specs.declared.form.TimeForm.{TimeForm}
-use Rattle.life_table.specs.LifeTable.{LifeTable, TextRow, text_row}
+use Rattle.life_table.specs.LifeTable.{LifeTable, TextRow, text_row, greatest_life}
 use Rattle.uplink_frame.specs.declared.station.StationId.{StationId}
 use Rattle.text_reports.specs.TextKey.{TextKey}
 use Rattle.ground_core.specs.NumberedKeys.{report_key}
@@ -19,7 +19,7 @@ use Rattle.segment_core.specs.File as of_file
 use Rattle.picture_core.specs.Key.{Key, radar_block, text_report, same_key}
 use Rattle.ground_core.specs.Item.{Weather, Item, Segment, segments_of, segment_of, is_segmented, file_of}
 use Rattle.ground_core.specs.Update.{text}
-use Rattle.ground_core.specs.History.{Event, accepted, fill, moment_of, items, items_made, new_items, item_of, number_for, greatest_life}
+use Rattle.ground_core.specs.History.{Event, accepted, fill, moment_of, items, items_made, new_items, item_of, number_for}
 use Rattle.ground_core.specs.Airing.{log, waiting, has_key}
 use Rattle.ground_core.specs.Broadcast.{IsNotBefore}
 use Rattle.ground_core.specs.Refusal.{give_refusal}

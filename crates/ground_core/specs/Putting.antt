@@ -6,8 +6,8 @@ use Rattle.life_table.specs.LifeTable.{LifeTable, TextRow, text_row}
 use Rattle.text_reports.specs.TextKey.{text_key}
 use Rattle.ground_core.specs.NumberedKeys.{report_key}
 use Rattle.segment_core.specs.File as of_file
+use Rattle.life_table.specs.Products.{text_product}
 use Rattle.picture_core.specs.Key.{Key, text_report, same_key}
-use Rattle.picture_core.specs.Contents.{text_product}
 use Rattle.ground_core.specs.Piece.{Latest}
 use Rattle.ground_core.specs.Views.{latest_at, count_at, pieces_in, piece_at}
 use Rattle.ground_core.specs.declared.item.SentItem.{SentItem}

@@ -1,10 +1,10 @@
 //! The ground.
 ghost use Rattle.std.specs.Prelude.{◌≡◌, ℕ, ◌+◌, ◌≤◌, ◌<◌, ◌^◌, ◌∷◌, [], ◌++◌, List, Option, Some, None, true, length, map, IfOk, IfErr, OnOk, OnErr};
 ghost use Rattle.fisb_time.specs.Moment.{IsMoment};
-ghost use Rattle.life_table.specs.LifeTable.{LifeTable as Table};
+ghost use Rattle.life_table.specs.LifeTable.{LifeTable as Table, greatest_life};
 ghost use Rattle.uplink_frame.specs.declared.station.StationId.{StationId as Place};
 ghost use Rattle.uplink_frame.specs.Station.{FitsStation};
-ghost use Rattle.ground_core.specs.History.{Event, accepted, fill, items, greatest_life};
+ghost use Rattle.ground_core.specs.History.{Event, accepted, fill, items};
 ghost use Rattle.segment_core.specs.File as of_file;
 ghost use Rattle.ground_core.specs.Update.{text as text_update};
 ghost use Rattle.ground_core.specs.Refusal.{give_refusal};
@@ -12,7 +12,7 @@ ghost use Rattle.ground_core.specs.Refusal.{give_refusal};
 use crate::air_frame::{AirFrame, air_of};
 use crate::fault::{FillFault, GiveFault};
 use crate::files::Files;
-use crate::item::{SentItem, count_of, is_segmented};
+use crate::item::SentItem;
 use crate::judging::{file_number, key_of_text, payload_of_text, version_fault};
 use crate::line::Line;
 use crate::newest::{Given, Newest};
@@ -21,6 +21,7 @@ use apdu_core::apdu_reads_back;
 use dlac_text::payload_size;
 use fisb_time::Moment;
 use life_table::{LifeTable, longest_is_greatest};
+use segment_core::{is_segmented, part_count};
 use std::alloc::Global;
 use std::rc::Rc;
 use uplink_frame::{AppData, StationId};
@@ -217,7 +218,7 @@ impl Ground {
             product: REPORTS,
             form: row.form,
             file,
-            count: count_of(row.form, size) as u16,
+            count: part_count(row.form, size),
             key,
             payload,
         })

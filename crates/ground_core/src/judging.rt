@@ -3,6 +3,7 @@ ghost use Rattle.std.specs.Prelude.{◌≡◌, ℕ, ◌+◌, ◌≤◌, ◌<◌,
 ghost use Rattle.std.specs.Str.{chars};
 ghost use Rattle.fisb_time.specs.TimeForm.{shows};
 ghost use Rattle.dlac_text.specs.Payload.{text_payload};
+ghost use Rattle.life_table.specs.LifeTable.{thirty_days};
 ghost use Rattle.dlac_text.specs.Refusal.{IsSendable, text_refusal};
 ghost use Rattle.text_reports.specs.TextKey.{text_key};
 ghost use Rattle.text_reports.specs.Views.{key_view};
@@ -71,7 +72,7 @@ pub(crate) fn version_fault(
     life: u64,
     kept: Option<Moment>,
 ) -> Option<GiveFault>
-    requires { life ≤ 2592000 }
+    requires { life ≤ thirty_days }
     ensures tells { (w : Weather) (later : Option GiveRefusal)
         → w.form ≡ form → w.version ≡ version → w.life ≡ life
         → IfSome result (λ fault. IsTold (version_refusal moment w kept later) fault) }

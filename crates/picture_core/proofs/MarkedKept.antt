@@ -14,14 +14,6 @@ use Rattle.picture_core.specs.declared.kept.Kept.{Kept}
 use Rattle.picture_core.specs.declared.key.Key.{Key}
 use Rattle.picture_core.proofs.Pictures.{IsIn-from_put}
 
--- what follows from what holds of each
-pub marked-weaker :
-    (P Q : Entry → Type 0) (marked : MarkedEntries) → ((e : Entry) → P e → Q e) → AreMarked P marked → AreMarked Q marked
-marked-weaker P Q marked weaker all = (
-  λ e here. weaker e (all.0 e here),
-  λ mark is e here. weaker e (all.1 mark is e here),
-)
-
 each-put :
     (P : Entry → Type 0) (e : Entry) (es : List Entry) → ((x : Entry) → IsIn x es → P x) → P e
     → (x : Entry) → IsIn x (put e es) → P x
@@ -81,11 +73,3 @@ marked-live P m old new entries mark all =
     (λ x here. all.0 x
     (IsIn-from_filter (λ (e : Entry). nat_lt m e.until) x (marked_entries old).entries
     (subst (λ (es : List Entry). IsIn x es) entries here)).0)
-
--- where none has ended, all live
-pub live_entries-all :
-    (m : ℕ) (es : List Entry) → ((e : Entry) → IsIn e es → m < e.until) → live_entries m es ≡ es
-live_entries-all m [] later = refl
-live_entries-all m (e ∷ es) later =
-    let lives : nat_lt m e.until ≡ true = lt-ltb m e.until (later e (inl refl)) in
-    rw lives (ap (λ (more : List Entry). e ∷ more) (live_entries-all m es (λ x here. later x (inr here))))

@@ -1,5 +1,5 @@
 -- What the types of the code stand for.
-use Rattle.std.specs.Prelude.{◌≡◌, ℕ, ◌≤◌, Bool, true, nat_lt, List, Option, Some, None, map, All}
+use Rattle.std.specs.Prelude.{◌≡◌, ℕ, List, Some, map, All}
 use Rattle.std.specs.Option.{option_map}
 use Rattle.list_members.specs.Membership.{IsIn}
 use Rattle.text_reports.specs.Views.{key_view as text_key_view}
@@ -44,11 +44,6 @@ kept_entry key kept =
 abbrev pub pair_entry : NamedKey × Kept → Entry
 pair_entry pair = kept_entry pair.0 pair.1
 
--- whether a version is newer than what is kept
-abbrev pub is_newer : Option Kept → ℕ → Bool
-is_newer None version = true
-is_newer (Some kept) version = nat_lt kept.version version
-
 -- what a map from keys to what is kept holds
 abbrev pub marked_entries : Marked NamedKey Kept → MarkedEntries
 marked_entries marked = record {
@@ -64,7 +59,3 @@ AreMarked IsSo marked = ((entry : Entry) → IsIn entry marked.entries → IsSo 
 -- the values are of the kinds of their keys
 abbrev pub AreMarkedOfKind : MarkedEntries → Type 0
 AreMarkedOfKind = AreMarked (λ entry. IsOfKind entry.key entry.value)
-
--- none ends before this second
-abbrev pub EndFrom : ℕ → MarkedEntries → Type 0
-EndFrom due = AreMarked (λ entry. due ≤ entry.until)

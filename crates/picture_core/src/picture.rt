@@ -6,21 +6,18 @@ ghost use Rattle.picture_core.specs.Marked.{MarkedEntries};
 ghost use Rattle.picture_core.specs.Views.{entry_view, key_view, shown_value, value_view};
 
 use crate::entries::Entries;
-use crate::kept::{Kept, drop_due, live_pairs, put_kept};
+use crate::kept::{Kept, drop_ended, live_pairs, put_kept};
 use crate::key::Key;
 use crate::shown::Shown;
 use fisb_time::Moment;
 use std::alloc::{AllocError, Global};
 use std::marker::Model;
-use undo_map::UndoMap;
+use undo_map::LastingMap;
 
 /// The newest versions that came, at most one under each key.
 #[derive(Drop)]
 pub struct Picture {
-    kept: UndoMap<Key, Kept>,
-    /// No kept entry ends before this second, and none at the mark: until then nothing is to be
-    /// purged, and no purge has to look.
-    due: u64,
+    kept: LastingMap<Key, Kept>,
 }
 
 impl Model for Picture {
@@ -28,12 +25,11 @@ impl Model for Picture {
 
     ghost Value = { MarkedEntries };
 
-    ghost use Rattle.picture_core.specs.Views.{AreMarkedOfKind, EndFrom, marked_entries};
+    ghost use Rattle.picture_core.specs.Views.{AreMarkedOfKind, marked_entries};
 
     ghost view = { λ p. marked_entries p.kept };
 
-    ghost invariant = { λ p.
-        AreMarkedOfKind (marked_entries p.kept) × EndFrom p.due (marked_entries p.kept) };
+    ghost invariant = { λ p. AreMarkedOfKind (marked_entries p.kept) };
 }
 
 impl Picture {
@@ -42,8 +38,7 @@ impl Picture {
         ensures { result ≡ record { entries = []; mark = None } }
     {
         Picture {
-            kept: UndoMap::new(alloc),
-            due: u64::MAX,
+            kept: LastingMap::new(alloc),
         }
     }
 
@@ -78,7 +73,6 @@ impl Picture {
         ensures mark { self.new.mark ≡ self.old.mark }
         ensures err { OnErr result (self.new ≡ self.old) }
     {
-        self.due = self.due.min(until);
         put_kept(
             &mut self.kept,
             key,
@@ -108,7 +102,7 @@ impl Picture {
         ensures entries { self.new.entries ≡ live_entries moment self.old.entries }
         ensures mark { self.new.mark ≡ None }
     {
-        self.due = drop_due(&mut self.kept, self.due, moment);
+        drop_ended(&mut self.kept, moment);
     }
 
     /// Sets a mark at the entries as they are.

@@ -2,10 +2,14 @@
 #![tactic(auto)]
 
 mod duplicate;
+mod ends;
+mod lasting;
 mod map;
 mod step;
 #[cfg(test)]
 mod tests;
 
 pub use duplicate::Duplicate;
+pub use ends::EndQueue;
+pub use lasting::{Lasting, LastingMap};
 pub use map::UndoMap;

@@ -2,13 +2,16 @@
 ghost use Rattle.std.specs.Prelude.{◌≡◌, IsSome, IfOk, OnOk, OnErr, Some, None, length, []};
 ghost use Rattle.std.specs.BTreeMap.{insert_entry, is_at};
 ghost use Rattle.std.specs.List.Sorted.{IsStrictlySortedBy};
-ghost use Rattle.std.specs.Map.{keys_of, lookup};
+ghost use Rattle.std.specs.Map.{keys_of, lookup, remove_entry};
 ghost use Rattle.std.specs.Map.Calls.{CallableOnEachPair, CalledAtPair, RetainsPairs, TakesPair};
 ghost use Rattle.std.specs.Map.Iter.{ShowsInOrder, deref_pair};
 ghost use Rattle.std.specs.Option.{option_copied};
+ghost use Rattle.undo_map.specs.Ends.{HaveMarkedPlaces, with_newer};
 ghost use Rattle.undo_map.specs.Marked.{with_all};
 
 use crate::duplicate::Duplicate;
+use crate::ends::EndQueue;
+use crate::lasting::{Lasting, put_step};
 use crate::step::{Step, take_all_back, write_all_steps, write_step};
 use std::alloc::{AllocError, Global};
 use std::collections::BTreeMap;
@@ -125,6 +128,17 @@ impl<K: Duplicate, V: Drop> UndoMap<K, V> {
         self.entries.retain(test);
     }
 
+    /// Removes what stands under a key.
+    pub fn remove(&mut self, key: &K)
+        requires { self.old.mark ≡ None }
+        ensures entries { self.new.entries
+            ≡ remove_entry (is_at (K.cmp key.now)) self.old.entries }
+        ensures mark { self.new.mark ≡ None }
+        ensures ordered { IsStrictlySortedBy K.cmp (keys_of self.new.entries) }
+    {
+        let _ = self.entries.remove(key);
+    }
+
     /// The entries, in the order of their keys.
     pub fn iter(&self) -> Iter<'_, K, V>
         ensures rest { result ≡ self.now.entries }
@@ -160,5 +174,27 @@ impl<K: Duplicate, V: Drop> UndoMap<K, V> {
         ensures { self.new ≡ record self.old { mark = None } }
     {
         self.steps = None;
+    }
+}
+
+impl<K: Duplicate, V: Lasting> UndoMap<K, V> {
+    /// Writes a value under a key, where none stands there that is at least as new, and gives the
+    /// key a place in the queue where it has none by the value's end.
+    pub(crate) fn put(&mut self, ends: &mut EndQueue<K>, key: K, value: V) -> Result<(), AllocError>
+        ensures ok { OnOk result
+            (self.new.entries ≡ with_newer K.cmp V.version self.old.entries key value) }
+        ensures mark { self.new.mark ≡ self.old.mark }
+        ensures err { OnErr result (self.new ≡ self.old) }
+        ensures ordered { IsStrictlySortedBy K.cmp (keys_of self.new.entries) }
+        ensures placed { HaveMarkedPlaces K.cmp V.end ends.old.places self.old
+            → HaveMarkedPlaces K.cmp V.end ends.new.places self.new }
+    {
+        match &mut self.steps {
+            Some(steps) => put_step(self.alloc, &mut self.entries, steps, ends, key, value),
+            None => {
+                let mut steps = Vec::new(self.alloc);
+                put_step(self.alloc, &mut self.entries, &mut steps, ends, key, value)
+            }
+        }
     }
 }

@@ -1,4 +1,4 @@
-use crate::{Duplicate, UndoMap};
+use crate::{Duplicate, EndQueue, Lasting, LastingMap, UndoMap};
 use std::alloc::{AllocError, Global};
 use std::test::Fail;
 
@@ -49,5 +49,84 @@ fn pairs_are_written_and_stay(rt: HostRuntime) -> Result<(), Fail> {
         kept.push((name.0, *value))?;
     }
     assert_eq!(rt; kept.as_slice(), [(199, 1), (200, 0)].as_slice());
+    Ok(())
+}
+
+/// A value for tests: its version, and its end.
+#[derive(Debug, Drop)]
+struct Visit(u64, u64);
+
+impl Lasting for Visit {
+    ghost version = { λ visit. visit.0 };
+
+    ghost end = { λ visit. visit.1 };
+
+    fn version(&self) -> u64 {
+        self.0
+    }
+
+    fn end(&self) -> u64 {
+        self.1
+    }
+}
+
+/// The names that a map keeps, each with the version of its value.
+fn versions<K: Duplicate>(
+    alloc: Global,
+    map: &LastingMap<K, Visit>,
+) -> Result<Vec<u64>, AllocError> {
+    let mut versions = Vec::new(alloc);
+    for (_, visit) in map.iter() {
+        versions.push(visit.0)?;
+    }
+    Ok(versions)
+}
+
+#[test]
+fn newer_values_last_to_their_own_end(rt: HostRuntime) -> Result<(), Fail> {
+    let mut map = LastingMap::new(rt.alloc());
+    for number in 0..100 {
+        map.put(Name(number), Visit(u64::from(number), 1_000))?;
+    }
+    map.put(Name(7), Visit(7, 5_000))?;
+    map.put(Name(8), Visit(1_008, 2_000))?;
+    map.put(Name(9), Visit(1_009, 500))?;
+    map.mark();
+    map.put(Name(10), Visit(1_010, 3_000))?;
+    map.put(Name(200), Visit(1_200, 3_000))?;
+    map.undo();
+    map.mark();
+    map.put(Name(201), Visit(1_201, 3_000))?;
+    map.settle();
+    map.purge(499);
+    assert_eq!(rt; map.len(), 101);
+    map.purge(500);
+    assert_eq!(rt; map.len(), 100);
+    map.purge(1_000);
+    assert_eq!(rt;
+        versions(rt.alloc(), &map)?.as_slice(),
+        [1_008, 1_201].as_slice()
+    );
+    map.purge(2_999);
+    assert_eq!(rt; versions(rt.alloc(), &map)?.as_slice(), [1_201].as_slice());
+    map.purge(3_000);
+    assert_eq!(rt; map.len(), 0);
+    Ok(())
+}
+
+#[test]
+fn places_come_by_their_seconds(rt: HostRuntime) -> Result<(), Fail> {
+    let mut ends = EndQueue::new(rt.alloc());
+    ends.add(30, Name(1))?;
+    ends.add(10, Name(2))?;
+    ends.add(20, Name(3))?;
+    assert!(rt; ends.take_ended(9).is_none());
+    let mut taken = Vec::new(rt.alloc());
+    for second in [10, 29, 29, 30] {
+        if let Some((end, name)) = ends.take_ended(second) {
+            taken.push((end, name.0))?;
+        }
+    }
+    assert_eq!(rt; taken.as_slice(), [(10, 2), (20, 3), (30, 1)].as_slice());
     Ok(())
 }

@@ -1,4 +1,4 @@
-use Rattle.std.proofs.Common.{◌≡◌, ◌∷◌, ◌+◌, ℕ, suc, arith, get_or, ap, ap₂, ◌∙◌, sym}
+use Rattle.std.proofs.Common.{◌≡◌, ◌∷◌, ◌+◌, ℕ, suc, arith, get_or, ap, ap₂, ◌∙◌}
 use Rattle.std.specs.Int.Bits.{bit_xor}
 use Rattle.poly256.specs.Polynomial.{element_product}
 use Rattle.rs_code.proofs.Places.{set_grows, set_keeps}

@@ -11,7 +11,7 @@ use Rattle.ground_core.specs.Refusal.{version_refusal}
 use Rattle.ground_core.specs.Told.{IsTold, count_refusal, latest_version}
 use Rattle.ground_core.specs.Views.{latest_at, count_at}
 use Rattle.ground_core.proofs.Accepted.{text_weather}
-use Rattle.ground_core.proofs.ItemOfText.{life_within, told_behind, judged_by, few_bytes, count_below}
+use Rattle.ground_core.proofs.ItemOfText.{told_behind, judged_by, few_bytes, count_below}
 use Rattle.ground_core.proofs.ground.Ground.item_of_text.Goals as goal
 
 pub returns-in_err-payload-clause-fault : goal.returns-in_err-payload-clause-fault
@@ -24,14 +24,14 @@ returns-in_err-key-clause-fault c = let p = err_from_is_err_and c.from_residual-
     (c.in_err-key.ensures.fault (latest_at c.args.self.now.newest) (count_at c.args.self.now.files) c.args.moment c.args.version))
 
 pub version_fault-requires : goal.version_fault-requires
-version_fault-requires c = life_within c.args.self.now.table c.all.result.now _ c.in-Some.ensures.rules (sym c.in-Some.ensures.row)
+version_fault-requires c = c.in-Some.ensures.bounded
 
 pub overflow_add-result : goal.overflow_add-result
 overflow_add-result c =
-    omega (arith, life_within c.args.self.now.table c.all.result.now _ c.in-Some.ensures.rules (sym c.in-Some.ensures.row), c.seconds.ensures.in_range.1)
+    omega (arith, c.in-Some.ensures.bounded, c.seconds.ensures.in_range.1)
 
-pub count_of-requires : goal.count_of-requires
-count_of-requires c = few_bytes _ (length c.args.text.now)
+pub part_count-requires : goal.part_count-requires
+part_count-requires c = few_bytes _ (length c.args.text.now)
     (c.len-size.ensures ∙ ap length c.in_ok-payload.ensures.payload ∙ c.payload_size.ensures.size c.args.text.now) c.in_ok-payload.ensures.sendable.1
 
 pub returns-in-Some-version_fault-clause-fault : goal.returns-in-Some-version_fault-clause-fault

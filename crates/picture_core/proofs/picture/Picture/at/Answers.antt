@@ -6,4 +6,4 @@ use Rattle.picture_core.proofs.picture.Picture.at.Goals as goal
 pub of-requires : goal.of-requires
 of-requires c =
     shown_kinds c.in_ok-live_pairs.field-0.items c.args.moment (marked_entries c.self.inside.kept).entries
-    c.in_ok-live_pairs.ensures c.self.invariant.0.0
+    c.in_ok-live_pairs.ensures c.self.invariant.0

@@ -1,11 +1,7 @@
-use Rattle.std.proofs.Common.{◌≤◌}
 use Rattle.picture_core.specs.Entry.{Entry, IsOfKind}
 use Rattle.picture_core.proofs.MarkedKept.{marked-mark}
 use Rattle.picture_core.proofs.picture.Picture.mark.Goals as goal
 
 pub invariant_of-self : goal.invariant_of-self
-invariant_of-self c = (
-  marked-mark (λ (e : Entry). IsOfKind e.key e.value) c.self.inside.kept c.mark.new.self c.mark.ensures c.self.invariant.0,
-  marked-mark (λ (e : Entry). c.self.inside.due ≤ e.until) c.self.inside.kept c.mark.new.self c.mark.ensures
-      c.self.invariant.1,
-)
+invariant_of-self c =
+    marked-mark (λ (e : Entry). IsOfKind e.key e.value) c.self.inside.kept c.mark.new.self c.mark.ensures c.self.invariant

@@ -1,0 +1,213 @@
+-- Queues of places, and the entries that have a place.
+use Rattle.std.proofs.Common.{◌≡◌, ℕ, ◌≤◌, ◌&&◌, ◌++◌, true, false, Bool, List, [], ◌∷◌, refl, sym, ap, ◌∙◌}
+use Rattle.std.proofs.Common.{Result, Ok, Err, OnOk, OnErr, IsOk, nat_le, nat_lt, cond, arith, inl, inr, IsPermutation, subst}
+use Rattle.std.specs.Prelude.{Some, None}
+use Rattle.std.specs.BTreeMap.{insert_entry, is_at}
+use Rattle.std.specs.Cmp.{IsTotalOrder}
+use Rattle.std.specs.List.{AllByRecursion, list_any}
+use Rattle.std.specs.List.Sorted.{IsStrictlySortedBy}
+use Rattle.std.specs.Map.{keys_of, lookup, set_value}
+use Rattle.std.specs.Ordering.{is_eq}
+use Rattle.std.specs.declared.cmp.Ordering.{Ordering}
+use Rattle.std.specs.declared.cmp.Ordering.TheVariants.{Less, Equal, Greater}
+use Rattle.std.proofs.lemmas.Bool.{cases_Bool, or_cases, or_left, or_right, and_parts, leb-true, le-leb}
+use Rattle.std.proofs.lemmas.Cmp.{tied_itself}
+use Rattle.std.proofs.lemmas.List.Sorted.{list_any-IsPermutation}
+use Rattle.std.proofs.lemmas.Map.{lookup-none}
+use Rattle.std.proofs.lemmas.Map.Entries.{none_below_head}
+use Rattle.std.proofs.lemmas.Map.Keys.{sorted_tail}
+use Rattle.std.proofs.lemmas.Map.Steps.{set_value_same}
+use Rattle.undo_map.specs.Ends.{HavePlaces, KeepsPlaces, has_place, has_place_by, with_newer}
+use Rattle.undo_map.specs.Steps.{before_all}
+use Rattle.undo_map.specs.declared.step.Step.{Step}
+use Rattle.undo_map.proofs.StepLemmas.{before_all-append}
+
+pub at-ok : {A B P : Type 0} (r : Result A B) → IsOk r → OnOk r P → P
+at-ok (Ok x) is p = p
+at-ok (Err e) is p = absurd (cc)
+
+-- what holds after success and after failure holds
+pub either : {A B P Q Z : Type 0} (r : Result A B) → OnOk r P → OnErr r Q → (P → Z) → (Q → Z) → Z
+either (Ok x) p q f g = f p
+either (Err e) p q f g = g q
+
+pub on-ok : {A B : Type 0} (P : Type 0) (r : Result A B) → P → OnOk r P
+on-ok P (Ok x) p = p
+on-ok P (Err e) p = tt
+
+pub on-both : {A B : Type 0} (P Q : Type 0) (r : Result A B) → OnOk r P → OnOk r Q → OnOk r (P × Q)
+on-both P Q (Ok x) p q = (p, q)
+on-both P Q (Err e) p q = tt
+
+pub on-err-both : {A B : Type 0} (P Q : Type 0) (r : Result A B) → OnErr r P → OnErr r Q → OnErr r (P × Q)
+on-err-both P Q (Ok x) p q = tt
+on-err-both P Q (Err e) p q = (p, q)
+
+pub map-ok : {A B : Type 0} (P Q : Type 0) (r : Result A B) → (P → Q) → OnOk r P → OnOk r Q
+map-ok P Q (Ok x) f p = f p
+map-ok P Q (Err e) f p = tt
+
+pub map-err : {A B : Type 0} (P Q : Type 0) (r : Result A B) → (P → Q) → OnErr r P → OnErr r Q
+map-err P Q (Ok x) f p = tt
+map-err P Q (Err e) f p = f p
+
+module _ {K : Type 0} where
+  -- a place that is added
+  pub keeps-added : (added : ℕ × K) (old new : List (ℕ × K)) → IsPermutation (added ∷ old) new → KeepsPlaces old new
+  keeps-added added old new moves test some =
+      sym (list_any-IsPermutation test (added ∷ old) new moves) ∙ or_right (test added) (list_any test old) some
+
+  pub has-added :
+      (R : K → K → Ordering) (end : ℕ) (key q : K) (by : ℕ) (old new : List (ℕ × K)) → IsPermutation ((end, key) ∷ old) new
+      → is_eq (R key q) ≡ true → end ≤ by → has_place_by R new q by ≡ true
+  has-added R end key q by old new moves same below =
+      let test : ℕ × K → Bool = λ place. is_eq (R place.1 q) && nat_le place.0 by in
+      let first : test (end, key) ≡ true = rw same (le-leb end by below) in
+      sym (list_any-IsPermutation test ((end, key) ∷ old) new moves) ∙ or_left (test (end, key)) (list_any test old) first
+
+  -- a place by a second is one by a later one
+  pub has-later :
+      (R : K → K → Ordering) (places : List (ℕ × K)) (q : K) (by later : ℕ) → by ≤ later → has_place_by R places q by ≡ true
+      → has_place_by R places q later ≡ true
+  has-later R [] q by later below some = cc
+  has-later R (p ∷ places) q by later below some = elim (or_cases _ _ some) [
+    | inl first ↦
+        let parts = and_parts (is_eq (R p.1 q)) (nat_le p.0 by) first in
+        let early = leb-true p.0 by parts.1 in
+        or_left (is_eq (R p.1 q) && nat_le p.0 later) (has_place_by R places q later) (rw parts.0 (le-leb p.0 later (omega arith)))
+    | inr more ↦ or_right (is_eq (R p.1 q) && nat_le p.0 later) (has_place_by R places q later) (has-later R places q by later below more)
+  ]
+
+module _ {K V : Type 0} where
+  set-back :
+      (test : K → Bool) (es : List (K × V)) (old v : V) → lookup test es ≡ Some old → set_value test (set_value test es v) old ≡ es
+  set-back test [] old v found = cc
+  set-back test (e ∷ es) old v found = elim (cases_Bool (test e.0)) [
+    | inl passes ↦
+        let same : Some e.1 ≡ Some old = rw passes at found in
+        let value : e.1 ≡ old = cc in
+        rw passes (rw passes (ap (λ (x : V). (e.0, x) ∷ es) (sym value)))
+    | inr fails ↦
+        let later : lookup test es ≡ Some old = rw fails at found in
+        rw fails (rw fails (ap (λ (more : List (K × V)). e ∷ more) (set-back test es old v later)))
+  ]
+
+  -- a value that is written over one of its key
+  set-insert_first :
+      (R : K → K → Ordering) → IsTotalOrder R → (key : K) (old v : V) (e : K × V) (es : List (K × V))
+      → IsStrictlySortedBy R (keys_of (e ∷ es)) → lookup (is_at (R key)) (e ∷ es) ≡ Some old
+      → (lookup (is_at (R key)) es ≡ Some old → set_value (is_at (R key)) es v ≡ insert_entry R es key v)
+      → (o : Ordering) → R key e.0 ≡ o
+      → set_value (is_at (R key)) (e ∷ es) v ≡ insert_entry R (e ∷ es) key v
+  set-insert_first R total key old v e es sorted found rest Less below =
+      let none = none_below_head total key e es sorted below in
+      let absent : lookup (is_at (R key)) (e ∷ es) ≡ None = lookup-none (is_at (R key)) (e ∷ es) none in
+      let never : Some old ≡ None = sym found ∙ absent in
+      cc never
+  set-insert_first R total key old v e es sorted found rest Equal same = rw same refl
+  set-insert_first R total key old v e es sorted found rest Greater above =
+      let later : lookup (is_at (R key)) es ≡ Some old = rw above at found in
+      rw above (ap (λ (more : List (K × V)). e ∷ more) (rest later))
+
+  set-insert :
+      (R : K → K → Ordering) → IsTotalOrder R → (key : K) (old v : V) (es : List (K × V)) → IsStrictlySortedBy R (keys_of es)
+      → lookup (is_at (R key)) es ≡ Some old → set_value (is_at (R key)) es v ≡ insert_entry R es key v
+  set-insert R total key old v [] sorted found = cc
+  set-insert R total key old v (e ∷ es) sorted found =
+      set-insert_first R total key old v e es sorted found
+      (set-insert R total key old v es (sorted_tail R e.0 (keys_of es) sorted)) (R key e.0) refl
+
+  -- the newer of two values is written, and the older one stays
+  pub set-newer :
+      (R : K → K → Ordering) → IsTotalOrder R → (version : V → ℕ) (key : K) (old value new : V) (es : List (K × V))
+      → IsStrictlySortedBy R (keys_of es) → lookup (is_at (R key)) es ≡ Some old
+      → new ≡ cond (nat_lt (version old) (version value)) value old
+      → set_value (is_at (R key)) es new ≡ with_newer R version es key value
+  set-newer R total version key old value new es sorted found is = elim (cases_Bool (nat_lt (version old) (version value))) [
+    | inl newer ↦
+        let same : new ≡ value = is ∙ rw newer refl in
+        rw (found, newer) (ap (set_value (is_at (R key)) es) same ∙ set-insert R total key old value es sorted found)
+    | inr older ↦
+        let same : new ≡ old = is ∙ rw older refl in
+        rw (found, older) (ap (set_value (is_at (R key)) es) same ∙ set_value_same (is_at (R key)) es old found)
+  ]
+
+  -- the step takes it back
+  pub newer-back :
+      (R : K → K → Ordering) (key : K) (b : Bool) (old value new : V) (es : List (K × V)) (steps later : List (Step K V))
+      → lookup (is_at (R key)) es ≡ Some old
+      → new ≡ cond b value old
+      → later ≡ cond b (steps ++ record { key = key; was = Some old } ∷ []) steps
+      → before_all R later (set_value (is_at (R key)) es new) ≡ before_all R steps es
+  newer-back R key true old value new es steps later found is more =
+      rw more
+      (before_all-append R steps (record { key = key; was = Some old } ∷ []) (set_value (is_at (R key)) es new)
+      ∙ ap (before_all R steps) (set-back (is_at (R key)) es old new found))
+  newer-back R key false old value new es steps later found is more =
+      rw (more, is) (ap (before_all R steps) (set_value_same (is_at (R key)) es old found))
+
+  pub all-weaker :
+      (P Q : K × V → Type 0) (es : List (K × V)) → ((e : K × V) → P e → Q e) → AllByRecursion P es → AllByRecursion Q es
+  all-weaker P Q [] weaker all = tt
+  all-weaker P Q (e ∷ es) weaker all = (weaker e all.0, all-weaker P Q es weaker all.1)
+
+  -- what holds of each entry, where one value is written over another
+  all-set :
+      (test : K → Bool) (P Q : K × V → Type 0) (old v : V) (es : List (K × V)) → lookup test es ≡ Some old
+      → ((e : K × V) → P e → Q e) → ((k : K) → test k ≡ true → P (k, old) → Q (k, v)) → AllByRecursion P es
+      → AllByRecursion Q (set_value test es v)
+  all-set test P Q old v [] found weaker own all = cc
+  all-set test P Q old v (e ∷ es) found weaker own all = elim (cases_Bool (test e.0)) [
+    | inl passes ↦
+        let same : Some e.1 ≡ Some old = rw passes at found in
+        let value : e.1 ≡ old = cc in
+        let first : P (e.0, old) = subst (λ (x : V). P (e.0, x)) value all.0 in
+        rw passes (own e.0 passes first, all-weaker P Q es weaker all.1)
+    | inr fails ↦
+        let later : lookup test es ≡ Some old = rw fails at found in
+        rw fails (weaker e all.0, all-set test P Q old v es later weaker own all.1)
+  ]
+
+  all-insert_first :
+      (R : K → K → Ordering) → IsTotalOrder R → (P : K × V → Type 0) (key : K) (v : V) (e : K × V) (es : List (K × V))
+      → ((k : K) → is_eq (R key k) ≡ true → P (k, v)) → AllByRecursion P (e ∷ es) → AllByRecursion P (insert_entry R es key v)
+      → (o : Ordering) → R key e.0 ≡ o → AllByRecursion P (insert_entry R (e ∷ es) key v)
+  all-insert_first R total P key v e es own all rest Less below = rw below (own key (rw (tied_itself total key) refl), all)
+  all-insert_first R total P key v e es own all rest Equal same = rw same (own e.0 (rw same refl), all.1)
+  all-insert_first R total P key v e es own all rest Greater above = rw above (all.0, rest)
+
+  all-insert :
+      (R : K → K → Ordering) → IsTotalOrder R → (P : K × V → Type 0) (key : K) (v : V) (es : List (K × V))
+      → ((k : K) → is_eq (R key k) ≡ true → P (k, v)) → AllByRecursion P es → AllByRecursion P (insert_entry R es key v)
+  all-insert R total P key v [] own all = (own key (rw (tied_itself total key) refl), tt)
+  all-insert R total P key v (e ∷ es) own all =
+      all-insert_first R total P key v e es own all (all-insert R total P key v es own all.1) (R key e.0) refl
+
+  pub places-kept :
+      (R : K → K → Ordering) (end : V → ℕ) (old new : List (ℕ × K)) (es : List (K × V)) → KeepsPlaces old new
+      → HavePlaces R end old es → HavePlaces R end new es
+  places-kept R end old new es kept all =
+      all-weaker (λ e. has_place R end old e ≡ true) (λ e. has_place R end new e ≡ true) es
+      (λ e some. kept (λ place. is_eq (R place.1 e.0) && nat_le place.0 (end e.1)) some) all
+
+  pub places-set :
+      (R : K → K → Ordering) (end : V → ℕ) (old new : List (ℕ × K)) (key : K) (was v : V) (es : List (K × V))
+      → lookup (is_at (R key)) es ≡ Some was → KeepsPlaces old new
+      → ((k : K) → is_eq (R key k) ≡ true → has_place R end old (k, was) ≡ true → has_place R end new (k, v) ≡ true)
+      → HavePlaces R end old es → HavePlaces R end new (set_value (is_at (R key)) es v)
+  places-set R end old new key was v es found kept own all =
+      all-set (is_at (R key)) (λ e. has_place R end old e ≡ true) (λ e. has_place R end new e ≡ true) was v es found
+      (λ e some. kept (λ place. is_eq (R place.1 e.0) && nat_le place.0 (end e.1)) some) own all
+
+  pub places-insert :
+      (R : K → K → Ordering) → IsTotalOrder R → (end : V → ℕ) (old new : List (ℕ × K)) (key : K) (v : V) (es : List (K × V))
+      → KeepsPlaces old new → ((k : K) → is_eq (R key k) ≡ true → has_place R end new (k, v) ≡ true)
+      → HavePlaces R end old es → HavePlaces R end new (insert_entry R es key v)
+  places-insert R total end old new key v es kept own all =
+      all-insert R total (λ e. has_place R end new e ≡ true) key v es own (places-kept R end old new es kept all)
+
+  pub places-moved :
+      (R : K → K → Ordering) (end : V → ℕ) (old new : List (ℕ × K)) (es : List (K × V)) → IsPermutation old new
+      → HavePlaces R end old es → HavePlaces R end new es
+  places-moved R end old new es moves all =
+      places-kept R end old new es (λ test some. sym (list_any-IsPermutation test old new moves) ∙ some) all

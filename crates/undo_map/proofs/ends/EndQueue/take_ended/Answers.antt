@@ -1,0 +1,17 @@
+-- The places are those of the heap, one by one.
+use Rattle.std.proofs.Common.{◌<◌, ℕ}
+use Rattle.std.proofs.lemmas.List.Elements.{All-map}
+use Rattle.std.proofs.lemmas.List.Sorted.{IsPermutation-map}
+use Rattle.undo_map.specs.declared.ends.Place.{Place}
+use Rattle.undo_map.proofs.ends.EndQueue.take_ended.Goals as goal
+
+pub returns-then-not-is_ended-clause-none : goal.returns-then-not-is_ended-clause-none
+returns-then-not-is_ended-clause-none g c =
+    rw (← c.self.view_is)
+    (All-map (λ (p : ℕ × g.row.K.Denot). c.args.now < p.0) (λ (place : Place g.row.K.Denot). (place.end, place.key)) _
+    (c.is_ended.ensures.none c.if-not-is_ended.true))
+
+pub returns-clause-taken : goal.returns-clause-taken
+returns-clause-taken g c =
+    rw (← c.self.view_is)
+    (IsPermutation-map (λ (place : Place g.row.K.Denot). (place.end, place.key)) _ _ c.in-Some.ensures.permutation)

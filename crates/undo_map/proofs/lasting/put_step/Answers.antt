@@ -1,0 +1,89 @@
+-- A value that is written over one of its key, or beside all.
+use Rattle.std.proofs.Common.{◌≡◌, ◌∙◌, refl, ◌++◌, ◌∷◌, [], ap, cond, nat_lt, sym, subst}
+use Rattle.std.specs.Prelude.{Some}
+use Rattle.std.specs.BTreeMap.{insert_entry, is_at}
+use Rattle.std.specs.Map.{lookup, set_value}
+use Rattle.std.specs.Option.{option_copied_mut}
+use Rattle.std.proofs.lemmas.Map.Steps.{set_value_same}
+use Rattle.undo_map.specs.Ends.{HavePlaces, has_place, with_newer}
+use Rattle.undo_map.specs.Steps.{before_all}
+use Rattle.std.specs.Ordering.{is_eq}
+use Rattle.std.specs.Prelude.{true, false}
+use Rattle.undo_map.proofs.EndLemmas.{either, map-err, map-ok, newer-back, on-both, on-err-both, places-insert, places-kept}
+use Rattle.undo_map.proofs.EndLemmas.{places-set, set-newer}
+use Rattle.undo_map.proofs.lasting.put_step.Goals as goal
+
+pub returns-in-Some-clause-written : goal.returns-in-Some-clause-written
+returns-in-Some-clause-written g c =
+    let R = g.K.Ord.cmp in
+    let es = c.args.entries.now.entries in
+    let old = c.in-Some.older.now in
+    let new = c.replace_step.new.older in
+    let found : lookup (is_at (R c.args.key)) es ≡ Some old = sym c.get_mut.ensures.value ∙ ap option_copied_mut c.in-Some.is in
+    map-ok (new ≡ cond (nat_lt (g.V.Lasting.version old) (g.V.Lasting.version c.args.value)) c.args.value old)
+    ((c.get_mut.follows.lender new).entries ≡ with_newer R g.V.Lasting.version es c.args.key c.args.value) c.replace_step.result
+    (λ is. (c.get_mut.follows.holds new).0
+    ∙ set-newer R g.met.K.Ord.total g.V.Lasting.version c.args.key old c.args.value new es c.requires found is)
+    c.replace_step.ensures.written
+
+pub returns-in-Some-clause-before : goal.returns-in-Some-clause-before
+returns-in-Some-clause-before g c =
+    let R = g.K.Ord.cmp in
+    let es = c.args.entries.now.entries in
+    let old = c.in-Some.older.now in
+    let new = c.replace_step.new.older in
+    let b = nat_lt (g.V.Lasting.version old) (g.V.Lasting.version c.args.value) in
+    let steps = c.args.steps.now.items in
+    let later = c.replace_step.new.steps.items in
+    let found : lookup (is_at (R c.args.key)) es ≡ Some old = sym c.get_mut.ensures.value ∙ ap option_copied_mut c.in-Some.is in
+    ap (before_all R later) (c.get_mut.follows.holds new).0
+    ∙ either c.replace_step.result
+    (on-both (new ≡ cond b c.args.value old)
+    (later ≡ cond b (steps ++ record { key = c.args.key; was = Some old } ∷ []) steps) c.replace_step.result
+    c.replace_step.ensures.written c.replace_step.ensures.steps_ok)
+    (on-err-both (new ≡ old) (later ≡ steps) c.replace_step.result c.replace_step.ensures.err
+    c.replace_step.ensures.steps_err)
+    (λ both. newer-back R c.args.key b old c.args.value new es steps later found both.0 both.1)
+    (λ both. newer-back R c.args.key false old c.args.value new es steps later found both.0 both.1)
+
+pub returns-in-Some-clause-err : goal.returns-in-Some-clause-err
+returns-in-Some-clause-err g c =
+    let test = is_at (g.K.Ord.cmp c.args.key) in
+    let es = c.args.entries.now.entries in
+    let old = c.in-Some.older.now in
+    let new = c.replace_step.new.older in
+    let found : lookup test es ≡ Some old = sym c.get_mut.ensures.value ∙ ap option_copied_mut c.in-Some.is in
+    map-err (new ≡ old) ((c.get_mut.follows.lender new).entries ≡ es) c.replace_step.result
+    (λ is. (c.get_mut.follows.holds new).0 ∙ ap (set_value test es) is ∙ set_value_same test es old found)
+    c.replace_step.ensures.err
+
+pub returns-in-Some-clause-placed : goal.returns-in-Some-clause-placed
+returns-in-Some-clause-placed g c = λ all.
+    let R = g.K.Ord.cmp in
+    let es = c.args.entries.now.entries in
+    let old = c.in-Some.older.now in
+    let new = c.replace_step.new.older in
+    let found : lookup (is_at (R c.args.key)) es ≡ Some old = sym c.get_mut.ensures.value ∙ ap option_copied_mut c.in-Some.is in
+    subst (HavePlaces R g.V.Lasting.end c.replace_step.new.ends.places) (sym (c.get_mut.follows.holds new).0)
+    (places-set R g.V.Lasting.end c.args.ends.now.places c.replace_step.new.ends.places c.args.key old new es found
+    c.replace_step.ensures.kept c.replace_step.ensures.placed all)
+
+pub returns-in-None-clause-placed : goal.returns-in-None-clause-placed
+returns-in-None-clause-placed g c = λ all.
+    let R = g.K.Ord.cmp in
+    let es = c.get_mut.follows.lender-at-none.entries in
+    let same : es ≡ c.args.entries.now.entries = rw c.get_mut.follows.holds-at-none refl in
+    let every = subst (HavePlaces R g.V.Lasting.end c.args.ends.now.places) (sym same) all in
+    let later = c.insert_step.new.entries.entries in
+    let places = c.insert_step.new.ends.places in
+    either c.insert_step.result
+    (on-both (later ≡ insert_entry R es c.args.key c.args.value)
+    ((k : g.row.K.Denot) → is_eq (R c.args.key k) ≡ true
+    → has_place R g.V.Lasting.end places (k, c.args.value) ≡ true) c.insert_step.result
+    c.insert_step.ensures.written c.insert_step.ensures.placed)
+    c.insert_step.ensures.err
+    (λ both. subst (HavePlaces R g.V.Lasting.end places) (sym both.0)
+    (places-insert R g.met.K.Ord.total g.V.Lasting.end c.args.ends.now.places places c.args.key c.args.value es
+    c.insert_step.ensures.kept both.1 every))
+    (λ is. subst (HavePlaces R g.V.Lasting.end places) (sym is)
+    (places-kept R g.V.Lasting.end c.args.ends.now.places places es c.insert_step.ensures.kept every))

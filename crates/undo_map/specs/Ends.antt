@@ -1,0 +1,48 @@
+-- Keys in a queue by the second at which they are to be looked at, and the entries that have a place in it.
+use Rattle.std.specs.Prelude.{◌≡◌, ℕ, Bool, true, ◌&&◌, nat_le, nat_lt, List, Option, Some, None, if◌then◌else◌}
+use Rattle.std.specs.BTreeMap.{insert_entry, is_at}
+use Rattle.std.specs.List.{AllByRecursion, list_any, sum_by}
+use Rattle.std.specs.Map.{lookup}
+use Rattle.std.specs.Ordering.{is_eq}
+use Rattle.std.specs.declared.cmp.Ordering.{Ordering}
+use Rattle.undo_map.specs.Marked.{Marked}
+
+-- the places of a queue, in no order, and how many more it has room for
+pub record Queue (K : Type 0) : Type 0 where
+  pub places : List (ℕ × K)
+  pub spare : ℕ
+
+-- whether a version is newer than that of what is kept
+abbrev pub is_newer : {V : Type 0} → (V → ℕ) → Option V → ℕ → Bool
+is_newer version_of None version = true
+is_newer version_of (Some kept) version = nat_lt (version_of kept) version
+
+-- a test that holds of one of the places still holds of one
+abbrev pub KeepsPlaces : {K : Type 0} → List (ℕ × K) → List (ℕ × K) → Type 0
+KeepsPlaces {K} old new = (test : ℕ × K → Bool) → list_any test old ≡ true → list_any test new ≡ true
+
+-- the key has a place at a second that is no later than this one
+abbrev pub has_place_by : {K : Type 0} → (K → K → Ordering) → List (ℕ × K) → K → ℕ → Bool
+has_place_by cmp places key second = list_any (λ place. is_eq (cmp place.1 key) && nat_le place.0 second) places
+
+-- how many places have come by a second
+abbrev pub due_places : {K : Type 0} → ℕ → List (ℕ × K) → ℕ
+due_places now places = sum_by (λ place. if nat_le place.0 now then 1 else 0) places
+
+module _ {K V : Type 0} where
+  -- the entry has a place: its key at a second that is no later than its end
+  abbrev pub has_place : (K → K → Ordering) → (V → ℕ) → List (ℕ × K) → K × V → Bool
+  has_place cmp end places entry = has_place_by cmp places entry.0 (end entry.1)
+
+  abbrev pub HavePlaces : (K → K → Ordering) → (V → ℕ) → List (ℕ × K) → List (K × V) → Type 0
+  HavePlaces cmp end places entries = AllByRecursion (λ entry. has_place cmp end places entry ≡ true) entries
+
+  -- the same at the mark too
+  abbrev pub HaveMarkedPlaces : (K → K → Ordering) → (V → ℕ) → List (ℕ × K) → Marked K V → Type 0
+  HaveMarkedPlaces cmp end places marked = HavePlaces cmp end places marked.entries
+      × ((mark : List (K × V)) → marked.mark ≡ Some mark → HavePlaces cmp end places mark)
+
+  -- entries with a value under its key, where none stands there that is at least as new
+  abbrev pub with_newer : (K → K → Ordering) → (V → ℕ) → List (K × V) → K → V → List (K × V)
+  with_newer cmp version_of entries key value = if is_newer version_of (lookup (is_at (cmp key)) entries) (version_of value)
+      then insert_entry cmp entries key value else entries
