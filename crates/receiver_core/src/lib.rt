@@ -13,5 +13,3 @@ pub use heard::{HearFault, Heard, ShowFault};
 pub use receiver::Receiver;
 pub use unread::{Unread, UnreadList, UnreadReason};
 
-#[cfg(test)]
-mod tests;
