@@ -12,4 +12,3 @@ mod unread;
 pub use heard::{HearFault, Heard, ShowFault};
 pub use receiver::Receiver;
 pub use unread::{Unread, UnreadList, UnreadReason};
-
