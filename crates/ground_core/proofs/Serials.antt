@@ -12,7 +12,7 @@ use Rattle.uplink_frame.specs.declared.station.StationId.{StationId}
 use Rattle.std.specs.Ordering.{nat_cmp}
 use Rattle.std.specs.declared.cmp.Ordering.TheVariants.{Equal}
 use Rattle.std.proofs.lemmas.Cmp.{nat_cmp_total, tied_itself}
-use Rattle.radar_core.specs.Keys.{bit}
+use Rattle.bit_fields.specs.Bits.{bit}
 use Rattle.picture_core.specs.Key.{Key, radar_block, text_report, same_key}
 use Rattle.picture_core.specs.Entry.{Entry}
 use Rattle.uplink_frame.specs.UplinkFrame.{frame_room}

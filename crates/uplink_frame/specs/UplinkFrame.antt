@@ -4,7 +4,7 @@ use Rattle.std.specs.Prelude.{ℕ, zero, suc, ◌+◌, ◌-◌, ◌^◌, ◌<◌
 use Rattle.std.specs.Prelude.{nat_lt, if◌then◌else◌, List, [], ◌∷◌, ◌++◌, length, take, drop}
 use Rattle.std.specs.Prelude.{flat_map, replicate}
 use Rattle.std.specs.Int.{bytes_high_first}
-use Rattle.bit_fields.specs.Bits.{joined, field_at}
+use Rattle.bit_fields.specs.Bits.{bit, joined, field_at}
 use Rattle.uplink_frame.specs.declared.header.UplinkHeader.{UplinkHeader}
 
 -- how many bytes a payload has, and how many of them are for information frames
@@ -13,9 +13,6 @@ payload_length = 432
 
 abbrev pub frame_room : ℕ
 frame_room = 424
-
-abbrev pub bit : Bool → ℕ
-bit b = if b then 1 else 0
 
 -- the 8 bytes of a header; the two reserved fields are 0
 abbrev pub header_bytes : UplinkHeader → List ℕ
