@@ -1,7 +1,7 @@
 //! The top call.
 ghost use Rattle.std.specs.Prelude.{◌≡◌, ◌≤◌, ◌↔◌, None, Some, map, string_bytes};
 ghost use Rattle.fisb_wire.specs.Faults.{Rose};
-ghost use Rattle.run_core.specs.Run.{HasRun, IsDecided, ends, task_of};
+ghost use Rattle.run_core.specs.Run.{HasRun, IsDecided, ends, sink_end, task_of};
 ghost use Rattle.fisb_app.specs.Command.{IsUnbuilt, command_named};
 ghost use Rattle.fisb_app.specs.declared.command.Command.{Command};
 ghost use Rattle.fisb_app.specs.Unbuilt.{HasRefused};
@@ -67,11 +67,20 @@ pub fn run<S: Source, K: Sink>(
     // nothing.
     ensures unbuilt { (command : Command)
         → command_named (map string_bytes words.now) ≡ Some command → IsUnbuilt command
-        → (source.new ≡ source.old) × HasRefused (K.written sink.old) (K.written sink.new)
-        (K.faults sink.old) (K.faults sink.new) result }
+        → (source.new ≡ source.old) × HasRefused
+        (sink_end (K.written sink.old) (K.faults sink.old))
+        (sink_end (K.written sink.new) (K.faults sink.new)) result }
     ensures gdl { command_named (map string_bytes words.now) ≡ Some Command.Gdl
         → (source.new ≡ source.old) × (sink.new ≡ sink.old)
         × (result ≡ Status.Refused 1 Reason.NotBuilt) }
+
+    // What the counts of faults of source and sink tell.
+    ensures read_fault { result ≡ Status.ReadFault
+        → Rose (S.faults source.old) (S.faults source.new) }
+    ensures write_fault { result ≡ Status.WriteFault
+        → Rose (K.faults sink.old) (K.faults sink.new) }
+    ensures source_faults { S.faults source.old ≤ S.faults source.new }
+    ensures sink_faults { K.faults sink.old ≤ K.faults sink.new }
     ensures spare { K.spare sink.new ≡ None }
     ensures reach { K.reach sink.new ≡ K.reach sink.old }
 {
@@ -101,6 +110,12 @@ pub fn run_link<S: Source, K: Sink>(alloc: Global, source: &mut S, sink: &mut K)
         (ends (S.left source.old) (S.faults source.old) (K.written sink.old) (K.faults sink.old))
         (ends (S.left source.new) (S.faults source.new) (K.written sink.new) (K.faults sink.new))
         result }
+    ensures read_fault { result ≡ Status.ReadFault
+        → Rose (S.faults source.old) (S.faults source.new) }
+    ensures write_fault { result ≡ Status.WriteFault
+        → Rose (K.faults sink.old) (K.faults sink.new) }
+    ensures source_faults { S.faults source.old ≤ S.faults source.new }
+    ensures sink_faults { K.faults sink.old ≤ K.faults sink.new }
     ensures spare { K.spare sink.new ≡ None }
     ensures reach { K.reach sink.new ≡ K.reach sink.old }
 {
@@ -127,6 +142,12 @@ pub fn run_link_over<S: Source, K: Sink, E: Ear>(
         (ends (S.left source.old) (S.faults source.old) (K.written sink.old) (K.faults sink.old))
         (ends (S.left source.new) (S.faults source.new) (K.written sink.new) (K.faults sink.new))
         result }
+    ensures read_fault { result ≡ Status.ReadFault
+        → Rose (S.faults source.old) (S.faults source.new) }
+    ensures write_fault { result ≡ Status.WriteFault
+        → Rose (K.faults sink.old) (K.faults sink.new) }
+    ensures source_faults { S.faults source.old ≤ S.faults source.new }
+    ensures sink_faults { K.faults sink.old ≤ K.faults sink.new }
     ensures spare { K.spare sink.new ≡ None }
     ensures reach { K.reach sink.new ≡ K.reach sink.old }
 {
@@ -147,6 +168,12 @@ pub fn run_ground<S: Source, K: Sink>(alloc: Global, source: &mut S, sink: &mut 
         (ends (S.left source.old) (S.faults source.old) (K.written sink.old) (K.faults sink.old))
         (ends (S.left source.new) (S.faults source.new) (K.written sink.new) (K.faults sink.new))
         result }
+    ensures read_fault { result ≡ Status.ReadFault
+        → Rose (S.faults source.old) (S.faults source.new) }
+    ensures write_fault { result ≡ Status.WriteFault
+        → Rose (K.faults sink.old) (K.faults sink.new) }
+    ensures source_faults { S.faults source.old ≤ S.faults source.new }
+    ensures sink_faults { K.faults sink.old ≤ K.faults sink.new }
     ensures spare { K.spare sink.new ≡ None }
     ensures reach { K.reach sink.new ≡ K.reach sink.old }
 {
@@ -157,8 +184,9 @@ pub fn run_ground<S: Source, K: Sink>(alloc: Global, source: &mut S, sink: &mut 
 pub fn run_receive<S: Source, K: Sink>(alloc: Global, source: &mut S, sink: &mut K) -> Status
     requires { K.spare sink.old ≡ None }
     ensures unread { source.new ≡ source.old }
-    ensures refused { HasRefused (K.written sink.old) (K.written sink.new)
-        (K.faults sink.old) (K.faults sink.new) result }
+    ensures refused { HasRefused (sink_end (K.written sink.old) (K.faults sink.old))
+        (sink_end (K.written sink.new) (K.faults sink.new)) result }
+    ensures sink_faults { K.faults sink.old ≤ K.faults sink.new }
     ensures spare { K.spare sink.new ≡ None }
     ensures reach { K.reach sink.new ≡ K.reach sink.old }
 {
@@ -183,8 +211,9 @@ pub fn run_gdl<S: Source, K: Sink>(alloc: Global, source: &mut S, sink: &mut K) 
 pub fn run_make<K: Sink>(alloc: Global, count: u32, seed: u64, sink: &mut K) -> Status
     requires spare { K.spare sink.old ≡ None }
     requires count { (1 ≤ count) × (count ≤ 1000) }
-    ensures refused { HasRefused (K.written sink.old) (K.written sink.new)
-        (K.faults sink.old) (K.faults sink.new) result }
+    ensures refused { HasRefused (sink_end (K.written sink.old) (K.faults sink.old))
+        (sink_end (K.written sink.new) (K.faults sink.new)) result }
+    ensures sink_faults { K.faults sink.old ≤ K.faults sink.new }
     ensures spare { K.spare sink.new ≡ None }
     ensures reach { K.reach sink.new ≡ K.reach sink.old }
 {
@@ -194,8 +223,9 @@ pub fn run_make<K: Sink>(alloc: Global, count: u32, seed: u64, sink: &mut K) -> 
 /// Refuses line 1 for a command that is not built yet.
 fn refuse<K: Sink>(alloc: Global, sink: &mut K) -> Status
     requires { K.spare sink.old ≡ None }
-    ensures refused { HasRefused (K.written sink.old) (K.written sink.new)
-        (K.faults sink.old) (K.faults sink.new) result }
+    ensures refused { HasRefused (sink_end (K.written sink.old) (K.faults sink.old))
+        (sink_end (K.written sink.new) (K.faults sink.new)) result }
+    ensures sink_faults { K.faults sink.old ≤ K.faults sink.new }
     ensures spare { K.spare sink.new ≡ None }
     ensures reach { K.reach sink.new ≡ K.reach sink.old }
 {

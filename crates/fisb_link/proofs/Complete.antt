@@ -145,7 +145,7 @@ brought table all sent h past e setting are there =
     let has : HasAll (files_heard table sent (h ∷ past)) item.station (file_of item) =
     subst (λ (js : List joining.Segment). HasAll js item.station (file_of item))
     (sym (files-grow table sent h past)) has_now in
-    let within = number-within item s aired.of_item in
+    let within = number-within setting.layers item s aired.of_item in
     record {
       item = item;
       item_in = aired.item_in;

@@ -1,8 +1,9 @@
 -- What arrives of hearings are the segments that were heard before the longest life of their
 -- product had passed. From here on no byte and no field of time is spoken of.
-use Rattle.std.proofs.Common.{◌≡◌, ℕ, ◌+◌, ◌<◌, ◌≤◌, true, List, [], ◌∷◌, ◌++◌, map, filter, filter_map, Option, Some, unwrap_or, slice_get, refl, sym, ap, ap₂, subst, ◌∙◌, inl, inr, arith}
+use Rattle.std.proofs.Common.{◌≡◌, ℕ, ◌+◌, ◌<◌, ◌≤◌, Bool, true, cond, List, [], ◌∷◌, ◌++◌, map, filter, filter_map, Option, Some, None, unwrap_or, slice_get, refl, sym, ap, ap₂, subst, ◌∙◌, inl, inr, arith}
 use Rattle.std.specs.Result.{result_ok}
-use Rattle.std.proofs.lemmas.Bool.{lt-ltb}
+use Rattle.std.specs.List.{cons_option}
+use Rattle.std.proofs.lemmas.Bool.{cases_Bool, cond-true, cond-false, lt-ltb}
 use Rattle.std.proofs.lemmas.List.{map-append}
 use Rattle.fisb_time.specs.Moment.{IsMoment}
 use Rattle.life_table.specs.LifeTable.{LifeTable, longest}
@@ -22,7 +23,6 @@ use Rattle.receiver_core.specs.Reception.{arrival_in, arrivals_in, arrivals}
 use Rattle.fisb_link.specs.LinkPicture.{Hearing, segments_in, heard_segments}
 use Rattle.fisb_link.specs.Hearing.{IsInTime, IsAfterHearings, AreHeard, payload_sent, reception_of, receptions_of}
 use Rattle.fisb_link.proofs.Layers.{AreAll, Setting}
-use Rattle.fisb_link.proofs.Numbers.{found-filter}
 use Rattle.fisb_link.proofs.ReadSegments.{joint, is_fresh, arrival-read}
 use Rattle.fisb_link.proofs.StillHeard.{in_time}
 
@@ -40,6 +40,32 @@ files_now table sent h = map joint (fresh_now table sent h)
 
 abbrev pub files_heard : LifeTable → List Frame → List Hearing → List joining.Segment
 files_heard table sent heard = map joint (fresh table sent heard)
+
+-- what is found of each member that passes a test
+found-filter : {A B C D : Type 0} (g : B → Option D) (f : A → B) (p : A → Bool) (j : A → C)
+    (k : C → D) (xs : List A)
+    → ((x : A) → IsIn x xs → g (f x) ≡ cond (p x) (Some (k (j x))) None)
+    → filter_map g (map f xs) ≡ map k (map j (filter p xs))
+found-filter {D = D} g f p j k [] each = refl
+found-filter {A = A} {D = D} g f p j k (x ∷ xs) each =
+    let later = found-filter g f p j k xs (λ y h. each y (inr h)) in
+    let rest = filter_map g (map f xs) in
+    elim (cases_Bool (p x)) [
+      | inl t ↦
+          let here : g (f x) ≡ Some (k (j x)) = each x (inl refl)
+          ∙ cond-true (p x) (Some (k (j x))) None t in
+          ap (λ (o : Option D). cons_option o rest) here
+          ∙ ap (λ (ys : List D). k (j x) ∷ ys) later
+          ∙ ap (λ (ys : List A). map k (map j ys))
+          (sym (cond-true (p x) (x ∷ filter p xs) (filter p xs) t))
+      | inr t ↦
+          let here : g (f x) ≡ None = each x (inl refl)
+          ∙ cond-false (p x) (Some (k (j x))) None t in
+          ap (λ (o : Option D). cons_option o rest) here
+          ∙ later
+          ∙ ap (λ (ys : List A). map k (map j ys))
+          (sym (cond-false (p x) (x ∷ filter p xs) (filter p xs) t))
+    ]
 
 -- what arrives of a payload that reads back
 abbrev ArriveFresh : LifeTable → ℕ → Option Frame → Type 0

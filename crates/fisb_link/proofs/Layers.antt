@@ -16,12 +16,13 @@ use Rattle.picture_core.specs.Key.{Key, same_key}
 use Rattle.picture_core.specs.Entry.{Entry}
 use Rattle.picture_core.specs.Picture.{shown_at, picture}
 use Rattle.picture_core.specs.Shown.{AddsSame, IsShown}
+use Rattle.segment_core.specs.Cutting.{PartsFitFrames}
 use Rattle.segment_core.specs.Joining.{OnlyFilesComplete, FilesComplete, WholeFilesComplete, CompletedGrows}
+use Rattle.apdu_core.specs.Apdu.{file_numbers}
 use Rattle.ground_core.specs.Item.{Item, is_segmented}
-use Rattle.ground_core.specs.History.{file_numbers}
 use Rattle.ground_core.specs.Airing.{Frame, has_key}
 use Rattle.ground_core.specs.Sound.{IsSound, HistoriesHaveItems}
-use Rattle.ground_core.specs.Sent.{IsFrame, ItemsAreOfStations, FramesReadBack}
+use Rattle.ground_core.specs.Sent.{IsFrame, ItemsAreOfStations, SegmentsAreOfItems, FramesReadBack}
 
 -- the fields of a moment name it again, when they are received in time
 abbrev pub TimeRoundTrip : Type 0
@@ -47,6 +48,7 @@ pub record PictureLayers : Type 0 where
 
 -- of files that are cut and joined
 pub record FileLayers : Type 0 where
+  pub parts : PartsFitFrames
   pub only : OnlyFilesComplete
   pub cut : FilesComplete
   pub uncut : WholeFilesComplete
@@ -59,6 +61,7 @@ pub record Layers : Type 0 where
   pub stations : StationsAreTold
   pub histories : HistoriesHaveItems
   pub items : ItemsAreOfStations
+  pub segments : SegmentsAreOfItems
   pub frames : FramesReadBack
   pub files : FileLayers
   pub pictures : PictureLayers

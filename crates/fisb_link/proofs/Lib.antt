@@ -1,5 +1,4 @@
 pub mod Layers
-pub mod Numbers
 pub mod StationItems
 pub mod ReadSegments
 pub mod HeardSegments

@@ -1,15 +1,14 @@
 -- The body of a segment that is heard in time reads back as the arrival of that segment, until the
 -- longest life of its product has passed.
-use Rattle.std.proofs.Common.{◌≡◌, ℕ, zero, suc, ◌+◌, ◌-◌, ◌<◌, ◌≤◌, Bool, true, false, nat_lt, cond, List, [], ◌∷◌, length, drop, Option, Some, None, unwrap_or, Result, Ok, Err, slice_index_or, refl, sym, ap, subst, ◌∙◌, inl, inr, arith}
+use Rattle.std.proofs.Common.{◌≡◌, ℕ, ◌+◌, ◌<◌, ◌≤◌, Bool, true, false, nat_lt, cond, List, length, Option, Some, None, unwrap_or, Result, Ok, Err, refl, sym, ap, subst, ◌∙◌, inl, inr, arith}
 use Rattle.std.specs.Result.{result_ok}
-use Rattle.std.proofs.lemmas.Bool.{cases_Bool, cond-true, cond-false, or_left, or_right, eq-eqb, le-ltb}
-use Rattle.std.proofs.lemmas.List.Elements.{All-nil, All-take, All-drop}
-use Rattle.bit_fields.specs.Bits.{AreBytes}
+use Rattle.std.proofs.lemmas.Bool.{cases_Bool, cond-true, cond-false, or_cases, eqb-true, le-ltb}
 use Rattle.fisb_time.specs.Moment.{IsMoment}
 use Rattle.fisb_time.specs.TimeFields.{shown}
 use Rattle.fisb_time.specs.Naming.{named, window}
 use Rattle.fisb_time.specs.declared.form.TimeForm.{TimeForm}
 use Rattle.fisb_time.specs.declared.form.TimeForm.TheVariants.{Minute, Second, DayMinute, DaySecond}
+use Rattle.life_table.specs.Products.{regional_radar, conus_radar, text_product, is_read_product}
 use Rattle.life_table.specs.LifeTable.{LifeTable, longest}
 use Rattle.life_table.specs.Rules.{IsTable, IsWithinForm}
 use Rattle.apdu_core.specs.declared.unit.Seg.{Seg}
@@ -18,7 +17,6 @@ use Rattle.apdu_core.specs.Spelling.{FitsSegmentation}
 use Rattle.uplink_frame.specs.declared.station.StationId.{StationId}
 use Rattle.uplink_frame.specs.UplinkFrame.{fisb_frame}
 use Rattle.list_members.specs.Membership.{IsIn}
-use Rattle.list_members.proofs.ListMembers.{in_map, map_has}
 use Rattle.segment_core.specs.File.{File, pieces, parts, parts_of, part_of, numbers_of, segment_limit, segments_needed, segmentation_of, apdu_of_segment}
 use Rattle.segment_core.specs.File as files
 use Rattle.segment_core.specs.Arrival.{Arrival}
@@ -26,75 +24,40 @@ use Rattle.segment_core.specs.Joining.{arrival_of, segment}
 use Rattle.segment_core.specs.Joining as joining
 use Rattle.ground_core.specs.Item.{Item, Segment, segment_of, segments_of, file_of, body_of}
 use Rattle.ground_core.specs.Airing.{Frame}
-use Rattle.ground_core.specs.Sound.{IsReadProduct}
 use Rattle.ground_core.specs.Sent.{IsAired}
 use Rattle.receiver_core.specs.Reception.{is_large, arrival_with_version, arrival_with_row, arrival_of_apdu, arrival_in}
-use Rattle.segment_core.specs.Store.{is_read_product}
-use Rattle.receiver_core.specs.Reception as reception
 use Rattle.receiver_core.specs.declared.unread.UnreadReason.{UnreadReason}
 use Rattle.receiver_core.specs.declared.unread.UnreadReason.TheVariants.{Stale, Product, Files}
 use Rattle.fisb_link.proofs.Layers.{Layers, AreAll, Setting}
-use Rattle.fisb_link.proofs.Numbers.{in_range, range_has}
 
 -- the segment of a file that a segment of an item is
 abbrev pub joint : Segment → joining.Segment
 joint s = segment s.item.station (file_of s.item) s.number
 
 -- the segments of an item are those of its file
-pub own-item : (item : Item) (s : Segment) → IsIn s (segments_of item) → s.item ≡ item
-own-item item s h =
-    ap (λ (x : Segment). x.item) (in_map (segment_of item) s (numbers_of (file_of item)) h).2
+pub own-item : Layers → (item : Item) (s : Segment) → IsIn s (segments_of item) → s.item ≡ item
+own-item layers item s h = ((layers.segments item s).0 h).item_is
 
-pub number-within : (item : Item) (s : Segment) → IsIn s (segments_of item)
+pub number-within : Layers → (item : Item) (s : Segment) → IsIn s (segments_of item)
     → (1 ≤ s.number) × (s.number ≤ length (parts_of (file_of item)))
-number-within item s h =
-    let found = in_map (segment_of item) s (numbers_of (file_of item)) h in
-    let within = in_range found.0 1 (length (parts_of (file_of item))) found.1 in
-    let same : s.number ≡ found.0 = ap (λ (x : Segment). x.number) found.2 in
-    (omega arith, omega arith)
+number-within layers item s h =
+    let is = (layers.segments item s).0 h in (is.least, is.most)
 
-pub segments-has : (item : Item) (n : ℕ) → 1 ≤ n → n ≤ length (parts_of (file_of item))
+pub segments-has : Layers → (item : Item) (n : ℕ) → 1 ≤ n → n ≤ length (parts_of (file_of item))
     → IsIn (segment_of item n) (segments_of item)
-segments-has item n least most =
-    map_has (segment_of item) n (numbers_of (file_of item))
-    (range_has n 1 (length (parts_of (file_of item))) least (omega arith))
+segments-has layers item n least most =
+    (layers.segments item (segment_of item n)).1
+    (record { item_is = refl; least = least; most = most })
 
--- the parts of bytes are bytes
-pieces-bytes : (count limit : ℕ) (bytes : List ℕ) → AreBytes bytes → (n : ℕ)
-    → AreBytes (slice_index_or (pieces count limit bytes) n [])
-pieces-bytes zero limit bytes are n = All-nil (λ b. b < 256)
-pieces-bytes (suc count) limit bytes are zero = All-take (λ b. b < 256) limit bytes are
-pieces-bytes (suc count) limit bytes are (suc n) =
-    pieces-bytes count limit (drop limit bytes) (All-drop (λ b. b < 256) limit bytes are) n
-
-one-bytes : (bytes : List ℕ) → AreBytes bytes → (n : ℕ)
-    → AreBytes (slice_index_or (bytes ∷ []) n [])
-one-bytes bytes are zero = are
-one-bytes bytes are (suc n) = All-nil (λ b. b < 256)
-
-parts-bytes : (form : TimeForm) (payload : List ℕ) → AreBytes payload → (n : ℕ)
-    → AreBytes (slice_index_or (parts form payload) n [])
-parts-bytes form payload are n =
-    let cut = files.is_segmented form payload in
-    let many = pieces (segments_needed form payload) (segment_limit form) payload in
-    let are_bytes : List (List ℕ) → Type 0 = λ ps. AreBytes (slice_index_or ps n []) in
-    elim (cases_Bool cut) [
-      | inl t ↦ subst are_bytes (sym (cond-true cut many (payload ∷ []) t))
-          (pieces-bytes (segments_needed form payload) (segment_limit form) payload are n)
-      | inr f ↦ subst are_bytes (sym (cond-false cut many (payload ∷ []) f))
-          (one-bytes payload are n)
-    ]
-
--- the products that are read
-known : (product : ℕ) → IsReadProduct product → is_read_product product ≡ true
-known product (inl e) = or_left _ _ (or_left _ _ (eq-eqb product 63 e))
-known product (inr (inl e)) = or_left _ _ (or_right _ _ (eq-eqb product 64 e))
-known product (inr (inr e)) = or_right _ _ (eq-eqb product 413 e)
-
-product-fits : (product : ℕ) → IsReadProduct product → product < 2048
-product-fits product (inl e) = omega arith
-product-fits product (inr (inl e)) = omega arith
-product-fits product (inr (inr e)) = omega arith
+-- the products that are read have eleven bits
+product-fits : (product : ℕ) → is_read_product product ≡ true → product < 2048
+product-fits product read = elim (or_cases _ _ read) [
+  | inl radar ↦ elim (or_cases _ _ radar) [
+    | inl e ↦ let is = eqb-true product regional_radar e in omega arith
+    | inr e ↦ let is = eqb-true product conus_radar e in omega arith
+  ]
+  | inr e ↦ let is = eqb-true product text_product e in omega arith
+]
 
 -- the fields of a segment
 abbrev fields_of : Item → ℕ → Seg
@@ -129,7 +92,7 @@ body-back : Layers → (table : LifeTable) (all : List Item) (s : Segment) → A
     → apdu_of (body_of s) ≡ Ok (apdu_of_segment (file_of s.item) s.number)
 body-back layers table all s are item_in of_item =
     let sound = are.sound s.item item_in in
-    let within = number-within s.item s of_item in
+    let within = number-within layers s.item s of_item in
     let w = s.item.weather in
     (layers.apdus).same (apdu_of_segment (file_of s.item) s.number)
     (record {
@@ -137,12 +100,12 @@ body-back layers table all s are item_in of_item =
       time = layers.shown_fits w.form w.version sound.version;
       segmentation = segmentation-fits table all s.item s.number are item_in within.0 within.1;
     })
-    (parts-bytes w.form w.payload sound.bytes (s.number - 1))
+    (((layers.files).parts (file_of s.item) s.number within.0 within.1).bytes sound.bytes)
 
 -- and is not one of too many
 not-large : (cut : Bool) (fields : Seg) → fields.count ≤ 64
     → is_large (cond cut (Some fields) None) ≡ false
-not-large true fields few = le-ltb reception.most_segments fields.count few
+not-large true fields few = le-ltb files.most_segments fields.count few
 not-large false fields few = refl
 
 -- the time round trip holds for what was live when it was sent, and is heard in time
@@ -205,7 +168,7 @@ arrival-read table all sent frame s received setting aired range after soon =
     (body-back layers table all s are aired.item_in aired.of_item)
     ∙ cond-true (is_read_product w.product)
     (arrival_with_row station received apdu (longest table w.product)) (Err Product)
-    (known w.product sound.product)
+    sound.product
     ∙ ap (arrival_with_row station received apdu) listed.has_row
     ∙ cond-false (is_large apdu.segmentation) (Err Files)
     (arrival_with_version station received apdu life (named w.form apdu.time received))

@@ -30,7 +30,7 @@ use Rattle.ground_core.specs.Refusal.{give_refusal}
 use Rattle.ground_core.specs.Broadcast.{StationEvent, IsBroadcast, frames}
 use Rattle.fisb_link.specs.LinkPicture.{Hearing, link_entries, link_picture}
 use Rattle.fisb_link.specs.Hearing.{AreHeard}
-use Rattle.fisb_link.proofs.Numbers.{all_in}
+use Rattle.list_members.proofs.Ranges.{all_in}
 
 abbrev other_station : StationId
 other_station = record { lat = 7; lon = 9; position_valid = true; site = 3 }

@@ -19,7 +19,7 @@ use Rattle.ground_core.specs.Airing.{Frame, has_key}
 use Rattle.fisb_link.specs.LinkPicture.{Hearing, heard_segments, was_heard, is_whole}
 use Rattle.fisb_link.specs.Hearing.{IsAfterHearings, AreHeard}
 use Rattle.fisb_link.proofs.Layers.{Layers, AreAll, Setting}
-use Rattle.fisb_link.proofs.Numbers.{all_in, in_all}
+use Rattle.list_members.proofs.Ranges.{all_in, in_all}
 use Rattle.fisb_link.proofs.ReadSegments.{joint, own-item, number-within, segments-has}
 use Rattle.fisb_link.proofs.HeardSegments.{fresh, files_heard, fresh-heard, aired-heard, heard-fresh}
 
@@ -53,7 +53,8 @@ heard-numbered : (table : LifeTable) (all : List Item) (sent : List Frame) (hear
     → AreHeard table.late sent heard → IsIn j (files_heard table sent heard) → IsSegment j
 heard-numbered table all sent heard j setting are h =
     let found = heard-joint table all sent heard j setting are h in
-    subst IsSegment (sym found.same) (number-within (found.of).item found.of found.of_item)
+    subst IsSegment (sym found.same)
+    (number-within setting.layers (found.of).item found.of found.of_item)
 
 one-file : (table : LifeTable) (all : List Item) (i j : Item) → AreAll table all → IsIn i all
     → IsIn j all
@@ -147,7 +148,7 @@ pub all-whole : (table : LifeTable) (all : List Item) (sent : List Frame) (heard
     → is_whole sent heard item ≡ true
 all-whole table all sent heard item e setting are item_in there has =
     in_all (was_heard sent heard) (segments_of item) (λ s h.
-    let within = number-within item s h in
+    let within = number-within setting.layers item s h in
     let found = heard-joint table all sent heard
     (segment item.station (file_of item) s.number) setting are
     (has s.number within.0 within.1) in
@@ -156,7 +157,7 @@ all-whole table all sent heard item e setting are item_in there has =
     (ap (λ (j : joining.Segment). j.station) found.same)
     (ap (λ (j : joining.Segment). j.file) found.same) there in
     let same : s ≡ t =
-    ap₂ segment_of (own-item item s h ∙ one)
+    ap₂ segment_of (own-item setting.layers item s h ∙ one)
     (ap (λ (j : joining.Segment). j.number) found.same) in
     let was = fresh-heard table sent heard t found.among_is in
     in_any (same_segment s) t (heard_segments sent heard) was
@@ -172,7 +173,7 @@ pub whole-all : (table : LifeTable) (all : List Item) (sent : List Frame) (heard
 whole-all table all sent heard moment item setting are after item_in lives whole number least most =
     let s = segment_of item number in
     let was = all_in (was_heard sent heard) s (segments_of item) whole
-    (segments-has item number least most) in
+    (segments-has setting.layers item number least most) in
     let found = any_in (same_segment s) (heard_segments sent heard) was in
     let aired = (aired-heard table all sent heard found.0 setting are found.1).1 in
     let same = same-one

@@ -4,10 +4,12 @@ ghost use Rattle.fisb_link.specs.PicturesAgree.{HearingsStay, PicturesAgree};
 
 use apdu_core::{apdu_reads_back, shown_fits};
 use fisb_time::form_round_trip;
-use ground_core::{frames_read_back, histories_have_items, items_are_of_stations};
+use ground_core::{
+    frames_read_back, histories_have_items, items_are_of_stations, segments_are_of_items,
+};
 use picture_core::laws::{keys_are_ordered, same_pictures, shown_is_newest};
 use segment_core::laws::{
-    completed_grows, files_complete, only_files_complete, whole_files_complete,
+    completed_grows, files_complete, only_files_complete, parts_fit_frames, whole_files_complete,
 };
 use uplink_frame::stations_are_told;
 
@@ -23,7 +25,9 @@ pub fn pictures_agree()
     stations_are_told();
     histories_have_items();
     items_are_of_stations();
+    segments_are_of_items();
     frames_read_back();
+    parts_fit_frames();
     only_files_complete();
     files_complete();
     whole_files_complete();

@@ -9,7 +9,8 @@ use Rattle.life_table.specs.LifeTable.{LifeTable, TextRow, text_row}
 use Rattle.text_reports.specs.TextKey.{TextKey, KeyFault, text_key}
 use Rattle.picture_core.specs.Key.{text_report}
 use Rattle.picture_core.specs.Entry.{Entry, report}
-use Rattle.picture_core.specs.Contents.{text_product, report_entries, entry_by_key, entry_by_row}
+use Rattle.life_table.specs.Products.{text_product}
+use Rattle.picture_core.specs.Contents.{report_entries, entry_by_key, entry_by_row}
 use Rattle.ground_core.specs.Item.{Weather, Item}
 use Rattle.ground_core.specs.Update.{text, weather_of, weather_by_key, weather_by_row}
 use Rattle.ground_core.specs.Refusal.{GiveRefusal, coarse, ahead, expired, not_newer, give_refusal, text_fault_refusal, key_refusal, weather_refusal, age_refusal, file_refusal, given_version}

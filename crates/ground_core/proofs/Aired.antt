@@ -5,16 +5,17 @@ use Rattle.std.proofs.lemmas.List.Sums.{sum_by-cons}
 use Rattle.life_table.specs.LifeTable.{LifeTable}
 use Rattle.life_table.specs.Rules.{IsTable}
 use Rattle.uplink_frame.specs.declared.station.StationId.{StationId}
-use Rattle.segment_core.specs.File.{numbers_of}
 use Rattle.list_members.specs.Membership.{IsIn}
 use Rattle.list_members.proofs.Members.{IsIn-before, IsIn-after, IsIn-either, IsIn-from_filter}
 use Rattle.list_members.proofs.ListMembers.{in_map, in_flat_map}
-use Rattle.ground_core.specs.Item.{Weather, Item, Segment, segment_of, segments_of, file_of, room_of, end_of}
+use Rattle.uplink_frame.specs.UplinkFrame.{frame_room}
+use Rattle.ground_core.specs.Item.{Weather, Item, Segment, segments_of, room_of, end_of}
 use Rattle.ground_core.specs.Update.{weather_of}
 use Rattle.ground_core.specs.History.{Event, accepted, fill, item_of, items_made, new_items, items}
-use Rattle.ground_core.specs.Airing.{Touch, touch, is_live, is_touched, last_touches, waiting, fitting, frame_room, airing, touches, log}
+use Rattle.ground_core.specs.Airing.{Touch, touch, is_live, is_touched, last_touches, waiting, fitting, airing, touches, log}
 use Rattle.ground_core.specs.Broadcast.{IsNotBefore, IsHistory}
 use Rattle.ground_core.specs.Sound.{AreGiven, AcceptedIsGiven}
+use Rattle.ground_core.proofs.Segments.{is_segment_of}
 
 in_last : (t : Touch) (touched : List Touch) → IsIn t (last_touches touched) → IsIn t touched
 in_last t [] h = absurd h
@@ -75,9 +76,6 @@ pub record IsOfItem (all : List Item) (s : Segment) : Type 0 where
   pub item_in : IsIn s.item all
   pub of_item : IsIn s (segments_of s.item)
 
-own-segment : (item : Item) (s : Segment) → IsIn s (segments_of item) → s.item ≡ item
-own-segment item s h = ap (λ (x : Segment). x.item) (in_map (segment_of item) s (numbers_of (file_of item)) h).2
-
 of_item-more : (all more : List Item) (s : Segment) → IsOfItem all s → IsOfItem (all ++ more) s
 of_item-more all more s of = record { item_in = IsIn-before s.item all more of.item_in; of_item = of.of_item }
 
@@ -92,7 +90,7 @@ log-items table station (accepted moment update ∷ past) t h =
       | inr last ↦
           let touched = in_map (touch None) t (flat_map segments_of new) last in
           let found = in_flat_map segments_of touched.0 new touched.1 in
-          let own = own-segment found.0 touched.0 found.2 in
+          let own = (is_segment_of found.0 touched.0 found.2).item_is in
           subst (IsOfItem (before ++ new)) (sym (ap (λ (x : Touch). x.segment) touched.2)) (record {
             item_in = subst (λ (x : Item). IsIn x (before ++ new)) (sym own) (IsIn-after found.0 before new found.1);
             of_item = subst (λ (x : Item). IsIn touched.0 (segments_of x)) (sym own) found.2;

@@ -1,31 +1,28 @@
 -- The frames of a broadcast: what they air, and what their payloads read back as.
-use Rattle.std.proofs.Common.{◌≡◌, ℕ, zero, suc, ◌+◌, ◌-◌, ◌<◌, ◌≤◌, Bool, true, false, cond, List, [], ◌∷◌, ◌++◌, length, map, drop, sum_by, Some, None, is_some, slice_index_or, refl, sym, ap, subst, ◌∙◌, inl, inr, arith}
-use Rattle.std.proofs.lemmas.Bool.{cases_Bool, cond-true, cond-false}
-use Rattle.std.proofs.lemmas.List.Elements.{All-nil, All-take, All-drop}
+use Rattle.std.proofs.Common.{◌≡◌, ℕ, ◌+◌, ◌≤◌, List, [], ◌∷◌, ◌++◌, length, map, sum_by, is_some, refl, sym, ap, subst, ◌∙◌, inl, inr, arith}
 use Rattle.std.proofs.lemmas.List.Sums.{sum_by-cons}
-use Rattle.bit_fields.specs.Bits.{AreBytes}
-use Rattle.fisb_time.specs.declared.form.TimeForm.{TimeForm}
 use Rattle.life_table.specs.LifeTable.{LifeTable}
 use Rattle.life_table.specs.Rules.{IsTable}
-use Rattle.apdu_core.specs.Apdu.{header_length}
 use Rattle.apdu_core.specs.Laws.{ReadsBack}
 use Rattle.uplink_frame.specs.declared.station.StationId.{StationId}
 use Rattle.uplink_frame.specs.Station.{FitsStation, header_of}
 use Rattle.uplink_frame.specs.UplinkFrame.{InformationFrame, fisb_frame, spelled_frames}
 use Rattle.uplink_frame.specs.Laws.{StationsAreTold, IsBody, frames_size, BodiesComeBack, FramesHaveSize}
 use Rattle.uplink_frame.specs.Laws as uplink
-use Rattle.segment_core.specs.File.{pieces, parts, segment_limit, segments_needed, part_of, apdu_of_segment}
-use Rattle.segment_core.specs.File as files
+use Rattle.segment_core.specs.Cutting.{PartsFitFrames}
+use Rattle.segment_core.specs.File.{apdu_of_segment}
 use Rattle.list_members.specs.Membership.{IsIn}
 use Rattle.list_members.proofs.Members.{IsIn-before, IsIn-either}
 use Rattle.list_members.proofs.ListMembers.{in_map, in_one, All-members}
-use Rattle.ground_core.specs.Item.{Item, Segment, is_segmented, file_of, room_of, body_of}
+use Rattle.uplink_frame.specs.UplinkFrame.{frame_room}
+use Rattle.ground_core.specs.Item.{Item, Segment, segments_of, file_of, room_of, body_of}
 use Rattle.ground_core.specs.History.{Event, accepted, fill, new_items, items}
-use Rattle.ground_core.specs.Airing.{Frame, frame_after, frame_room, used_room, waiting, log}
+use Rattle.ground_core.specs.Airing.{Frame, frame_after, used_room, waiting, log}
 use Rattle.ground_core.specs.Broadcast.{StationEvent, IsBroadcast, IsNext, history_of, frames_of_event, frames, all_items}
 use Rattle.ground_core.specs.Sound.{IsSound, AcceptedIsGiven, HistoriesHaveItems}
 use Rattle.ground_core.specs.Sent.{IsFrame, FramesReadBack, fisb_frames_of}
-use Rattle.ground_core.proofs.Stations.{station-history, in_all}
+use Rattle.ground_core.proofs.Segments.{body_size, is_segment_of}
+use Rattle.ground_core.proofs.Stations.{station-history, of_all}
 use Rattle.ground_core.proofs.Aired.{fitting-fits, aired-after, items-lead}
 
 -- what the crates below promise of frames and bodies, and this one of items
@@ -34,21 +31,9 @@ pub record FrameLayers : Type 0 where
   pub bodies : BodiesComeBack
   pub size : FramesHaveSize
   pub apdus : ReadsBack
+  pub parts : PartsFitFrames
   pub given : AcceptedIsGiven
   pub items_are : HistoriesHaveItems
-
--- a segment takes two bytes more than its body
-some_of : {A : Type 0} (b : Bool) (x : A) → is_some (cond b (Some x) None) ≡ b
-some_of true x = refl
-some_of false x = refl
-
-pub room-body : FrameLayers → (s : Segment) → room_of s ≡ 2 + length (body_of s)
-room-body layers s =
-    let size = (layers.apdus).size (apdu_of_segment (file_of s.item) s.number) in
-    let flag = some_of (is_segmented s.item.weather) (record { file = (file_of s.item).number; count = length (files.parts_of (file_of s.item)); number = s.number }) in
-    let same : room_of s ≡ length (body_of s) + 2 =
-    ap (λ b. header_length s.item.weather.form b + length (part_of (file_of s.item) s.number) + 2) (sym flag) ∙ ap (λ n. n + 2) (sym size) in
-    omega arith
 
 used-size : FrameLayers → (segments : List Segment) → sum_by room_of segments ≡ frames_size (map body_of segments)
 used-size layers [] = refl
@@ -56,7 +41,7 @@ used-size layers (s ∷ more) =
     let rest = used-size layers more in
     let sums = sum_by-cons room_of s more in
     let sizes = sum_by-cons (λ (body : List ℕ). 2 + length body) (body_of s) (map body_of more) in
-    let room = room-body layers s in
+    let room = body_size (layers.apdus).size s in
     omega arith
 
 room-within : (s : Segment) (segments : List Segment) → IsIn s segments → room_of s ≤ sum_by room_of segments
@@ -70,36 +55,19 @@ room-within s (x ∷ more) (inr h) =
     let rest = room-within s more h in
     omega arith
 
--- the parts of bytes are bytes
-pieces-bytes : (count limit : ℕ) (bytes : List ℕ) → AreBytes bytes → (n : ℕ) → AreBytes (slice_index_or (pieces count limit bytes) n [])
-pieces-bytes zero limit bytes are n = All-nil (λ b. b < 256)
-pieces-bytes (suc count) limit bytes are zero = All-take (λ b. b < 256) limit bytes are
-pieces-bytes (suc count) limit bytes are (suc n) = pieces-bytes count limit (drop limit bytes) (All-drop (λ b. b < 256) limit bytes are) n
-
-one-bytes : (bytes : List ℕ) → AreBytes bytes → (n : ℕ) → AreBytes (slice_index_or (bytes ∷ []) n [])
-one-bytes bytes are zero = are
-one-bytes bytes are (suc n) = All-nil (λ b. b < 256)
-
-parts-bytes : (form : TimeForm) (payload : List ℕ) → AreBytes payload → (n : ℕ) → AreBytes (slice_index_or (parts form payload) n [])
-parts-bytes form payload are n = elim (cases_Bool (files.is_segmented form payload)) [
-  | inl t ↦ subst (λ (ps : List (List ℕ)). AreBytes (slice_index_or ps n []))
-      (sym (cond-true (files.is_segmented form payload) (pieces (segments_needed form payload) (segment_limit form) payload) (payload ∷ []) t))
-      (pieces-bytes (segments_needed form payload) (segment_limit form) payload are n)
-  | inr f ↦ subst (λ (ps : List (List ℕ)). AreBytes (slice_index_or ps n []))
-      (sym (cond-false (files.is_segmented form payload) (pieces (segments_needed form payload) (segment_limit form) payload) (payload ∷ []) f))
-      (one-bytes payload are n)
-]
-
-body-is : FrameLayers → (table : LifeTable) (s : Segment) → IsSound table s.item.weather → room_of s ≤ frame_room → IsBody (body_of s)
-body-is layers table s sound small =
+body-is : FrameLayers → (table : LifeTable) (s : Segment) → IsSound table s.item.weather → IsIn s (segments_of s.item) → room_of s ≤ frame_room
+    → IsBody (body_of s)
+body-is layers table s sound own small =
+    let number = is_segment_of s.item s own in
+    let part = layers.parts (file_of s.item) s.number number.least number.most in
     let apdu = apdu_of_segment (file_of s.item) s.number in
     let size = (layers.apdus).size apdu in
     let least = (layers.apdus).header_least apdu.form (is_some apdu.segmentation) in
-    let room = room-body layers s in
+    let room = body_size (layers.apdus).size s in
     record {
       some = omega arith;
       most = omega arith;
-      bytes = (layers.apdus).bytes apdu (parts-bytes s.item.weather.form s.item.weather.payload sound.bytes (s.number - 1));
+      bytes = (layers.apdus).bytes apdu (part.bytes sound.bytes);
     }
 
 map-map : (segments : List Segment) → map fisb_frame (map body_of segments) ≡ map (λ s. fisb_frame (body_of s)) segments
@@ -121,7 +89,7 @@ new-frame layers table station past moment slot is_table fits next is =
     let found = in_map body_of body frame.segments h in
     let aired = aired-after table station before moment found.0 found.1 in
     let within = room-within found.0 frame.segments found.1 in
-    subst IsBody (sym found.2) (body-is layers table found.0 (are.sound (found.0).item (aired.of_item).item_in) (omega arith)) in
+    subst IsBody (sym found.2) (body-is layers table found.0 (are.sound (found.0).item (aired.of_item).item_in) (aired.of_item).of_item (omega arith)) in
     let back = layers.bodies station slot (map body_of frame.segments) fits next.is_accepted (All-members IsBody (map body_of frame.segments) bodies) (omega arith) in
     let same = map-map frame.segments in
     let spelled : length (spelled_frames (map fisb_frame (map body_of frame.segments))) ≡ frames_size (map body_of frame.segments) =
@@ -137,7 +105,7 @@ new-frame layers table station past moment slot is_table fits next is =
           let aired = aired-after table station before moment s h in
           let item_in = (aired.of_item).item_in in
           record {
-            item_in = in_all layers.stations table past station s.item item_in;
+            item_in = of_all layers.stations table past station s.item item_in;
             of_item = (aired.of_item).of_item;
             of_station = are.of_station s.item item_in;
             not_ahead = items-lead layers.given table station before moment s.item is_table history next.not_before item_in;

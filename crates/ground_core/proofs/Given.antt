@@ -1,14 +1,12 @@
 -- What an accepted text says is sound, given in time, and newer than all of its key before it.
-use Rattle.std.proofs.Common.{◌≡◌, ℕ, zero, suc, ◌+◌, ◌*◌, ◌/◌, ◌<◌, ◌≤◌, Bool, true, false, not, ◌&&◌, nat_lt, nat_le, cond, max, fold, List, [], ◌∷◌, length, map, filter, flat_map, Option, Some, None, is_none, Result, Ok, Err, refl, sym, ap, subst, ◌∙◌, inl, inr, arith}
+use Rattle.std.proofs.Common.{◌≡◌, ℕ, ◌+◌, ◌*◌, ◌/◌, ◌<◌, ◌≤◌, Bool, true, false, not, ◌&&◌, nat_lt, nat_le, cond, max, fold, List, [], ◌∷◌, length, map, filter, flat_map, Option, Some, None, is_none, Result, Ok, Err, refl, sym, ap, subst, ◌∙◌, inl, inr, arith}
 use Rattle.std.specs.Bool.{Decides}
 use Rattle.std.specs.Str.{chars, IsUtf8}
-use Rattle.std.proofs.lemmas.Bool.{cases_Bool, ltb-false, leb-false, not-false}
+use Rattle.std.proofs.lemmas.Bool.{ltb-false, leb-false, not-false}
 use Rattle.std.proofs.lemmas.List.{append-nil}
 use Rattle.bit_fields.specs.Bits.{AreBytes}
 use Rattle.fisb_time.specs.Moment.{IsMoment}
 use Rattle.fisb_time.specs.TimeForm.{shows}
-use Rattle.fisb_time.specs.declared.form.TimeForm.{TimeForm}
-use Rattle.fisb_time.specs.declared.form.TimeForm.TheVariants.{Minute, Second, DayMinute, DaySecond}
 use Rattle.dlac_text.specs.Alphabet.{IsDlac}
 use Rattle.dlac_text.specs.Payload.{text_payload}
 use Rattle.dlac_text.specs.Reports.{reports_of}
@@ -19,8 +17,7 @@ use Rattle.text_reports.specs.TextKey.{TextKey, KeyFault, few_words, text_key}
 use Rattle.list_members.specs.Membership.{IsIn}
 use Rattle.list_members.proofs.Members.{IsIn-filter}
 use Rattle.list_members.proofs.ListMembers.{map_has, in_one}
-use Rattle.segment_core.specs.File.{pieces, parts, segment_limit, segments_needed}
-use Rattle.segment_core.specs.File as files
+use Rattle.segment_core.specs.Cutting.{TextsHaveFewParts, longest_text_payload}
 use Rattle.picture_core.specs.Key.{Key, text_report, same_key}
 use Rattle.picture_core.specs.Entry.{Entry, report}
 use Rattle.picture_core.specs.Contents.{report_entries, entry_by_key, entry_by_row}
@@ -40,6 +37,7 @@ pub record TextLayers : Type 0 where
   pub longest_life : (table : LifeTable) (word : List ℕ) (row : TextRow) → text_row table word ≡ Some row
       → (life : ℕ) × (longest table 413 ≡ Some life) × (row.life ≤ life)
   pub same : (a b : Key) → Decides (same_key a b) (a ≡ b)
+  pub few : TextsHaveFewParts
 
 -- the entry and the weather of a text
 abbrev pub entry_of : TextKey → ℕ → ℕ → List ℕ → Entry
@@ -134,23 +132,7 @@ weather-key table version chars key row key_is row_is =
     ∙ ap (λ entries. weather_by_row version chars entries (Some row)) (report_entries-key table version chars key row key_is row_is)
 
 -- a text has few segments
-length-pieces : (count limit : ℕ) (bytes : List ℕ) → length (pieces count limit bytes) ≡ count
-length-pieces zero limit bytes = refl
-length-pieces (suc count) limit bytes = ap suc (length-pieces count limit _)
-
-few : (form : TimeForm) (payload : List ℕ) → length payload ≤ 12290 → segments_needed form payload ≤ 64
-few Minute payload le = omega arith
-few Second payload le = omega arith
-few DayMinute payload le = omega arith
-few DaySecond payload le = omega arith
-
-few_parts : (form : TimeForm) (payload : List ℕ) → length payload ≤ 12290 → length (parts form payload) ≤ 64
-few_parts form payload le = elim (cases_Bool (files.is_segmented form payload)) [
-  | inl t ↦ rw t (rw (length-pieces (segments_needed form payload) (segment_limit form) payload) (few form payload le))
-  | inr f ↦ rw f (omega arith)
-]
-
-payload-few : TextLayers → (chars : List ℕ) → IsSendable chars → length (text_payload chars) ≤ 12290
+payload-few : TextLayers → (chars : List ℕ) → IsSendable chars → length (text_payload chars) ≤ longest_text_payload
 payload-few layers chars sendable =
     let size = layers.size chars in
     let short = sendable.1 in
@@ -165,7 +147,7 @@ text-sound layers table version chars key row is_table moment_is sendable key_is
     let entry = entry_of key version row.life chars in
     let only : (e : Entry) → IsIn e (entry ∷ []) → e ≡ entry = λ e h. in_one e entry h in
     record {
-      product = inr (inr refl);
+      product = refl;
       version = moment_is;
       shown = shown;
       listed = record { longest_life = longest_life.0; has_row = longest_life.1; not_longer = longest_life.2 };
@@ -178,7 +160,7 @@ text-sound layers table version chars key row is_table moment_is sendable key_is
       versions = λ e h. ap (λ (x : Entry). x.version) (only e h);
       ends = λ e h. ap (λ (x : Entry). x.until) (only e h);
       apart = λ e f h k keys. only e h ∙ sym (only f k);
-      few_segments = few_parts row.form (text_payload chars) (payload-few layers chars sendable);
+      few_segments = let few = layers.few row.form (text_payload chars) (payload-few layers chars sendable) in omega (arith, few);
     }
 
 text-given : TextLayers → (table : LifeTable) (before : List Item) (moment version : ℕ) (chars : List ℕ) (key : TextKey) (row : TextRow) → IsTable table

@@ -1,11 +1,8 @@
 -- What the tests on a text tell together.
 use Rattle.std.proofs.Common.{◌≡◌, ℕ, ◌+◌, ◌*◌, ◌/◌, ◌<◌, ◌≤◌, Bool, true, false, if◌then◌else◌, List, Option, Some, None, Ok, ap, ◌∙◌, arith}
 use Rattle.std.specs.Str.{chars}
-use Rattle.fisb_time.specs.declared.form.TimeForm.{TimeForm}
-use Rattle.fisb_time.specs.declared.form.TimeForm.TheVariants.{Minute, Second, DayMinute, DaySecond}
 use Rattle.dlac_text.specs.Refusal.{TextRefusal, text_refusal, longest_text}
 use Rattle.life_table.specs.LifeTable.{LifeTable, TextRow, text_row}
-use Rattle.life_table.specs.Rules.{IsTable, IsWithinForm}
 use Rattle.text_reports.specs.TextKey.{TextKey, text_key}
 use Rattle.picture_core.specs.Key.{Key, text_report}
 use Rattle.ground_core.specs.Update.{text}
@@ -14,16 +11,6 @@ use Rattle.ground_core.specs.declared.fault.GiveFault.{GiveFault}
 use Rattle.ground_core.specs.Piece.{Latest}
 use Rattle.ground_core.specs.Told.{IsTold, IsToldAt, refusal_by, key_refusal_by, weather_refusal_by, count_refusal, latest_version}
 use Rattle.ground_core.proofs.Accepted.{text_weather, by_row_is}
-
-life_by_form : (late : ℕ) (form : TimeForm) (life : ℕ) → IsWithinForm late form life → life ≤ 2592000
-life_by_form late Minute life h = omega arith
-life_by_form late Second life h = omega arith
-life_by_form late DayMinute life h = h
-life_by_form late DaySecond life h = h
-
--- a life is at most thirty days
-pub life_within : (table : LifeTable) (word : List ℕ) (row : TextRow) → IsTable table → text_row table word ≡ Some row → row.life ≤ 2592000
-life_within table word row h e = life_by_form table.late row.form row.life (h.texts word row e).within
 
 -- a text that can be sent is refused for what follows
 pub told_behind : (refusal : Option TextRefusal) (later : Option GiveRefusal) (fault : GiveFault) → refusal ≡ None → IsTold later fault → IsTold (text_fault_refusal refusal later) fault

@@ -1,4 +1,5 @@
 pub mod ListLemmas
+pub mod Segments
 pub mod KeyLemmas
 pub mod Order
 pub mod Accepted
@@ -7,8 +8,8 @@ pub mod Kept
 pub mod Queue
 pub mod Numbers
 pub mod Versions
-pub mod Parts
 pub mod MapKeys
+pub mod LatestKeys
 pub mod Placed
 pub mod Turns
 pub mod State

@@ -1,12 +1,10 @@
 -- The frame that is filled is the one of the history.
-use Rattle.std.proofs.Common.{◌≡◌, ℕ, ◌+◌, List, [], ◌∷◌, ◌++◌, length, map, filter, sum_by, None, is_some, refl, sym, ap, ◌∙◌, arith, zero-add, length-append}
+use Rattle.std.proofs.Common.{◌≡◌, ℕ, ◌+◌, List, [], ◌∷◌, ◌++◌, length, map, filter, sum_by, None, refl, sym, ap, ◌∙◌, arith, zero-add, length-append}
 use Rattle.std.proofs.lemmas.List.Sums.{sum_by-append}
 use Rattle.std.proofs.lemmas.List.{length-map}
 use Rattle.life_table.specs.LifeTable.{LifeTable}
 use Rattle.uplink_frame.specs.declared.station.StationId.{StationId}
 use Rattle.uplink_frame.specs.UplinkFrame.{fisb_frame, spelled_frames, information_frame}
-use Rattle.apdu_core.specs.Apdu.{Apdu, apdu_bytes, header_length}
-use Rattle.segment_core.specs.File.{part_of, apdu_of_segment}
 use Rattle.ground_core.specs.Item.{Segment, body_of, room_of}
 use Rattle.ground_core.specs.History.{Event, items}
 use Rattle.ground_core.specs.Airing.{airing, log}
@@ -15,12 +13,9 @@ use Rattle.ground_core.specs.StandsFor.{StandsFor, clock_of}
 use Rattle.segment_core.specs.Store.{last_above}
 use Rattle.ground_core.specs.Views.{latest_at, pieces_in}
 use Rattle.ground_core.specs.declared.ground.Ground.{Ground}
-use Rattle.ground_core.proofs.Parts.{is_some_segmentation}
+use Rattle.ground_core.proofs.Segments.{SizesOfApdus, body_size}
 use Rattle.ground_core.proofs.Turns.{frame_of}
 use Rattle.ground_core.proofs.State.{filled_of, clock_below, lives_same}
-
-abbrev pub SizesOfApdus : Type 0
-SizesOfApdus = (a : Apdu) → length (apdu_bytes a) ≡ header_length a.form (is_some a.segmentation) + length a.payload
 
 abbrev pub sent_of : LifeTable → StationId → List Event → ℕ → List Segment
 sent_of table station history moment = airing (items table station history) (log table station history) moment
@@ -40,12 +35,6 @@ frames_are ps sent e = ap (map frame_of) e ∙ each sent where
   each : (sent : List Segment) → map frame_of (map piece_of sent) ≡ map (λ s. fisb_frame (body_of s)) sent
   each [] = refl
   each (s ∷ more) = ap (λ l. fisb_frame (body_of s) ∷ l) (each more)
-
-body_size : SizesOfApdus → (s : Segment) → length (body_of s) + 2 ≡ room_of s
-body_size law s =
-    let file = (piece_of s).file in
-    let size = law (apdu_of_segment file s.number) in
-    ap (λ n. n + 2) (size ∙ ap (λ b. header_length file.form b + length (part_of file s.number)) (is_some_segmentation file s.number))
 
 front_size : (body : List ℕ) → length (information_frame (fisb_frame body)) ≡ length body + 2
 front_size body = omega arith

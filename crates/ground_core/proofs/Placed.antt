@@ -6,14 +6,13 @@ use Rattle.std.proofs.lemmas.Bool.Decides.{nat_tests}
 use Rattle.list_members.specs.Membership.{IsIn}
 use Rattle.list_members.proofs.Members.{IsIn-before, IsIn-after}
 use Rattle.text_reports.specs.TextKey.{TextKey}
-use Rattle.text_reports.specs.Views.{key_view}
+use Rattle.ground_core.specs.NumberedKeys.{report_key}
 use Rattle.picture_core.specs.Key.{Key, radar_block, text_report, same_key}
 use Rattle.ground_core.specs.Piece.{Piece, Latest, ArePlaced, IsKept, while_living, lives_as, live_by}
 use Rattle.ground_core.specs.Putting.{IsPut}
 use Rattle.ground_core.specs.Views.{latest_at, pieces_in, piece_at}
 use Rattle.ground_core.specs.declared.item.SentItem.{SentItem}
 use Rattle.ground_core.specs.declared.ground.Ground.{Ground}
-use Rattle.ground_core.proofs.Parts.{parts_some}
 use Rattle.ground_core.proofs.KeyLemmas.{text_key_is}
 
 pub placed_among : (latest : Key → Option Latest) (old new : List Piece) → ((p : Piece) → IsIn p old → IsIn p new) → ArePlaced latest old → ArePlaced latest new
@@ -90,8 +89,7 @@ same_report a (text_report b) h = ap text_report (text_key_is a b h)
 pub placed_put : (old new : Ground) (moment : ℕ) (item : SentItem) → IsPut old moment item new → ArePlaced (latest_at old.newest) (pieces_in old.line)
     → ArePlaced (latest_at new.newest) (pieces_in new.line)
 placed_put old new moment item put h key kept e =
-    let own : Key = text_report (key_view item.key) in
-    let some : 1 ≤ item.count = parts_some item.form item.payload item.count item.counted in
+    let own : Key = text_report (report_key item.key) in
     elim (cases_Bool (same_key own key)) [
       | inl t ↦ (
           let one : Some (record { version = item.version; serial = item.serial; until = item.until }) ≡ Some kept
@@ -100,9 +98,9 @@ placed_put old new moment item put h key kept e =
           let serial : item.serial ≡ kept.serial = cc in
           record {
             piece = piece_at item 1;
-            waits = subst (IsIn (piece_at item 1)) (sym put.line) (IsIn-after (piece_at item 1) (pieces_in old.line) _ (first_number (piece_at item) item.count some));
+            waits = subst (IsIn (piece_at item 1)) (sym put.line) (IsIn-after (piece_at item 1) (pieces_in old.line) _ (first_number (piece_at item) item.count item.some));
             serial = serial;
-            of_key = inl (sym (same_report (key_view item.key) key t));
+            of_key = inl (sym (same_report (report_key item.key) key t));
           })
       | inr f ↦ (
           let before : latest_at old.newest key ≡ Some kept

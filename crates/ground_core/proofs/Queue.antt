@@ -17,7 +17,8 @@ use Rattle.ground_core.specs.Piece.{Piece, Latest, piece_of, lives_as, live_by, 
 use Rattle.ground_core.specs.StandsFor.{latest_of, latest_of_item}
 use Rattle.ground_core.proofs.ListLemmas.{Each, Each-weaker, Each-in, Each-all, Each-map, filter_same, filter_all, filter_less, filter-map, list_any-weaker}
 use Rattle.ground_core.proofs.Order.{last_places, segments_in, stands_in, waiting_is, turned, Once, last_places-append, last_places_once}
-use Rattle.ground_core.proofs.Serials.{Numbered, numbered_items, serial_in, IsLogged, logged, of_its_item, log_given, log_filled, Each-last_places, live_same, latest_push}
+use Rattle.ground_core.proofs.Segments.{is_segment_of}
+use Rattle.ground_core.proofs.Serials.{Numbered, numbered_items, serial_in, IsLogged, logged, log_given, log_filled, Each-last_places, live_same, latest_push}
 
 -- the pieces of segments that were given are live where their items are
 pub pieces_live : (all : List Item) (moment : ℕ) (segments : List Segment) → Numbered 0 all → Each (IsLogged all) segments
@@ -161,7 +162,7 @@ none_of_item s serial (x ∷ xs) lt h =
     rw head (none_of_item s serial xs lt h.1)
 
 item_of_each : (item : Item) → Each (λ x. x.item.serial ≡ item.serial) (segments_of item)
-item_of_each item = Each-in _ (segments_of item) (λ x i. ap (λ (z : Item). z.serial) (of_its_item item x i))
+item_of_each item = Each-in _ (segments_of item) (λ x i. ap (λ (z : Item). z.serial) (is_segment_of item x i).item_is)
 
 -- the segments of a new item stand behind all others
 pub places_given : (all : List Item) (before : List Segment) (item : Item) → item.serial ≡ length all → Numbered 0 all → Each (IsLogged all) before

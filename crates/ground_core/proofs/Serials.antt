@@ -6,7 +6,7 @@ use Rattle.std.proofs.lemmas.Bool.Decides.{nat_tests}
 use Rattle.std.proofs.lemmas.List.{map-append}
 use Rattle.list_members.specs.Membership.{IsIn}
 use Rattle.list_members.proofs.Members.{IsIn-before, IsIn-after}
-use Rattle.list_members.proofs.ListMembers.{in_flat_map, in_map, in_any}
+use Rattle.list_members.proofs.ListMembers.{in_flat_map, in_any}
 use Rattle.life_table.specs.LifeTable.{LifeTable}
 use Rattle.uplink_frame.specs.declared.station.StationId.{StationId}
 use Rattle.std.specs.Ordering.{nat_cmp}
@@ -15,14 +15,16 @@ use Rattle.std.proofs.lemmas.Cmp.{nat_cmp_total, tied_itself}
 use Rattle.radar_core.specs.Keys.{bit}
 use Rattle.picture_core.specs.Key.{Key, radar_block, text_report, same_key}
 use Rattle.picture_core.specs.Entry.{Entry}
-use Rattle.ground_core.specs.Item.{Weather, Item, Segment, segments_of, segment_of, end_of, room_of}
+use Rattle.uplink_frame.specs.UplinkFrame.{frame_room}
+use Rattle.ground_core.specs.Item.{Weather, Item, Segment, segments_of, end_of, room_of}
 use Rattle.ground_core.specs.History.{Event, accepted, fill, items, new_items, items_made, item_of}
 use Rattle.ground_core.specs.Update.{Update, weather_of}
-use Rattle.ground_core.specs.Airing.{Touch, touch, log, airing, waiting, fitting, frame_room, has_key, is_newest_for, is_live}
+use Rattle.ground_core.specs.Airing.{Touch, touch, log, airing, waiting, fitting, has_key, is_newest_for, is_live}
 use Rattle.ground_core.specs.Piece.{Latest, piece_of, lives_as, live_by}
 use Rattle.ground_core.specs.StandsFor.{latest_after, latest_of, latest_of_item}
 use Rattle.ground_core.proofs.KeyLemmas.{text_key_itself}
 use Rattle.ground_core.proofs.ListLemmas.{Each, Each-append, Each-weaker, Each-filter, Each-in, list_any-map, list_any-same}
+use Rattle.ground_core.proofs.Segments.{is_segment_of}
 use Rattle.ground_core.proofs.Order.{last_places, segments_in, stands_in, waiting_is}
 
 abbrev pub Numbered : ℕ → List Item → Type 0
@@ -68,13 +70,10 @@ pub record IsLogged (all : List Item) (s : Segment) : Type 0 where
 pub logged_more : (all more : List Item) (s : Segment) → IsLogged all s → IsLogged (all ++ more) s
 logged_more all more s h = record { item = IsIn-before s.item all more h.item; of_item = h.of_item }
 
-pub of_its_item : (item : Item) (s : Segment) → IsIn s (segments_of item) → s.item ≡ item
-of_its_item item s h = let w = in_map (segment_of item) s _ h in ap (λ (z : Segment). z.item) w.2
-
 pub logged_new : (all new : List Item) → Each (IsLogged (all ++ new)) (flat_map segments_of new)
 logged_new all new = Each-in _ (flat_map segments_of new) (λ s i.
     let w = in_flat_map segments_of s new i in
-    let same : s.item ≡ w.0 = of_its_item w.0 s w.2 in
+    let same : s.item ≡ w.0 = (is_segment_of w.0 s w.2).item_is in
     record {
       item = IsIn-after s.item all new (subst (λ x. IsIn x new) (sym same) w.1);
       of_item = subst (λ x. IsIn s (segments_of x)) (sym same) w.2;

@@ -1,15 +1,13 @@
 -- A segment that waits comes nearer to the front with each fill.
-use Rattle.std.proofs.Common.{◌≡◌, ℕ, zero, suc, ◌+◌, ◌-◌, ◌*◌, ◌/◌, ◌<◌, ◌≤◌, ◌⊎◌, Bool, true, nat_lt, nat_le, cond, if◌then◌else◌, List, [], ◌∷◌, ◌++◌, length, filter, flat_map, refl, sym, ap, subst, ◌∙◌, inl, inr, arith, append-nil, append_assoc}
+use Rattle.std.proofs.Common.{◌≡◌, ℕ, ◌+◌, ◌-◌, ◌*◌, ◌/◌, ◌<◌, ◌≤◌, ◌⊎◌, Bool, true, nat_lt, nat_le, cond, if◌then◌else◌, List, [], ◌∷◌, ◌++◌, length, filter, flat_map, refl, sym, ap, subst, ◌∙◌, inl, inr, arith, append-nil, append_assoc}
 use Rattle.std.proofs.lemmas.Bool.{cases_Bool, leb-true, leb-false, le-leb, lt-ltb, ltb-true, and_parts, and_from}
 use Rattle.std.proofs.lemmas.List.Elements.{filter-append}
 use Rattle.list_members.specs.Membership.{IsIn}
 use Rattle.list_members.proofs.Members.{IsIn-before, IsIn-after, IsIn-from_filter}
 use Rattle.life_table.specs.LifeTable.{LifeTable}
 use Rattle.uplink_frame.specs.declared.station.StationId.{StationId}
-use Rattle.std.specs.List.{range_with_len}
-use Rattle.list_members.proofs.ListMembers.{in_map}
-use Rattle.segment_core.specs.File.{numbers_of, parts_of}
-use Rattle.ground_core.specs.Item.{Weather, Item, Segment, room_of, segments_of, segment_of, file_of, end_of}
+use Rattle.segment_core.specs.Cutting.{PartsFitFrames}
+use Rattle.ground_core.specs.Item.{Weather, Item, Segment, room_of, segments_of, file_of, end_of}
 use Rattle.ground_core.specs.Update.{Update, text, weather_of}
 use Rattle.ground_core.specs.Piece.{piece_of}
 use Rattle.ground_core.specs.History.{Event, accepted, fill, moment_of, items, items_made, new_items, item_of}
@@ -20,7 +18,7 @@ use Rattle.ground_core.proofs.ListLemmas.{Each, Each-weaker, Each-all, Each-at, 
 use Rattle.ground_core.proofs.Order.{last_places, segments_in, waiting_is}
 use Rattle.ground_core.proofs.Serials.{Numbered, numbered_items, serial_in, IsLogged, logged, logged_more, log_given, Each-waiting, live_same}
 use Rattle.ground_core.proofs.Accepted.{clear, text_weather, weather_is}
-use Rattle.ground_core.proofs.Parts.{part_fits}
+use Rattle.ground_core.proofs.Segments.{is_segment_of}
 use Rattle.ground_core.proofs.Queue.{left, fitting_left, waiting_filled, places_given, older_lives, logged_places}
 
 abbrev head_bytes : List Segment → ℕ
@@ -172,25 +170,16 @@ few_fills count bytes s line h = elim h.near [
 ]
 
 -- each segment that was given fits a frame
-in_range : (at n k : ℕ) → IsIn k (range_with_len at n) → (at ≤ k) × (k < at + n)
-in_range at zero k i = absurd i
-in_range at (suc n) k i = elim i [
-  | inl e ↦ (omega arith, omega arith)
-  | inr j ↦ (let both = in_range (at + 1) n k j in (omega (arith, both.0), omega (arith, both.1)))
-]
-
-fits_frame : (all : List Item) (s : Segment) → IsLogged all s → room_of s ≤ 424
-fits_frame all s h =
+fits_frame : PartsFitFrames → (all : List Item) (s : Segment) → IsLogged all s → room_of s ≤ 424
+fits_frame fit all s h =
     let file = file_of s.item in
-    let w = in_map (segment_of s.item) s (numbers_of file) h.of_item in
-    let same : s.number ≡ w.0 = ap (λ (x : Segment). x.number) w.2 in
-    let range = in_range 1 (length (parts_of file)) w.0 w.1 in
-    let fits = part_fits file s.number (omega (arith, range.0, same)) (omega (arith, range.1, same)) in
+    let number = is_segment_of s.item s h.of_item in
+    let fits = (fit file s.number number.least number.most).fits in
     omega (arith, fits)
 
-rooms_fit : (table : LifeTable) (station : StationId) (history : List Event) (moment : ℕ) → Each (λ x. room_of x ≤ 424) (waiting_after table station history moment)
-rooms_fit table station history moment = Each-waiting (λ x. room_of x ≤ 424) (items table station history) (log table station history) moment
-    (Each-weaker _ _ (λ s h. fits_frame (items table station history) s h) (segments_in (log table station history)) (logged table station history))
+rooms_fit : PartsFitFrames → (table : LifeTable) (station : StationId) (history : List Event) (moment : ℕ) → Each (λ x. room_of x ≤ 424) (waiting_after table station history moment)
+rooms_fit fit table station history moment = Each-waiting (λ x. room_of x ≤ 424) (items table station history) (log table station history) moment
+    (Each-weaker _ _ (λ s h. fits_frame fit (items table station history) s h) (segments_in (log table station history)) (logged table station history))
 
 live_earlier : (all : List Item) (clock moment : ℕ) (item : Item) → clock ≤ moment → is_live all moment item ≡ true → is_live all clock item ≡ true
 live_earlier all clock moment item le h =
@@ -262,15 +251,15 @@ logged_later : (table : LifeTable) (station : StationId) (past later : List Even
 logged_later table station past [] s h = h
 logged_later table station past (event ∷ later) s h = logged_more (items table station (later ++ past)) _ s (logged_later table station past later s h)
 
-placed : (table : LifeTable) (station : StationId) (past later : List Event) (at : ℕ) (s : Segment) (before after : List Segment)
+placed : PartsFitFrames → (table : LifeTable) (station : StationId) (past later : List Event) (at : ℕ) (s : Segment) (before after : List Segment)
     → IsHistory table station (later ++ past) → AreFrom at later → IsLogged (items table station past) s
     → waiting_after table station past at ≡ before ++ s ∷ after → WaitsStill table station past s later
     → (moment : ℕ) → IsLater at moment later → is_live (items table station (later ++ past)) moment s.item ≡ true
     → IsPlaced (fills later) (bytes_of before) s (waiting_after table station (later ++ past) moment)
-placed table station past [] at s before after h f l e w moment le t =
+placed fit table station past [] at s before after h f l e w moment le t =
     subst (IsPlaced 0 (bytes_of before) s) (sym (waiting_later table station past at moment le))
     (placed-filter 0 (bytes_of before) s _ (waiting_after table station past at) t (record { before = before; after = after; line_is = e; near = inl (omega arith) }))
-placed table station past (accepted given (text version chars) ∷ later) at s before after h f l e w moment le t =
+placed fit table station past (accepted given (text version chars) ∷ later) at s before after h f l e w moment le t =
     let history : List Event = later ++ past in
     let all : List Item = items table station history in
     let c = clear table all given version chars h.0.is_accepted.1 in
@@ -282,16 +271,16 @@ placed table station past (accepted given (text version chars) ∷ later) at s b
     = live_before all item moment s refl (numbered_items table station history) m (logged_later table station past later s l)
     (ap (λ is. is_live is moment s.item) (sym items_are) ∙ t) in
     let g = waiting_given table station history given moment (text version chars) (text_weather c.key c.row version chars) we in
-    let old = placed table station past later at s before after h.1 f.1 l e w moment (later_more at given moment past later (accepted given (text version chars)) le h.0.not_before f.0) lived in
+    let old = placed fit table station past later at s before after h.1 f.1 l e w moment (later_more at given moment past later (accepted given (text version chars)) le h.0.not_before f.0) lived in
     subst (IsPlaced (fills later) (bytes_of before) s) (sym g.1) (placed-more (fills later) (bytes_of before) s _ g.0 (placed-filter (fills later) (bytes_of before) s _ _ t old))
-placed table station past (fill now slot ∷ later) at s before after h f l e w moment le t =
+placed fit table station past (fill now slot ∷ later) at s before after h f l e w moment le t =
     let history : List Event = later ++ past in
     let all : List Item = items table station history in
     let line : List Segment = waiting_after table station history now in
     let lived : is_live all now s.item ≡ true
     = (IsIn-from_filter (λ x. is_live all now x.item) s _ (subst (IsIn s) (waiting_is all (log table station history) now) w.0)).1 in
-    let old = placed table station past later at s before after h.1 f.1 l e w.2 now (later_now at past later (fill now slot) h.0.not_before f.0) lived in
-    let new = placed-filled (fills later) (bytes_of before) s line (rooms_fit table station history now) w.1 old in
+    let old = placed fit table station past later at s before after h.1 f.1 l e w.2 now (later_now at past later (fill now slot) h.0.not_before f.0) lived in
+    let new = placed-filled (fills later) (bytes_of before) s line (rooms_fit fit table station history now) w.1 old in
     subst (IsPlaced (fills later + 1) (bytes_of before) s) (sym (waiting_later table station (fill now slot ∷ history) now moment le))
     (placed-filter (fills later + 1) (bytes_of before) s _ _ t
     (subst (IsPlaced (fills later + 1) (bytes_of before) s) (sym (waiting_filled table station history now slot)) (placed-more (fills later + 1) (bytes_of before) s (left 424 line) _ new)))
@@ -299,23 +288,23 @@ placed table station past (fill now slot ∷ later) at s before after h f l e w 
 few_left : (count bytes : ℕ) → 425 * count ≤ 2 * bytes → count + 1 < 2 * bytes / 425 + 2
 few_left count bytes h = omega arith
 
-run : (table : LifeTable) (station : StationId) (past later : List Event) (at : ℕ) (s : Segment) (before after : List Segment)
+run : PartsFitFrames → (table : LifeTable) (station : StationId) (past later : List Event) (at : ℕ) (s : Segment) (before after : List Segment)
     → IsHistory table station (later ++ past) → AreFrom at later → IsLogged (items table station past) s
     → waiting_after table station past at ≡ before ++ s ∷ after → WaitsStill table station past s later
     → fills later < 2 * bytes_of before / 425 + 2
-run table station past [] at s before after h f l e w = omega arith
-run table station past (accepted given update ∷ later) at s before after h f l e w = run table station past later at s before after h.1 f.1 l e w
-run table station past (fill now slot ∷ later) at s before after h f l e w =
+run fit table station past [] at s before after h f l e w = omega arith
+run fit table station past (accepted given update ∷ later) at s before after h f l e w = run fit table station past later at s before after h.1 f.1 l e w
+run fit table station past (fill now slot ∷ later) at s before after h f l e w =
     let history : List Event = later ++ past in
     let all : List Item = items table station history in
     let lived : is_live all now s.item ≡ true
     = (IsIn-from_filter (λ x. is_live all now x.item) s _ (subst (IsIn s) (waiting_is all (log table station history) now) w.0)).1 in
-    let old = placed table station past later at s before after h.1 f.1 l e w.2 now (later_now at past later (fill now slot) h.0.not_before f.0) lived in
-    let new = placed-filled (fills later) (bytes_of before) s (waiting_after table station history now) (rooms_fit table station history now) w.1 old in
+    let old = placed fit table station past later at s before after h.1 f.1 l e w.2 now (later_now at past later (fill now slot) h.0.not_before f.0) lived in
+    let new = placed-filled (fills later) (bytes_of before) s (waiting_after table station history now) (rooms_fit fit table station history now) w.1 old in
     few_left (fills later) (bytes_of before) (few_fills (fills later) (bytes_of before) s _ new)
 
-pub no_starvation : NoStarvation
-no_starvation table station past later at s before after h f e w =
+pub no_starvation : PartsFitFrames → NoStarvation
+no_starvation fit table station past later at s before after h f e w =
     let here : IsIn s (waiting_after table station past at) = subst (IsIn s) (sym e) (IsIn-after s before (s ∷ after) (inl refl)) in
     let l = Each-at _ (waiting_after table station past at) s (Each-waiting _ (items table station past) (log table station past) at (logged table station past)) here in
-    run table station past later at s before after h f l e w
+    run fit table station past later at s before after h f l e w

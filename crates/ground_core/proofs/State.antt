@@ -10,16 +10,16 @@ use Rattle.list_members.proofs.Members.{IsIn-before, IsIn-after, IsIn-either}
 use Rattle.list_members.proofs.ListMembers.{in_map}
 use Rattle.fisb_time.specs.Moment.{IsMoment}
 use Rattle.fisb_time.specs.declared.form.TimeForm.{TimeForm}
-use Rattle.life_table.specs.LifeTable.{LifeTable, TextRow, text_row}
+use Rattle.life_table.specs.LifeTable.{LifeTable, TextRow, text_row, greatest_life}
 use Rattle.uplink_frame.specs.declared.station.StationId.{StationId}
 use Rattle.text_reports.specs.TextKey.{TextKey}
-use Rattle.text_reports.specs.Views.{key_view}
+use Rattle.ground_core.specs.NumberedKeys.{report_key}
 use Rattle.segment_core.specs.File.{parts_of}
 use Rattle.segment_core.specs.File as of_file
 use Rattle.picture_core.specs.Key.{Key, radar_block, text_report, same_key}
 use Rattle.ground_core.specs.Item.{Weather, Item, Segment, segments_of, segment_of, is_segmented, file_of}
 use Rattle.ground_core.specs.Update.{text}
-use Rattle.ground_core.specs.History.{Event, accepted, fill, moment_of, items, items_made, new_items, item_of, number_for, greatest_life}
+use Rattle.ground_core.specs.History.{Event, accepted, fill, moment_of, items, items_made, new_items, item_of, number_for}
 use Rattle.ground_core.specs.Airing.{log, waiting, has_key}
 use Rattle.ground_core.specs.Broadcast.{IsNotBefore}
 use Rattle.ground_core.specs.Refusal.{give_refusal}
@@ -190,7 +190,7 @@ map_map f (x ∷ xs) = ap (λ l. piece_of (f x) ∷ l) (map_map f xs)
 -- the item that was made of a text is the one of the history
 pub record IsMade (table : LifeTable) (station : StationId) (history : List Event) (moment version : ℕ) (chars : List ℕ) (item : SentItem) : Type 0 where
   pub clear : IsClear table (items table station history) moment version chars
-  pub key : key_view item.key ≡ clear.key
+  pub key : report_key item.key ≡ clear.key
   pub version_is : item.version ≡ version
   pub serial : item.serial ≡ length (items table station history)
   pub until : item.until ≡ version + clear.row.life
@@ -209,8 +209,8 @@ is_made table station history moment version chars old item law s le none i =
     let c = clear table all moment version chars none in
     let w : Weather = text_weather c.key c.row version chars in
     let spec : Item = item_of table station moment all w in
-    let oks : Ok (key_view item.key) ≡ Ok c.key = sym i.key_is ∙ c.key_is in
-    let key : key_view item.key ≡ c.key = cc in
+    let oks : Ok (report_key item.key) ≡ Ok c.key = sym i.key_is ∙ c.key_is in
+    let key : report_key item.key ≡ c.key = cc in
     let somes : Some i.row ≡ Some c.row = sym i.row_is ∙ ap (λ (k : TextKey). text_row table k.kind) key ∙ c.row_is in
     let row : i.row ≡ c.row = cc in
     let form : item.form ≡ w.form = i.form ∙ ap (λ (r : TextRow). r.form) row in
@@ -225,7 +225,7 @@ is_made table station history moment version chars old item law s le none i =
     ∙ number_shown (is_segmented w) (number_for table moment all w) (length (filed version 413 all))
     (number_of_clear table all moment version chars c law (counted table station history law s.is_history)) in
     let one : (n : ℕ) → piece_at item n ≡ piece_of (segment_of spec n) = λ (n : ℕ).
-    ap (λ x. made x (key_view item.key) item.product item.form item.version item.file item.payload n) serial
+    ap (λ x. made x (report_key item.key) item.product item.form item.version item.file item.payload n) serial
     ∙ ap (λ x. made (length all) x item.product item.form item.version item.file item.payload n) key
     ∙ ap (λ x. made (length all) c.key x item.form item.version item.file item.payload n) i.product
     ∙ ap (λ x. made (length all) c.key 413 x item.version item.file item.payload n) form

@@ -88,7 +88,7 @@ of_station told table (b ∷ past) i h =
       | inr new ↦ new-item told table b past i new
     ]
 
-of_all : StationsAreTold → (table : LifeTable) (broadcast : List StationEvent) (station : StationId) (i : Item)
+pub of_all : StationsAreTold → (table : LifeTable) (broadcast : List StationEvent) (station : StationId) (i : Item)
     → IsIn i (items table station (history_of station broadcast)) → IsIn i (all_items table broadcast)
 of_all told table [] station i h = absurd h
 of_all told table (b ∷ past) station i h =
@@ -105,12 +105,9 @@ of_all told table (b ∷ past) station i h =
           (of_all told table past station i (subst (λ (es : List Event). IsIn i (items table station es)) (history-other station b past f) h))
     ]
 
-pub in_all : StationsAreTold → (table : LifeTable) (broadcast : List StationEvent) (station : StationId) (i : Item)
-    → IsIn i (items table station (history_of station broadcast)) → IsIn i (all_items table broadcast)
-in_all told table broadcast station i h = of_all told table broadcast station i h
-
 pub items-of_stations : StationsAreTold → ItemsAreOfStations
 items-of_stations told table broadcast is = record {
+  histories = station-history told table broadcast is;
   of_station = of_station told table broadcast;
   of_all = λ i h. of_all told table broadcast i.station i h;
 }

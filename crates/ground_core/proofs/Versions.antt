@@ -8,14 +8,15 @@ use Rattle.std.proofs.lemmas.List.Sums.{fold-append}
 use Rattle.std.proofs.lemmas.List.Elements.{filter-append}
 use Rattle.fisb_time.specs.TimeForm.{shows}
 use Rattle.dlac_text.specs.Refusal.{text_refusal}
-use Rattle.life_table.specs.LifeTable.{LifeTable, TextRow, text_row, greatest_of, longest}
+use Rattle.life_table.specs.LifeTable.{LifeTable, TextRow, text_row, greatest_of, longest, greatest_life}
 use Rattle.uplink_frame.specs.declared.station.StationId.{StationId}
 use Rattle.text_reports.specs.TextKey.{TextKey, KeyFault, text_key}
 use Rattle.picture_core.specs.Key.{Key, radar_block, text_report, same_key}
 use Rattle.picture_core.specs.Contents.{report_entries}
+use Rattle.apdu_core.specs.Apdu.{file_numbers}
 use Rattle.ground_core.specs.Item.{Weather, Item, is_segmented, end_of}
 use Rattle.ground_core.specs.Update.{text, weather_by_row}
-use Rattle.ground_core.specs.History.{Event, accepted, fill, items, items_made, item_of, file_numbers, greatest_life}
+use Rattle.ground_core.specs.History.{Event, accepted, fill, items, items_made, item_of}
 use Rattle.ground_core.specs.Airing.{has_key}
 use Rattle.ground_core.specs.Refusal.{GiveRefusal, coarse, ahead, expired, not_newer, no_file, give_refusal, age_refusal, version_refusal, file_refusal, given_version, text_fault_refusal, key_refusal, weather_refusal}
 use Rattle.ground_core.specs.Broadcast.{IsHistory}

@@ -1,8 +1,9 @@
 -- The history of one station's ground, and the items that it was given. A history has its newest event first; what is made
 -- of it has its oldest member first.
-use Rattle.std.specs.Prelude.{ℕ, ◌+◌, Bool, false, not, ◌&&◌, ◌==◌, nat_lt, max, if◌then◌else◌, List, [], ◌∷◌, ◌++◌, length, filter, find, Option, Some, None, unwrap_or}
+use Rattle.std.specs.Prelude.{ℕ, ◌+◌, Bool, false, not, ◌&&◌, ◌==◌, nat_lt, if◌then◌else◌, List, [], ◌∷◌, ◌++◌, length, filter, find, Option, Some, None}
 use Rattle.std.specs.List.{list_any, range_with_len}
-use Rattle.life_table.specs.LifeTable.{LifeTable, longest}
+use Rattle.apdu_core.specs.Apdu.{file_numbers}
+use Rattle.life_table.specs.LifeTable.{LifeTable, longest_life}
 use Rattle.uplink_frame.specs.declared.station.StationId.{StationId}
 use Rattle.ground_core.specs.Item.{Weather, Item, is_segmented}
 use Rattle.ground_core.specs.Update.{Update, weather_of}
@@ -19,26 +20,15 @@ moment_of (fill moment slot) = moment
 -- An item is kept until its version and the longest life of its product have passed. A rival is kept, is sent in segments,
 -- and is of the same product and version.
 abbrev pub is_kept : LifeTable → ℕ → Weather → Bool
-is_kept table moment w = nat_lt moment (w.version + unwrap_or (longest table w.product) 0)
+is_kept table moment w = nat_lt moment (w.version + longest_life table w.product)
 
 abbrev pub is_rival : LifeTable → ℕ → Weather → Item → Bool
 is_rival table moment w other = is_segmented other.weather && is_kept table moment other.weather
     && (other.weather.product == w.product) && (other.weather.version == w.version)
 
--- the greatest life of all rows: no update is accepted once its version and this life have passed
-abbrev pub longest_life : LifeTable → ℕ → ℕ
-longest_life table product = unwrap_or (longest table product) 0
-
-abbrev pub greatest_life : LifeTable → ℕ
-greatest_life table = max (longest_life table 413) (max (longest_life table 63) (longest_life table 64))
-
 abbrev pub has_number : ℕ → Option ℕ → Bool
 has_number n None = false
 has_number n (Some m) = n == m
-
--- how many file numbers there are
-abbrev pub file_numbers : ℕ
-file_numbers = 1024
 
 -- the least number that no rival has, where there is one
 unfoldable pub free_number : List Item → Option ℕ

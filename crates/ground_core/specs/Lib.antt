@@ -7,8 +7,10 @@ pub mod Broadcast
 pub mod Sound
 pub mod Sent
 pub mod Piece
+pub mod PlaceNumber
+pub mod NumberedKeys
 pub mod Views
-pub mod Newest
+pub mod Counts
 pub mod Turn
 pub mod Putting
 pub mod OnAir

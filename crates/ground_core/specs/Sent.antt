@@ -1,25 +1,37 @@
 -- What is known of the items and of the frames of a broadcast.
-use Rattle.std.specs.Prelude.{◌≡◌, ◌+◌, ◌<◌, ◌≤◌, List, length, map}
+use Rattle.std.specs.Prelude.{◌≡◌, ◌+◌, ◌<◌, ◌≤◌, ◌↔◌, List, length, map}
 use Rattle.bit_fields.specs.Bits.{AreBytes}
 use Rattle.list_members.specs.Membership.{IsIn}
 use Rattle.fisb_time.specs.Moment.{IsMoment}
 use Rattle.life_table.specs.LifeTable.{LifeTable}
 use Rattle.life_table.specs.Rules.{IsTable}
+use Rattle.uplink_frame.specs.declared.station.StationId.{StationId}
 use Rattle.uplink_frame.specs.Station.{header_of, FitsStation}
-use Rattle.uplink_frame.specs.UplinkFrame.{InformationFrame, fisb_frame, spelled_frames, header_in, information_frames}
-use Rattle.ground_core.specs.Item.{Item, Segment, segments_of, body_of, end_of}
+use Rattle.uplink_frame.specs.UplinkFrame.{InformationFrame, frame_room, payload_length, fisb_frame, spelled_frames, header_in, information_frames}
+use Rattle.segment_core.specs.File.{parts_of}
+use Rattle.ground_core.specs.Item.{Item, Segment, segments_of, file_of, body_of, end_of}
 use Rattle.ground_core.specs.History.{items}
-use Rattle.ground_core.specs.Airing.{Frame, used_room, frame_payload, frame_room}
-use Rattle.ground_core.specs.Broadcast.{StationEvent, IsBroadcast, history_of, frames, all_items}
+use Rattle.ground_core.specs.Airing.{Frame, used_room, frame_payload}
+use Rattle.ground_core.specs.Broadcast.{StationEvent, IsBroadcast, IsHistory, history_of, frames, all_items}
 
--- the items of all stations are those of each
+-- each station has a history, and the items of all stations are those of each
 pub record AreOfStations (table : LifeTable) (broadcast : List StationEvent) : Type 0 where
+  pub histories : (station : StationId) → IsHistory table station (history_of station broadcast)
   pub of_station : (i : Item) → IsIn i (all_items table broadcast)
       → IsIn i (items table i.station (history_of i.station broadcast))
   pub of_all : (i : Item) → IsIn i (items table i.station (history_of i.station broadcast)) → IsIn i (all_items table broadcast)
 
 abbrev pub ItemsAreOfStations : Type 0
 ItemsAreOfStations = (table : LifeTable) (broadcast : List StationEvent) → IsBroadcast table broadcast → AreOfStations table broadcast
+
+-- a segment of an item, numbered as one of the parts of its file
+pub record IsSegmentOf (item : Item) (s : Segment) : Type 0 where
+  pub item_is : s.item ≡ item
+  pub least : 1 ≤ s.number
+  pub most : s.number ≤ length (parts_of (file_of item))
+
+abbrev pub SegmentsAreOfItems : Type 0
+SegmentsAreOfItems = (item : Item) (s : Segment) → IsIn s (segments_of item) ↔ IsSegmentOf item s
 
 -- a segment that was aired at a moment is one of an item of the frame's station that lived then
 pub record IsAired (all : List Item) (frame : Frame) (s : Segment) : Type 0 where
@@ -41,7 +53,7 @@ pub record IsFrame (all : List Item) (frame : Frame) : Type 0 where
   pub aired : (s : Segment) → IsIn s frame.segments → IsAired all frame s
   pub fits : used_room frame ≤ frame_room
   pub spelled : used_room frame ≡ length (spelled_frames (fisb_frames_of frame))
-  pub size : length (frame_payload frame) ≡ 432
+  pub size : length (frame_payload frame) ≡ payload_length
   pub bytes : AreBytes (frame_payload frame)
   pub header_back : header_in (frame_payload frame) ≡ header_of frame.station frame.slot
   pub frames_back : information_frames (frame_payload frame) ≡ fisb_frames_of frame

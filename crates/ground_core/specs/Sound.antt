@@ -1,6 +1,6 @@
 -- What is known of all weather that a ground accepts. The laws of what is sent and heard rest on this alone: a new kind of
 -- update has to be shown to give such weather, and nothing else.
-use Rattle.std.specs.Prelude.{◌≡◌, ℕ, ◌+◌, ◌<◌, ◌≤◌, ◌⊎◌, true, IsTrue, List, [], ◌∷◌, ◌++◌, length, Some}
+use Rattle.std.specs.Prelude.{◌≡◌, ℕ, ◌+◌, ◌<◌, ◌≤◌, true, IsTrue, List, [], ◌∷◌, ◌++◌, length, Some}
 use Rattle.bit_fields.specs.Bits.{AreBytes}
 use Rattle.list_members.specs.Membership.{IsIn}
 use Rattle.fisb_time.specs.Moment.{IsMoment}
@@ -8,18 +8,16 @@ use Rattle.fisb_time.specs.TimeForm.{shows}
 use Rattle.life_table.specs.LifeTable.{LifeTable, longest}
 use Rattle.life_table.specs.Rules.{IsTable, IsWithinForm}
 use Rattle.uplink_frame.specs.declared.station.StationId.{StationId}
-use Rattle.segment_core.specs.File.{parts}
+use Rattle.segment_core.specs.File.{most_segments, parts}
+use Rattle.life_table.specs.Products.{is_read_product}
 use Rattle.picture_core.specs.Entry.{Entry}
-use Rattle.picture_core.specs.Contents.{text_product, payload_entries}
+use Rattle.picture_core.specs.Contents.{payload_entries}
+use Rattle.apdu_core.specs.Apdu.{file_numbers}
 use Rattle.ground_core.specs.Item.{Weather, Item, is_segmented, end_of}
 use Rattle.ground_core.specs.Update.{Update, weather_of}
-use Rattle.ground_core.specs.History.{Event, accepted, item_of, number_for, items, file_numbers}
+use Rattle.ground_core.specs.History.{Event, accepted, item_of, number_for, items}
 use Rattle.ground_core.specs.Airing.{has_key}
 use Rattle.ground_core.specs.Broadcast.{IsAccepted, IsHistory}
-
--- the products that are read, and the most segments of a file that is read
-abbrev pub IsReadProduct : ℕ → Type 0
-IsReadProduct product = (product ≡ 63) ⊎ ((product ≡ 64) ⊎ (product ≡ text_product))
 
 -- the product has a row, and the life is at most the longest of its rows
 pub record IsListed (table : LifeTable) (w : Weather) : Type 0 where
@@ -28,7 +26,7 @@ pub record IsListed (table : LifeTable) (w : Weather) : Type 0 where
   pub not_longer : w.life ≤ longest_life
 
 pub record IsSound (table : LifeTable) (w : Weather) : Type 0 where
-  pub product : IsReadProduct w.product
+  pub product : IsTrue (is_read_product w.product)
   pub version : IsMoment w.version
   pub shown : IsTrue (shows w.form w.version)
   pub listed : IsListed table w
@@ -39,7 +37,8 @@ pub record IsSound (table : LifeTable) (w : Weather) : Type 0 where
   pub versions : (e : Entry) → IsIn e w.entries → e.version ≡ w.version
   pub ends : (e : Entry) → IsIn e w.entries → e.until ≡ end_of w
   pub apart : (e f : Entry) → IsIn e w.entries → IsIn f w.entries → e.key ≡ f.key → e ≡ f
-  pub few_segments : length (parts w.form w.payload) ≤ 64
+  -- that each part fits a frame with its header is a law of all payloads, `PartsFitFrames` of `segment_core`
+  pub few_segments : length (parts w.form w.payload) ≤ most_segments
 
 -- sound weather that is given in time, has a file number where it needs one, and is newer than all of its keys before
 pub record IsGiven (table : LifeTable) (before : List Item) (moment : ℕ) (w : Weather) : Type 0 where

@@ -2,11 +2,11 @@
 -- forgotten.
 use Rattle.std.specs.Prelude.{◌≡◌, ℕ, ◌+◌, Bool, ◌&&◌, ◌==◌, nat_lt, if◌then◌else◌, List, [], ◌∷◌, map, filter, length, Option, Some, None}
 use Rattle.list_members.specs.Membership.{IsIn}
-use Rattle.life_table.specs.LifeTable.{LifeTable}
+use Rattle.life_table.specs.LifeTable.{LifeTable, greatest_life}
 use Rattle.uplink_frame.specs.declared.station.StationId.{StationId}
 use Rattle.picture_core.specs.Key.{Key}
 use Rattle.ground_core.specs.Item.{Item, Segment, is_segmented, end_of}
-use Rattle.ground_core.specs.History.{Event, items, greatest_life}
+use Rattle.ground_core.specs.History.{Event, items}
 use Rattle.ground_core.specs.Airing.{has_key, log, waiting}
 use Rattle.ground_core.specs.Broadcast.{IsHistory}
 pub use Rattle.ground_core.specs.OnAir.{clock_of, moment_now, IsOnAir}

@@ -5,7 +5,8 @@ use Rattle.std.specs.Str.{IsUtf8}
 use Rattle.dlac_text.specs.Payload.{text_payload}
 use Rattle.life_table.specs.LifeTable.{LifeTable, TextRow, text_row}
 use Rattle.text_reports.specs.TextKey.{TextKey, KeyFault, text_key}
-use Rattle.picture_core.specs.Contents.{text_product, report_entries}
+use Rattle.life_table.specs.Products.{text_product}
+use Rattle.picture_core.specs.Contents.{report_entries}
 use Rattle.picture_core.specs.Entry.{Entry}
 use Rattle.ground_core.specs.Item.{Weather}
 

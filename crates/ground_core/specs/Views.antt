@@ -1,14 +1,11 @@
 -- What the values of the code stand for.
-use Rattle.std.specs.Prelude.{ℕ, List, [], ◌∷◌, map, Option, Some, None, unwrap_or}
-use Rattle.std.specs.BTreeMap.{get}
+use Rattle.std.specs.Prelude.{ℕ, List, [], ◌∷◌, map, Option, None, option_map, unwrap_or}
+use Rattle.std.specs.BTreeMap.{get, get_by}
 use Rattle.std.specs.Ordering.{nat_cmp, ordering_then}
-use Rattle.text_reports.specs.Views.{key_view}
-use Rattle.text_reports.specs.TextKey.{TextKey}
-use Rattle.text_reports.specs.declared.key.TextKey.{TextKey as GivenKey}
-use Rattle.text_reports.specs.contracts.key.TextKeyOrd.TheImpl as order
 use Rattle.segment_core.specs.File.{File}
 use Rattle.picture_core.specs.Key.{Key, radar_block, text_report}
 use Rattle.ground_core.specs.Piece.{Piece, Latest}
+use Rattle.ground_core.specs.NumberedKeys.{order_among, report_key}
 use Rattle.ground_core.specs.declared.item.SentItem.{SentItem}
 use Rattle.ground_core.specs.declared.place.Place.{Place}
 use Rattle.ground_core.specs.declared.line.Line.{Line}
@@ -29,7 +26,7 @@ file_at item = record {
 abbrev pub piece_at : SentItem → ℕ → Piece
 piece_at item number = record {
   serial = item.serial;
-  keys = text_report (key_view item.key) ∷ [];
+  keys = text_report (report_key item.key) ∷ [];
   file = file_at item;
   number = number;
 }
@@ -43,18 +40,10 @@ pieces_in line = map place_view line.places.items
 abbrev pub given_view : Given → Latest
 given_view g = record { version = g.version; serial = g.serial; until = g.until }
 
-abbrev pub given_key : TextKey → GivenKey
-given_key key = record { kind = key.kind; place = key.place; third = key.third }
-
-abbrev pub latest_in : Option (Option Given) → Option Latest
-latest_in None = None
-latest_in (Some None) = None
-latest_in (Some (Some g)) = Some (given_view g)
-
--- what is kept of a key; room that was made for it counts for nothing
+-- what is kept of a key
 abbrev pub latest_at : Newest → Key → Option Latest
 latest_at newest (radar_block key) = None
-latest_at newest (text_report key) = latest_in (get order.ghosts.cmp newest.versions (given_key key))
+latest_at newest (text_report key) = option_map given_view (get_by (order_among key) newest.versions)
 
 -- how many items in segments are counted of a version and a product
 abbrev pub count_at : Files → ℕ → ℕ → ℕ

@@ -1,5 +1,5 @@
 //! How many items in segments were given, of each version that is not over.
-ghost use Rattle.std.specs.Prelude.{◌≡◌, ◌<◌, ◌+◌, ◌&&◌, ◌==◌, ℕ, true, false, nat_le, nat_lt, length, if◌then◌else◌, OnOk, IsSome};
+ghost use Rattle.std.specs.Prelude.{◌≡◌, ◌<◌, ◌+◌, ◌&&◌, ◌==◌, ℕ, true, false, nat_le, nat_lt, length, if◌then◌else◌, OnOk};
 ghost use Rattle.std.specs.Bool.{OnTrue, OnFalse};
 ghost use Rattle.segment_core.specs.File as of_file;
 
@@ -16,7 +16,7 @@ pub(crate) struct Files {
 
 impl Files {
     ghost use Rattle.ground_core.specs.Views.{count_at};
-    ghost use Rattle.ground_core.specs.Newest.{HasCount};
+    ghost use Rattle.ground_core.specs.Counts.{HasCount};
 
     /// Nothing was given.
     pub(crate) fn new(alloc: Global) -> Files
@@ -37,8 +37,20 @@ impl Files {
         }
     }
 
+    /// Makes room to count an item, where it is sent in segments.
+    pub(crate) fn reserve(&mut self, item: &SentItem) -> Result<(), AllocError>
+        ensures same { (v p : ℕ) → count_at self.new v p ≡ count_at self.old v p }
+        ensures room { OnOk result (of_file.is_segmented item.now.form item.now.payload ≡ true
+            → HasCount self.new item.now.version item.now.product) }
+    {
+        if item.is_segmented() {
+            return self.make_room(item.version, item.product);
+        }
+        Ok(())
+    }
+
     /// Makes room for a version and a product.
-    pub(crate) fn reserve(&mut self, version: Moment, product: u16) -> Result<(), AllocError>
+    fn make_room(&mut self, version: Moment, product: u16) -> Result<(), AllocError>
         ensures same { (v p : ℕ) → count_at self.new v p ≡ count_at self.old v p }
         ensures room { OnOk result (HasCount self.new version product) }
     {
@@ -54,7 +66,8 @@ impl Files {
 
     /// Counts an item, whose version and product there is room for, where it is sent in segments.
     pub(crate) fn count_item(&mut self, item: &SentItem)
-        requires room { HasCount self.old item.now.version item.now.product }
+        requires room { of_file.is_segmented item.now.form item.now.payload ≡ true
+            → HasCount self.old item.now.version item.now.product }
         requires few { of_file.is_segmented item.now.form item.now.payload ≡ true
             → count_at self.old item.now.version item.now.product < 1024 }
         ensures { (v p : ℕ) → count_at self.new v p ≡ count_at self.old v p

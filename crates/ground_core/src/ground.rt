@@ -1,10 +1,10 @@
 //! The ground.
 ghost use Rattle.std.specs.Prelude.{◌≡◌, ℕ, ◌+◌, ◌≤◌, ◌<◌, ◌^◌, ◌∷◌, [], ◌++◌, List, Option, Some, None, true, length, map, IfOk, IfErr, OnOk, OnErr};
 ghost use Rattle.fisb_time.specs.Moment.{IsMoment};
-ghost use Rattle.life_table.specs.LifeTable.{LifeTable as Table};
+ghost use Rattle.life_table.specs.LifeTable.{LifeTable as Table, greatest_life};
 ghost use Rattle.uplink_frame.specs.declared.station.StationId.{StationId as Place};
 ghost use Rattle.uplink_frame.specs.Station.{FitsStation};
-ghost use Rattle.ground_core.specs.History.{Event, accepted, fill, items, greatest_life};
+ghost use Rattle.ground_core.specs.History.{Event, accepted, fill, items};
 ghost use Rattle.segment_core.specs.File as of_file;
 ghost use Rattle.ground_core.specs.Update.{text as text_update};
 ghost use Rattle.ground_core.specs.Refusal.{give_refusal};
@@ -12,14 +12,16 @@ ghost use Rattle.ground_core.specs.Refusal.{give_refusal};
 use crate::air_frame::{AirFrame, air_of};
 use crate::fault::{FillFault, GiveFault};
 use crate::files::Files;
-use crate::item::{SentItem, count_of, is_segmented};
+use crate::item::SentItem;
 use crate::judging::{file_number, key_of_text, payload_of_text, version_fault};
 use crate::line::Line;
 use crate::newest::{Given, Newest};
+use crate::numbered_key::NumberedKey;
 use apdu_core::apdu_reads_back;
 use dlac_text::payload_size;
 use fisb_time::Moment;
 use life_table::{LifeTable, longest_is_greatest};
+use segment_core::{is_segmented, part_count};
 use std::alloc::Global;
 use std::rc::Rc;
 use uplink_frame::{AppData, StationId};
@@ -175,7 +177,12 @@ impl Ground {
     }
 
     /// What is sent of a text, or the first reason against it.
-    fn item_of_text(&self, moment: Moment, version: Moment, text: &str) -> Result<SentItem, GiveFault>
+    fn item_of_text(
+        &self,
+        moment: Moment,
+        version: Moment,
+        text: &str,
+    ) -> Result<SentItem, GiveFault>
         requires { length text.now < 2 ^ 32 }
         ensures item { IfOk result (IsItemOf self.now.table (latest_at self.now.newest)
             (count_at self.now.files) self.now.given
@@ -194,14 +201,16 @@ impl Ground {
         let Some(row) = self.table.text_row(key.kind.all()) else {
             return Err(GiveFault::Unlisted);
         };
+        let Ok(key) = NumberedKey::new(self.alloc, key) else {
+            return Err(GiveFault::NoMemory);
+        };
         let kept = self.newest.version_of(&key);
         if let Some(fault) = version_fault(moment, version, row.form, row.life, kept) {
             return Err(fault);
         }
         let size = payload.len();
         let segmented = is_segmented(row.form, size);
-        let given = self.files.of(version, REPORTS);
-        let file = file_number(segmented, given)?;
+        let file = file_number(&self.files, version, REPORTS, segmented)?;
         Ok(SentItem {
             serial: self.given,
             version,
@@ -209,7 +218,7 @@ impl Ground {
             product: REPORTS,
             form: row.form,
             file,
-            count: count_of(row.form, size) as u16,
+            count: part_count(row.form, size),
             key,
             payload,
         })
@@ -226,27 +235,25 @@ impl Ground {
         let Some(given) = self.given.checked_add(1) else {
             return Err(GiveFault::NoMemory);
         };
-        let Ok(()) = self.files.reserve(item.version, item.product) else {
+        let Ok(()) = self.files.reserve(&item) else {
             return Err(GiveFault::NoMemory);
         };
         let Ok(item) = Rc::new(self.alloc, item) else {
             return Err(GiveFault::NoMemory);
         };
-        let Ok(()) = self.newest.reserve(self.alloc, &item.key) else {
-            return Err(GiveFault::NoMemory);
-        };
+        let before = self.line.len();
         let Ok(()) = self.line.put(&item) else {
-            self.newest.release(&item.key);
             return Err(GiveFault::NoMemory);
         };
-        self.newest.put(
-            &item.key,
-            Given {
-                version: item.version,
-                serial: item.serial,
-                until: item.until,
-            },
-        );
+        let last = Given {
+            version: item.version,
+            serial: item.serial,
+            until: item.until,
+        };
+        let Ok(()) = self.newest.put(&item.key, last) else {
+            self.line.keep_first(before);
+            return Err(GiveFault::NoMemory);
+        };
         self.files.count_item(&item);
         self.files.forget(moment, self.life);
         self.given = given;

@@ -1,8 +1,9 @@
 //! Whether a text may be given: each reason against it.
-ghost use Rattle.std.specs.Prelude.{◌≡◌, ℕ, ◌+◌, ◌≤◌, ◌<◌, ◌^◌, Option, None, Some, Ok, List, length, IfOk, IfErr, IfSome, IfNone, OnOk, IsTrue, if◌then◌else◌};
+ghost use Rattle.std.specs.Prelude.{◌≡◌, ℕ, ◌+◌, ◌≤◌, ◌<◌, ◌^◌, Option, None, Some, Ok, true, List, length, IfOk, IfErr, IfSome, IfNone, OnOk, IsTrue, if◌then◌else◌};
 ghost use Rattle.std.specs.Str.{chars};
 ghost use Rattle.fisb_time.specs.TimeForm.{shows};
 ghost use Rattle.dlac_text.specs.Payload.{text_payload};
+ghost use Rattle.life_table.specs.LifeTable.{thirty_days};
 ghost use Rattle.dlac_text.specs.Refusal.{IsSendable, text_refusal};
 ghost use Rattle.text_reports.specs.TextKey.{text_key};
 ghost use Rattle.text_reports.specs.Views.{key_view};
@@ -11,9 +12,11 @@ ghost use Rattle.ground_core.specs.Item.{Weather};
 ghost use Rattle.ground_core.specs.Item as items;
 ghost use Rattle.ground_core.specs.Refusal.{GiveRefusal, text_fault_refusal, version_refusal};
 ghost use Rattle.ground_core.specs.Piece.{Latest};
+ghost use Rattle.ground_core.specs.Views.{count_at};
 ghost use Rattle.ground_core.specs.Told.{IsTold, Tells, key_refusal_by, count_refusal};
 
 use crate::fault::GiveFault;
+use crate::files::Files;
 use dlac_text::{TextFault, encode_text};
 use fisb_time::{Moment, TimeForm, shows};
 use fisb_wire::Bytes;
@@ -41,7 +44,11 @@ pub(crate) fn payload_of_text(alloc: Global, text: &str) -> Result<Bytes, GiveFa
 }
 
 /// The key of a text, or why it has none.
-pub(crate) fn key_of_text(alloc: Global, table: &LifeTable, text: &str) -> Result<TextKey, GiveFault>
+pub(crate) fn key_of_text(
+    alloc: Global,
+    table: &LifeTable,
+    text: &str,
+) -> Result<TextKey, GiveFault>
     ensures key { IfOk result (λ key. text_key table.now text.now ≡ Ok (key_view key)) }
     ensures fault { IfErr result (λ fault. (latest : Key → Option Latest)
         (count : ℕ → ℕ → ℕ) (moment version : ℕ)
@@ -65,7 +72,7 @@ pub(crate) fn version_fault(
     life: u64,
     kept: Option<Moment>,
 ) -> Option<GiveFault>
-    requires { life ≤ 2592000 }
+    requires { life ≤ thirty_days }
     ensures tells { (w : Weather) (later : Option GiveRefusal)
         → w.form ≡ form → w.version ≡ version → w.life ≡ life
         → IfSome result (λ fault. IsTold (version_refusal moment w kept later) fault) }
@@ -91,18 +98,38 @@ pub(crate) fn version_fault(
     None
 }
 
-/// The file number of a payload, by how many items in segments there were; 0 where it is sent whole.
-pub(crate) fn file_number(is_segmented: bool, count: u64) -> Result<u16, GiveFault>
-    ensures number { IfOk result (λ number. number ≡ (if is_segmented then count else 0)) }
+/// The file number of a payload of a version and a product, by how many items in segments these had; 0 where it is sent
+/// whole.
+pub(crate) fn file_number(
+    files: &Files,
+    version: Moment,
+    product: u16,
+    is_segmented: bool,
+) -> Result<u16, GiveFault>
+    ensures number { IfOk result (λ number. number
+        ≡ (if is_segmented then count_at files.now version product else 0)) }
     ensures few { IfOk result (λ number. number < 1024) }
     ensures none { (w : Weather) → is_segmented ≡ items.is_segmented w
-        → OnOk result (count_refusal w count ≡ None) }
+        → OnOk result (count_refusal w (count_at files.now version product) ≡ None) }
     ensures fault { (w : Weather) → is_segmented ≡ items.is_segmented w
+        → IfErr result (IsTold (count_refusal w (count_at files.now version product))) }
+{
+    if is_segmented {
+        number_of_segmented(files.of(version, product))
+    } else {
+        Ok(0)
+    }
+}
+
+/// The file number of a payload in segments, by how many items in segments there were before.
+fn number_of_segmented(count: u64) -> Result<u16, GiveFault>
+    ensures number { IfOk result (λ number. number ≡ count) }
+    ensures few { IfOk result (λ number. number < 1024) }
+    ensures none { (w : Weather) → true ≡ items.is_segmented w
+        → OnOk result (count_refusal w count ≡ None) }
+    ensures fault { (w : Weather) → true ≡ items.is_segmented w
         → IfErr result (IsTold (count_refusal w count)) }
 {
-    if !is_segmented {
-        return Ok(0);
-    }
     if count < FILE_NUMBERS {
         Ok(count as u16)
     } else {

@@ -1,12 +1,13 @@
 //! Laws of histories and of broadcasts, for the crates above: each is the contract of a function that does nothing but call
 //! the laws of lower crates.
 ghost use Rattle.ground_core.specs.Sound.{AcceptedIsGiven, HistoriesHaveItems};
-ghost use Rattle.ground_core.specs.Sent.{ItemsAreOfStations, FramesReadBack};
+ghost use Rattle.ground_core.specs.Sent.{FramesReadBack, ItemsAreOfStations, SegmentsAreOfItems};
 
 use apdu_core::apdu_reads_back;
 use dlac_text::{payload_size, reading_undoes_writing, refused_texts};
 use life_table::longest_is_greatest;
 use picture_core::laws::keys_are_ordered;
+use segment_core::laws::{parts_are_few, parts_fit_frames};
 use uplink_frame::{bodies_read_back, stations_are_told};
 
 /// The law that what an accepted update says is sound weather, given in time.
@@ -19,6 +20,7 @@ pub fn accepted_is_given()
     reading_undoes_writing();
     longest_is_greatest();
     keys_are_ordered();
+    parts_are_few();
 }
 
 /// The law of the items of a history: file numbers are unique, and so are serials, and key and version.
@@ -30,13 +32,20 @@ pub fn histories_have_items()
     keys_are_ordered();
 }
 
-/// The law that the items of a broadcast are those of its stations.
+/// The law that each station of a broadcast has a history, and that the items of the broadcast are
+/// those of its stations.
 #[inline]
 pub fn items_are_of_stations()
     ensures { ItemsAreOfStations }
 {
     stations_are_told();
 }
+
+/// The law that the segments of an item are those of its file.
+#[inline]
+pub fn segments_are_of_items()
+    ensures { SegmentsAreOfItems }
+{}
 
 /// The law that each frame of a broadcast airs segments of live items, as many as fit, and that its payload reads back as its
 /// station, its slot and their bodies.
@@ -47,6 +56,7 @@ pub fn frames_read_back()
     stations_are_told();
     bodies_read_back();
     apdu_reads_back();
+    parts_fit_frames();
     accepted_is_given();
     histories_have_items();
 }

@@ -10,17 +10,18 @@ mod judging;
 mod laws;
 mod line;
 mod newest;
+mod numbered_key;
 mod place;
 mod queue_laws;
 
 pub use air_frame::AirFrame;
 pub use fault::{FillFault, GiveFault};
 pub use ground::Ground;
-pub use laws::{accepted_is_given, frames_read_back, histories_have_items, items_are_of_stations};
+pub use laws::{
+    accepted_is_given, frames_read_back, histories_have_items, items_are_of_stations,
+    segments_are_of_items,
+};
 pub use queue_laws::no_starvation;
 
 /// The station of a ground.
 pub type Station = uplink_frame::StationId;
-
-#[cfg(test)]
-mod tests;

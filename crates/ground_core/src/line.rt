@@ -48,6 +48,20 @@ impl Line {
         }
     }
 
+    /// How many wait, live or dead.
+    pub(crate) fn len(&self) -> usize
+        ensures { result ≡ length (pieces_in self.now) }
+    {
+        self.places.len()
+    }
+
+    /// Keeps so many at the front, and drops what stands behind them.
+    pub(crate) fn keep_first(&mut self, count: usize)
+        ensures { pieces_in self.new ≡ take count (pieces_in self.old) }
+    {
+        self.places.truncate(count);
+    }
+
     /// Puts the segments of an item behind all others.
     pub(crate) fn put(&mut self, item: &Rc<SentItem>) -> Result<(), AllocError>
         ensures ok { OnOk result (pieces_in self.new

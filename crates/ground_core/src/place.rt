@@ -6,6 +6,7 @@ ghost use Rattle.uplink_frame.specs.UplinkFrame.{fisb_frame, spelled_frames};
 use crate::item::SentItem;
 use apdu_core::{Apdu, Seg, apdu_reads_back, shown_fits, write_apdu};
 use fisb_time::fields_of;
+use segment_core::laws::parts_fit_frames;
 use std::rc::Rc;
 use uplink_frame::AppData;
 
@@ -46,6 +47,7 @@ impl Place {
     {
         apdu_reads_back();
         shown_fits();
+        parts_fit_frames();
         let item = &*self.item;
         let _seconds = item.version.seconds();
         let apdu = Apdu {

@@ -1,9 +1,14 @@
-//! A law of what waits, for the crates above: the contract of a function that does nothing.
+//! A law of what waits, for the crates above: the contract of a function that does nothing but call
+//! a law of a lower crate.
 ghost use Rattle.ground_core.specs.Starving.{NoStarvation};
+
+use segment_core::laws::parts_fit_frames;
 
 /// The law that no segment waits for ever: while it stays live, it is aired at the latest by the n-th next fill, n being
 /// twice the bytes before it by 425, rounded down, plus 2.
 #[inline]
 pub fn no_starvation()
     ensures { NoStarvation }
-{}
+{
+    parts_fit_frames();
+}

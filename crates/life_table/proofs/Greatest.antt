@@ -1,11 +1,11 @@
 -- No row of reports lives longer than the longest life, and the longest life is at most thirty days.
-use Rattle.std.proofs.Common.{◌≡◌, ℕ, ◌≤◌, ◌==◌, Bool, List, [], ◌∷◌, map, filter, fold, max, Some, IfSome, refl, ap, arith, inl, inr}
+use Rattle.std.proofs.Common.{◌≡◌, ℕ, ◌≤◌, ◌==◌, Bool, List, [], ◌∷◌, map, filter, fold, max, Some, IfSome, refl, sym, ap, arith, inl, inr}
 use Rattle.std.specs.List.{find, All, AllByRecursion}
 use Rattle.std.proofs.lemmas.Bool.{cases_Bool}
 use Rattle.std.proofs.lemmas.List.Elements.{All-weaker, All-map, All-filter, recursion_from_All}
 use Rattle.fisb_time.specs.declared.form.TimeForm.{TimeForm}
 use Rattle.fisb_time.specs.declared.form.TimeForm.TheVariants.{Minute, Second, DayMinute, DaySecond}
-use Rattle.life_table.specs.LifeTable.{LifeTable, TextRow, RadarRow, greatest_of, longest}
+use Rattle.life_table.specs.LifeTable.{LifeTable, TextRow, RadarRow, text_row, row, greatest_of, longest, thirty_days}
 use Rattle.life_table.specs.Rules.{IsTable, IsTextRow, IsRadarRow, IsWithinForm}
 
 pub fold_above : (xs : List ℕ) (a : ℕ) → a ≤ fold max a xs
@@ -55,14 +55,20 @@ greatest_above life test (q ∷ rows) r h =
     ] in
     (most, refl, below)
 
-abbrev IsShort : ℕ → Type 0
-IsShort life = life ≤ 2592000
+abbrev pub IsShort : ℕ → Type 0
+IsShort life = life ≤ thirty_days
 
 short_by_form : (late : ℕ) (form : TimeForm) (life : ℕ) → IsWithinForm late form life → IsShort life
 short_by_form late Minute life within = omega arith
 short_by_form late Second life within = omega arith
 short_by_form late DayMinute life within = within
 short_by_form late DaySecond life within = within
+
+-- so is the life of a row that a look-up lends
+pub lent_short : (t : LifeTable) (word kind : List ℕ) (words life : ℕ) (form : TimeForm) → IsTable t → Some (row word kind words life form) ≡ text_row t word
+    → IsShort life
+lent_short t word kind words life form rules is =
+    short_by_form t.late form life (rules.texts word (row word kind words life form) (sym is)).within
 
 fold_short : (xs : List ℕ) (a : ℕ) → IsShort a → AllByRecursion IsShort xs → IsShort (fold max a xs)
 fold_short [] a here all = here

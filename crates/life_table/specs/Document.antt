@@ -6,6 +6,8 @@ use Rattle.std.specs.Ordering.{int_eq}
 use Rattle.toml.specs.Data.{Data, string, integer, float, boolean, datetime, array, table, Items, no_items, item, Members, no_members, member, get, as_integer, as_str, as_array, as_table}
 use Rattle.fisb_time.specs.declared.form.TimeForm.{TimeForm}
 use Rattle.fisb_time.specs.declared.form.TimeForm.TheVariants.{Minute, Second, DayMinute, DaySecond}
+use Rattle.life_table.specs.Products.{regional_radar, conus_radar}
+use Rattle.life_table.specs.LifeTable.{thirty_days}
 use Rattle.life_table.specs.declared.fault.RowFault.{RowFault}
 use Rattle.life_table.specs.declared.fault.RowFault.TheVariants.{Shape, Version, Late, Rows}
 
@@ -72,14 +74,15 @@ form_of form = if int_eq form (pos 0) then Some Minute else if int_eq form (pos 
     else if int_eq form (pos 2) then Some DayMinute else if int_eq form (pos 3) then Some DaySecond else None
 
 abbrev pub radar_product : ℤ → Option ℕ
-radar_product product = if int_eq product (pos 63) then Some 63 else if int_eq product (pos 64) then Some 64 else None
+radar_product product = if int_eq product (pos regional_radar) then Some regional_radar
+    else if int_eq product (pos conus_radar) then Some conus_radar else None
 
 -- a life in a form without a date ends, with all that may be late, within a day; another within thirty days
 abbrev pub is_within : ℕ → TimeForm → ℕ → Bool
 is_within late Minute life = nat_le (life + late + 60) 86400
 is_within late Second life = nat_le (life + late + 60) 86400
-is_within late DayMinute life = nat_le life 2592000
-is_within late DaySecond life = nat_le life 2592000
+is_within late DayMinute life = nat_le life thirty_days
+is_within late DaySecond life = nat_le life thirty_days
 
 abbrev pub life_in : ℕ → TimeForm → ℤ → Option ℕ
 life_in late form life = if int_lt life (pos 1) then None else if is_within late form (unsigned_abs life) then Some (unsigned_abs life) else None

@@ -1,3 +1,4 @@
+pub mod Products
 pub mod LifeTable
 pub mod Rules
 pub mod Document

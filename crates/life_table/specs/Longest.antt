@@ -1,12 +1,13 @@
--- The longest life of a product, by what look-ups find: reports are product 413, and their rows are found by word.
+-- The longest life of a product, by what look-ups find: the rows of reports are found by word.
 use Rattle.std.specs.Prelude.{◌≡◌, ◌≢◌, ℕ, ◌≤◌, List, Some}
+use Rattle.life_table.specs.Products.{text_product}
 use Rattle.life_table.specs.LifeTable.{LifeTable, TextRow, RadarRow, text_row, radar_row}
 
 -- a row of this product, as a look-up finds it, has this life
 pub data IsLifeOf (table : LifeTable) (product life : ℕ) : Type 0 where
-  of_text : (word : List ℕ) (row : TextRow) → product ≡ 413 → text_row table word ≡ Some row → row.life ≡ life
+  of_text : (word : List ℕ) (row : TextRow) → product ≡ text_product → text_row table word ≡ Some row → row.life ≡ life
       → IsLifeOf table product life
-  of_radar : (row : RadarRow) → product ≢ 413 → radar_row table product ≡ Some row → row.life ≡ life
+  of_radar : (row : RadarRow) → product ≢ text_product → radar_row table product ≡ Some row → row.life ≡ life
       → IsLifeOf table product life
 
 -- a row of this product has this life, and none a longer one

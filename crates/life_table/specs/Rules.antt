@@ -3,7 +3,8 @@ use Rattle.std.specs.Prelude.{◌≡◌, ℕ, ◌+◌, ◌≤◌, ◌⊎◌, IsT
 use Rattle.std.specs.List.{All, Contains}
 use Rattle.fisb_time.specs.declared.form.TimeForm.{TimeForm}
 use Rattle.fisb_time.specs.declared.form.TimeForm.TheVariants.{Minute, Second, DayMinute, DaySecond}
-use Rattle.life_table.specs.LifeTable.{LifeTable, TextRow, RadarRow, row, text_row, radar_row}
+use Rattle.life_table.specs.Products.{regional_radar, conus_radar}
+use Rattle.life_table.specs.LifeTable.{LifeTable, TextRow, RadarRow, row, text_row, radar_row, thirty_days}
 use Rattle.life_table.specs.Document.{is_word}
 
 -- A life and what may pass until a frame is heard, with the minute that clocks may differ, stay below the time after which a
@@ -11,8 +12,8 @@ use Rattle.life_table.specs.Document.{is_word}
 abbrev pub IsWithinForm : ℕ → TimeForm → ℕ → Type 0
 IsWithinForm late Minute life = life + late + 60 ≤ 86400
 IsWithinForm late Second life = life + late + 60 ≤ 86400
-IsWithinForm late DayMinute life = life ≤ 2592000
-IsWithinForm late DaySecond life = life ≤ 2592000
+IsWithinForm late DayMinute life = life ≤ thirty_days
+IsWithinForm late DaySecond life = life ≤ thirty_days
 
 -- the row without `as` that a row is kept as
 abbrev pub own : TextRow → TextRow
@@ -30,7 +31,7 @@ pub record IsTextRow (table : LifeTable) (row : TextRow) : Type 0 where
 
 -- a row of radar: its product finds it, so that no product stands twice
 pub record IsRadarRow (table : LifeTable) (row : RadarRow) : Type 0 where
-  pub product : (row.product ≡ 63) ⊎ (row.product ≡ 64)
+  pub product : (row.product ≡ regional_radar) ⊎ (row.product ≡ conus_radar)
   pub lives : 1 ≤ row.life
   pub within : IsWithinForm table.late row.form row.life
   pub found : radar_row table row.product ≡ Some row

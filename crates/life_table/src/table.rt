@@ -50,8 +50,9 @@ impl LifeTable {
 
     /// The row of reports that begin with this word.
     pub fn text_row(&self, first_word: &str) -> Option<TextRow<'_>>
-        ensures row { option_map (λ r. spec.row first_word.now r.kind.now r.words r.life r.form) result
-            ≡ spec.text_row self.now first_word.now }
+        ensures row { option_map (λ r. spec.row first_word.now r.kind.now r.words r.life r.form)
+            result ≡ spec.text_row self.now first_word.now }
+        ensures bounded { IfSome result (λ row. row.life ≤ spec.thirty_days) }
         ensures rules { IsTable self.now }
     {
         let Some(row) = text_of(self.texts.as_slice(), first_word) else {
@@ -67,7 +68,8 @@ impl LifeTable {
 
     /// The row of a radar product.
     pub fn radar_row(&self, product: u16) -> Option<RadarRow>
-        ensures row { option_map (λ r. spec.radar product r.life r.form) result ≡ spec.radar_row self.now product }
+        ensures row { option_map (λ r. spec.radar product r.life r.form) result
+            ≡ spec.radar_row self.now product }
         ensures rules { IsTable self.now }
     {
         let Some(row) = radar_of(self.radars.as_slice(), product) else {
@@ -82,7 +84,7 @@ impl LifeTable {
     /// The greatest life of a product's rows; reports are product 413.
     pub fn longest(&self, product: u16) -> Option<u64>
         ensures life { result ≡ spec.longest self.now product }
-        ensures bounded { IfSome result (λ life. life ≤ 2592000) }
+        ensures bounded { IfSome result (λ life. life ≤ spec.thirty_days) }
     {
         if product == REPORTS {
             greatest_text_life(self.texts.as_slice())

@@ -1,2 +1,3 @@
 pub mod Members
 pub mod ListMembers
+pub mod Ranges

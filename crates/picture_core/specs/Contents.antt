@@ -1,14 +1,11 @@
 -- What a whole payload says (RTCA DO-358): product 413 is text, of which each report that has a key is an entry.
 use Rattle.std.specs.Prelude.{ℕ, ◌+◌, ◌==◌, if◌then◌else◌, List, [], ◌∷◌, flat_map, Option, Some, None, Result, Ok, Err}
 use Rattle.dlac_text.specs.Reports.{reports_of}
+use Rattle.life_table.specs.Products.{text_product}
 use Rattle.life_table.specs.LifeTable.{LifeTable, RadarRow, TextRow, radar_row, text_row}
 use Rattle.text_reports.specs.TextKey.{TextKey, KeyFault, text_key}
 use Rattle.picture_core.specs.Key.{Key, radar_block, text_report}
 use Rattle.picture_core.specs.Entry.{Entry, report}
-
--- the product of text
-abbrev pub text_product : ℕ
-text_product = 413
 
 -- the entry of a report that has a key: it lives as long as its type's row says
 abbrev pub entry_by_row : TextKey → ℕ → List ℕ → Option TextRow → List Entry

@@ -6,12 +6,13 @@ use Rattle.std.proofs.lemmas.Bool.{cases_Bool, and_parts, and_from, or_left, or_
 use Rattle.std.proofs.lemmas.List.{append_assoc, append-nil}
 use Rattle.std.proofs.lemmas.List.Folds.{list_any-append}
 use Rattle.std.proofs.lemmas.List.Sums.{sum_by-append, sum_by_push}
+use Rattle.list_members.proofs.Ranges.{all_in, list_all_same, list_any_same, range_has}
 use Rattle.apdu_core.specs.declared.unit.Seg.{Seg}
 use Rattle.uplink_frame.specs.Laws.{StationsAreTold}
 use Rattle.uplink_frame.specs.Station.{same_station}
 use Rattle.segment_core.specs.Arrival.{Arrival, Whole, completed, completed_after, completes, has_piece, is_piece, joined_payload, other_numbers, same_file, whole_with}
 use Rattle.receiver_core.proofs.JoinedSizes.{is_of_file, joined_size}
-use Rattle.receiver_core.proofs.Weights.{all_at, all_but, all_more, all_same, any_same, cond_below, sum_above, sum_of_two}
+use Rattle.receiver_core.proofs.Weights.{all_but, all_more, cond_below, sum_above, sum_of_two}
 
 -- the fields by which two arrivals are of one file
 record IsOneFile (a : Arrival) (s : Seg) (b : Arrival) (t : Seg) : Type 0 where
@@ -58,8 +59,8 @@ piece_same a s b t one n c (Some u) =
 has_same : (a : Arrival) (s : Seg) (b : Arrival) (t : Seg) → IsOneFile a s b t
     → (came : List Arrival) (n : ℕ) → has_piece came b t n ≡ has_piece came a s n
 has_same a s b t one came n =
-    any_same (λ c. is_piece b t n c c.segmentation) (λ c. is_piece a s n c c.segmentation) came
-    (λ c. piece_same a s b t one n c c.segmentation)
+    list_any_same (λ c. is_piece b t n c c.segmentation) (λ c. is_piece a s n c c.segmentation) came
+    (λ c there. piece_same a s b t one n c c.segmentation)
 
 -- each number of its file has arrived
 abbrev has_all : List Arrival → Arrival → Seg → Bool
@@ -72,7 +73,7 @@ is_done came b (Some t) = has_all came b t
 done_same : (a : Arrival) (s : Seg) (b : Arrival) (t : Seg) → IsOneFile a s b t
     → (came : List Arrival) → has_all came b t ≡ has_all came a s
 done_same a s b t one came =
-    all_same (has_piece came b t) (has_piece came a s) (range_with_len 1 t.count) (has_same a s b t one came)
+    list_all_same (has_piece came b t) (has_piece came a s) (range_with_len 1 t.count) (λ n there. has_same a s b t one came n)
     ∙ ap (λ k. list_all (has_piece came a s) (range_with_len 1 k)) (sym one.count)
 
 has_more : (came : List Arrival) (a : Arrival) (b : Arrival) (t : Seg) (n : ℕ)
@@ -116,7 +117,8 @@ not_done : (came : List Arrival) (a : Arrival) (s : Seg) → IsLast came a s →
 not_done came a s last = false_from_ne_true (has_all came a s) (λ all.
     let least = last.numbered.0 in
     let most = last.numbered.1 in
-    let has = all_at (has_piece came a s) s.number 1 s.count least (omega arith) all in
+    let there = range_has s.number 1 s.count least (omega arith) in
+    let has = all_in (has_piece came a s) s.number (range_with_len 1 s.count) all there in
     let lacks = last.new in absurd (cc))
 
 -- the bytes that are weighed are those of versions that live

@@ -14,7 +14,8 @@ use Rattle.life_table.specs.LifeTable.{LifeTable, TextRow, longest, text_row}
 use Rattle.text_reports.specs.TextKey.{KeyFault, TextKey, text_key}
 use Rattle.segment_core.specs.Arrival.{Whole}
 use Rattle.segment_core.specs.Store.{is_live}
-use Rattle.picture_core.specs.Contents.{entry_by_key, entry_by_row, report_entries, text_product}
+use Rattle.picture_core.specs.Contents.{entry_by_key, entry_by_row, report_entries}
+use Rattle.life_table.specs.Products.{text_product}
 use Rattle.picture_core.specs.Entry.{Entry}
 use Rattle.picture_core.specs.Kept.{live_entries}
 use Rattle.receiver_core.specs.Reception.{whole_entries}

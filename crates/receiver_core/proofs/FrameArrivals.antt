@@ -15,7 +15,7 @@ use Rattle.apdu_core.specs.Apdu.{Apdu, apdu_of, apdu_of_header, form_in, header_
 use Rattle.life_table.specs.LifeTable.{LifeTable, longest}
 use Rattle.segment_core.specs.Arrival.{Arrival}
 use Rattle.receiver_core.specs.Reception.{arrival_in, arrival_with_version, arrival_of_apdu, arrival_with_row, is_large}
-use Rattle.segment_core.specs.Store.{is_read_product}
+use Rattle.life_table.specs.Products.{is_read_product}
 use Rattle.receiver_core.proofs.Completing.{IsNumbered}
 
 -- what a header leaves of a body

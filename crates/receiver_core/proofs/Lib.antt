@@ -1,4 +1,3 @@
-mod Lives
 mod Taking
 mod Puts
 mod Frames

@@ -6,12 +6,12 @@ use Rattle.std.specs.List.{cons_option, sum_by}
 use Rattle.std.specs.Result.{result_ok}
 use Rattle.std.proofs.lemmas.Bool.{cases_Bool, cond-true, cond-false, ltb-true, lt-ltb}
 use Rattle.std.proofs.lemmas.List.Sums.{sum_by-append, sum_by-cons}
-use Rattle.life_table.specs.LifeTable.{LifeTable}
+use Rattle.life_table.specs.LifeTable.{LifeTable, greatest_life}
 use Rattle.uplink_frame.specs.UplinkFrame.{InformationFrame, information_frames}
 use Rattle.segment_core.specs.Arrival.{Arrival}
 use Rattle.segment_core.specs.Store.{is_live, longest_of}
 use Rattle.segment_core.specs.declared.arrived.Longest.{Longest}
-use Rattle.receiver_core.specs.Bound.{greatest_life, may_live, number_alive}
+use Rattle.receiver_core.specs.Bound.{may_live, number_alive}
 use Rattle.receiver_core.specs.Hearing.{AreReceptions}
 use Rattle.receiver_core.specs.Reception.{Reception, arrival_in, arrivals, arrivals_in, station_heard}
 use Rattle.receiver_core.specs.StandsFor.{longest_lives}

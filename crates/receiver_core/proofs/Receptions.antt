@@ -1,10 +1,10 @@
 -- What one more reception brings.
-use Rattle.std.proofs.Common.{◌≡◌, ℕ, ◌⊎◌, List, [], ◌∷◌, ◌++◌, flat_map, filter_map, Option, Some, None, Result, Ok, Err, refl, sym, ap, subst, ◌∙◌, inl, inr}
+use Rattle.std.proofs.Common.{◌≡◌, ℕ, List, [], ◌∷◌, ◌++◌, flat_map, filter_map, Option, Some, None, Result, Ok, Err, refl, sym, ap, subst, ◌∙◌, inl, inr}
 use Rattle.std.specs.List.{cons_option}
 use Rattle.std.specs.Result.{result_ok}
 use Rattle.std.proofs.lemmas.List.{append_assoc, append-nil}
 use Rattle.std.proofs.lemmas.Grind.{flat_map-append}
-use Rattle.list_members.specs.Membership.{IsIn}
+use Rattle.list_members.proofs.Members.{IsIn-either}
 use Rattle.life_table.specs.LifeTable.{LifeTable}
 use Rattle.uplink_frame.specs.declared.station.StationId.{StationId}
 use Rattle.uplink_frame.specs.UplinkFrame.{InformationFrame, information_frames}
@@ -80,16 +80,8 @@ contents_added grows table past heard =
     (completed_after (arrivals table past) (arrivals_in table heard)))
     ∙ ap (flat_map (whole_entries table)) (sym (grows (arrivals table past) (arrivals_in table heard)))
 
-in_either : {A : Type 0} (x : A) (xs ys : List A) → IsIn x (xs ++ ys) → IsIn x xs ⊎ IsIn x ys
-in_either x [] ys here = inr here
-in_either x (z ∷ xs) ys (inl same) = inl (inl same)
-in_either x (z ∷ xs) ys (inr later) = elim (in_either x xs ys later) [
-  | inl there ↦ inl (inr there)
-  | inr there ↦ inr there
-]
-
 lives_joined : (life : Key → ℕ) (xs ys : List Entry) → HaveLife life xs → HaveLife life ys → HaveLife life (xs ++ ys)
-lives_joined life xs ys p q = λ entry here. elim (in_either entry xs ys here) [ inl l ↦ p entry l | inr r ↦ q entry r ]
+lives_joined life xs ys p q = λ entry here. elim (IsIn-either entry xs ys here) [ inl l ↦ p entry l | inr r ↦ q entry r ]
 
 -- what is known of the entries of payloads
 abbrev pub PayloadsLive : Type 0

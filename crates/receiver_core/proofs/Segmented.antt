@@ -3,12 +3,13 @@ use Rattle.std.proofs.Common.{◌≡◌, ℕ, ◌≤◌, Bool, true, false, cond
 use Rattle.std.specs.List.{range_with_len, sum_by}
 use Rattle.std.specs.Option.{option_map}
 use Rattle.std.proofs.lemmas.List.Sums.{sum_by-cons}
+use Rattle.list_members.proofs.Ranges.{any_filter, find_filter, list_all_same}
 use Rattle.apdu_core.specs.declared.unit.Seg.{Seg}
 use Rattle.segment_core.specs.Arrival.{Arrival, first_piece, has_piece, is_piece}
 use Rattle.segment_core.specs.Kept.{arrival_named, fields_of, kept_of, kept_piece, was_whole}
 use Rattle.segment_core.specs.Store.{StandsFor, Store}
 use Rattle.segment_core.specs.declared.piece_name.PieceName.{PieceName}
-use Rattle.receiver_core.proofs.Weights.{all_same, any_filter, find_filter, sum_above, sum_of_filter}
+use Rattle.receiver_core.proofs.Weights.{sum_above, sum_of_filter}
 
 abbrev pub is_segment : Arrival → Bool
 is_segment a = is_some a.segmentation
@@ -32,7 +33,8 @@ module _ (taken : List Arrival) where
       let s = fields_of name in
       let first = first_same a s name.number in
       let whole : was_whole (filter is_segment taken) name ≡ was_whole taken name =
-      all_same (has_piece (filter is_segment taken) a s) (has_piece taken a s) (range_with_len 1 name.count) (has_same a s) in
+      list_all_same (has_piece (filter is_segment taken) a s) (has_piece taken a s) (range_with_len 1 name.count)
+      (λ n there. has_same a s n) in
       sym (ap (λ (b : Bool). option_map (kept_piece b) (first_piece (filter is_segment taken) a s name.number)) whole
       ∙ ap (option_map (kept_piece (was_whole taken name))) first)
 

@@ -1,7 +1,7 @@
 -- Weights of the elements of a list, and tests of them.
-use Rattle.std.proofs.Common.{◌≡◌, ℕ, zero, suc, ◌+◌, ◌*◌, ◌<◌, ◌≤◌, Bool, true, false, cond, not, ◌==◌, List, [], ◌∷◌, ◌++◌, length, filter, flat_map, find, refl, sym, ap, ◌∙◌, inl, inr, arith}
-use Rattle.std.specs.List.{list_all, list_any, sum_by, range_with_len}
-use Rattle.std.proofs.lemmas.Bool.{cases_Bool, and_parts, and_from, cond-true, cond-false, eqb-true, eq-eqb}
+use Rattle.std.proofs.Common.{◌≡◌, ℕ, ◌+◌, ◌*◌, ◌≤◌, Bool, true, false, cond, not, ◌==◌, List, [], ◌∷◌, ◌++◌, length, filter, flat_map, refl, ap, ◌∙◌, inl, inr, arith}
+use Rattle.std.specs.List.{list_all, sum_by}
+use Rattle.std.proofs.lemmas.Bool.{cases_Bool, and_parts, and_from, cond-true, cond-false, eqb-true}
 use Rattle.std.proofs.lemmas.List.{length-append}
 use Rattle.std.proofs.lemmas.List.Elements.{filter-append}
 use Rattle.std.proofs.lemmas.List.Sums.{sum_by-cons}
@@ -59,20 +59,6 @@ cond_below true true x each = omega arith
 cond_below true false x each = let same : false ≡ true = each refl in absurd (cc)
 cond_below false c x each = omega arith
 
-pub any_same : {A : Type 0} (p q : A → Bool) (xs : List A) → ((x : A) → p x ≡ q x) → list_any p xs ≡ list_any q xs
-any_same p q [] each = refl
-any_same p q (x ∷ xs) each =
-    let here : p x ≡ q x = each x in
-    let later : list_any p xs ≡ list_any q xs = any_same p q xs each in
-    rw (here, later) refl
-
-pub all_same : {A : Type 0} (p q : A → Bool) (xs : List A) → ((x : A) → p x ≡ q x) → list_all p xs ≡ list_all q xs
-all_same p q [] each = refl
-all_same p q (x ∷ xs) each =
-    let here : p x ≡ q x = each x in
-    let later : list_all p xs ≡ list_all q xs = all_same p q xs each in
-    rw (here, later) refl
-
 pub all_more : {A : Type 0} (p q : A → Bool) (xs : List A) → ((x : A) → p x ≡ true → q x ≡ true)
     → list_all p xs ≡ true → list_all q xs ≡ true
 all_more p q [] each all = refl
@@ -93,41 +79,6 @@ all_but p k (n ∷ ns) own others = elim (cases_Bool (n == k)) [
       let both : list_all p (n ∷ filter (λ m. not (m == k)) ns) ≡ true = (rw other at others) in
       let parts = and_parts (p n) (list_all p (filter (λ m. not (m == k)) ns)) both in
       and_from (p n) (list_all p ns) parts.0 (all_but p k ns own parts.1)
-]
-
-pub all_at : (p : ℕ → Bool) (k first count : ℕ) → first ≤ k → k < first + count
-    → list_all p (range_with_len first count) ≡ true → p k ≡ true
-all_at p k first zero least most all = absurd (omega arith)
-all_at p k first (suc count) least most all =
-    let parts = and_parts (p first) (list_all p (range_with_len (first + 1) count)) all in
-    elim (cases_Bool (first == k)) [
-      | inl same ↦ ap p (sym (eqb-true first k same)) ∙ parts.0
-      | inr other ↦
-          let apart : first ≡ k → ⊥ = λ e. (let same : (first == k) ≡ true = eq-eqb first k e in absurd (cc)) in
-          all_at p k (first + 1) count (omega (arith, apart, least)) (omega (arith, most)) parts.1
-    ]
-
--- what a test finds that looks at nothing but what a filter leaves
-pub find_filter : {A : Type 0} (p q : A → Bool) → ((x : A) → p x ≡ true → q x ≡ true) → (xs : List A)
-    → find p (filter q xs) ≡ find p xs
-find_filter p q each [] = refl
-find_filter p q each (x ∷ xs) = elim (cases_Bool (p x)) [
-  | inl is ↦ let passes = each x is in rw (passes, is) refl
-  | inr other ↦ elim (cases_Bool (q x)) [
-    | inl passes ↦ rw (passes, other) (find_filter p q each xs)
-    | inr fails ↦ rw (fails, other) (find_filter p q each xs)
-  ]
-]
-
-pub any_filter : {A : Type 0} (p q : A → Bool) → ((x : A) → p x ≡ true → q x ≡ true) → (xs : List A)
-    → list_any p (filter q xs) ≡ list_any p xs
-any_filter p q each [] = refl
-any_filter p q each (x ∷ xs) = elim (cases_Bool (p x)) [
-  | inl is ↦ let passes = each x is in rw (passes, is) refl
-  | inr other ↦ elim (cases_Bool (q x)) [
-    | inl passes ↦ rw (passes, other) (any_filter p q each xs)
-    | inr fails ↦ rw (fails, other) (any_filter p q each xs)
-  ]
 ]
 
 -- of lists that come one after another, no more pass than each of them is allowed

@@ -1,6 +1,6 @@
 -- What a receiver learns from the payloads that it hears (RTCA DO-358). Receptions have the newest first; arrivals, whole
 -- payloads and entries have the oldest first.
-use Rattle.std.specs.Prelude.{ℕ, ◌+◌, Bool, false, ◌||◌, ◌==◌, nat_lt, if◌then◌else◌, List, [], ◌∷◌, ◌++◌, flat_map, filter_map, Option, Some, None, Result, Ok, Err}
+use Rattle.std.specs.Prelude.{ℕ, ◌+◌, Bool, false, ◌==◌, nat_lt, if◌then◌else◌, List, [], ◌∷◌, ◌++◌, flat_map, filter_map, Option, Some, None, Result, Ok, Err}
 use Rattle.std.specs.Result.{result_ok}
 use Rattle.fisb_time.specs.Naming.{named}
 use Rattle.uplink_frame.specs.declared.station.StationId.{StationId}
@@ -10,10 +10,11 @@ use Rattle.apdu_core.specs.declared.unit.Seg.{Seg}
 use Rattle.apdu_core.specs.declared.fault.ApduFault.{ApduFault}
 use Rattle.apdu_core.specs.declared.fault.ApduFault.TheVariants as faults
 use Rattle.apdu_core.specs.Apdu.{Apdu, apdu_of}
+use Rattle.life_table.specs.Products.{is_read_product}
 use Rattle.life_table.specs.LifeTable.{LifeTable, longest}
+use Rattle.segment_core.specs.File.{most_segments}
 use Rattle.segment_core.specs.Arrival.{Arrival, Whole, completed}
-use Rattle.segment_core.specs.Store.{is_read_product}
-use Rattle.picture_core.specs.Contents.{text_product, payload_entries}
+use Rattle.picture_core.specs.Contents.{payload_entries}
 use Rattle.picture_core.specs.Entry.{Entry}
 use Rattle.picture_core.specs.Picture.{picture}
 use Rattle.receiver_core.specs.declared.unread.UnreadReason.{UnreadReason}
@@ -28,10 +29,6 @@ abbrev pub fault_reason : ApduFault → UnreadReason
 fault_reason faults.Short = Short
 fault_reason faults.Flagged = Flagged
 fault_reason faults.BadSegment = Segment
-
--- the most segments of a file
-abbrev pub most_segments : ℕ
-most_segments = 64
 
 abbrev pub is_large : Option Seg → Bool
 is_large None = false

@@ -1,7 +1,8 @@
 -- What a receiver holds, and the receptions for which it stands.
 use Rattle.std.specs.Prelude.{◌≡◌, ℕ, List, None}
 use Rattle.std.specs.Option.{unwrap_or}
-use Rattle.life_table.specs.LifeTable.{LifeTable, longest}
+use Rattle.life_table.specs.Products.{regional_radar, conus_radar, text_product}
+use Rattle.life_table.specs.LifeTable.{LifeTable, longest_life}
 use Rattle.segment_core.specs.declared.arrived.Longest.{Longest}
 use Rattle.segment_core.specs.Store.{MarkedStore, StandsFor as StandsForArrivals}
 use Rattle.picture_core.specs.Kept.{IsStore}
@@ -18,9 +19,9 @@ pub record Held : Type 0 where
 -- the longest life of each product that is read; 0 where the table has no row of it
 abbrev pub longest_lives : LifeTable → Longest
 longest_lives table = record {
-  regional = unwrap_or (longest table 63) 0;
-  conus = unwrap_or (longest table 64) 0;
-  text = unwrap_or (longest table 413) 0;
+  regional = longest_life table regional_radar;
+  conus = longest_life table conus_radar;
+  text = longest_life table text_product;
 }
 
 -- between two calls no mark stands, and the joiner knows the lives of the table

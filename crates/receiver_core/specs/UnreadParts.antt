@@ -8,7 +8,7 @@ use Rattle.apdu_core.specs.Apdu.{product_of}
 use Rattle.life_table.specs.LifeTable.{LifeTable}
 use Rattle.text_reports.specs.TextKey.{TextKey, KeyFault, few_words, unlisted, text_key}
 use Rattle.segment_core.specs.Arrival.{Arrival, Whole, completes}
-use Rattle.picture_core.specs.Contents.{text_product}
+use Rattle.life_table.specs.Products.{text_product}
 use Rattle.receiver_core.specs.Reception.{Reception, arrival_in, arrivals, station_heard}
 use Rattle.receiver_core.specs.declared.unread.UnreadReason.{UnreadReason}
 use Rattle.receiver_core.specs.declared.unread.UnreadReason.TheVariants.{Words, Unlisted}

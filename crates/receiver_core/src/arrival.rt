@@ -1,7 +1,8 @@
 //! The arrival that an information frame is.
 ghost use Rattle.std.specs.Prelude.{◌≡◌, ℕ, IfOk, true};
 ghost use Rattle.uplink_frame.specs.Views.{frame_view};
-ghost use Rattle.segment_core.specs.Store.{FitsFile, is_read_product};
+ghost use Rattle.life_table.specs.Products.{is_read_product};
+ghost use Rattle.segment_core.specs.Store.{FitsFile};
 ghost use Rattle.receiver_core.specs.Reception.{arrival_in, is_large};
 ghost use Rattle.receiver_core.specs.StandsFor.{longest_lives};
 ghost use Rattle.receiver_core.specs.Steps.{arrival_in_time};

@@ -8,6 +8,7 @@ use Rattle.gf256_core.specs.Field.{IsField}
 use Rattle.poly256.specs.Polynomial.{element_product, element_power}
 use Rattle.rs_code.specs.CodeWord.{power_sum, IsCodeWord, differences}
 use Rattle.rs_code.specs.Laws.{HasMinimumDistance}
+use Rattle.rs_code.specs.Mending.{weighed}
 use Rattle.rs_code.proofs.Xors.{xor-shuffle, xor-equal, product-zero_right, product-xor_right, product-turned}
 use Rattle.rs_code.proofs.Differences.{differences-cons_same, differences-cons_apart}
 use Rattle.rs_code.proofs.Powers.{power-add, power-fits, power-not_zero, power-injective}
@@ -30,16 +31,12 @@ weight-length [] = omega arith
 weight-length (zero ∷ bs) = let rest = weight-length bs in omega arith
 weight-length (suc b ∷ bs) = let rest = weight-length bs in omega arith
 
-weighed : ℕ → List ℕ → List ℕ
-weighed y [] = []
-weighed y (b ∷ bs) = element_product b (bit_xor (element_power 2 (length bs)) y) ∷ weighed y bs
-
-length-weighed : (y : ℕ) (bs : List ℕ) → length (weighed y bs) ≡ length bs
+pub length-weighed : (y : ℕ) (bs : List ℕ) → length (weighed y bs) ≡ length bs
 unfolding weighed
 length-weighed y [] = refl
 length-weighed y (b ∷ bs) = ap suc (length-weighed y bs)
 
-weighed-fits : (F : IsField 391) (y : ℕ) (bs : List ℕ) (k : ℕ) → get_or (weighed y bs) k 0 < 256
+pub weighed-fits : (F : IsField 391) (y : ℕ) (bs : List ℕ) (k : ℕ) → get_or (weighed y bs) k 0 < 256
 unfolding weighed
 weighed-fits F y [] k = lit< tt
 weighed-fits F y (b ∷ bs) zero = F.product_fits b (bit_xor (element_power 2 (length bs)) y)
@@ -74,7 +71,7 @@ regroup F b p y q s t =
     ∙ xor-shuffle (element_product b (element_product p q)) (element_product y (element_product b q)) s (element_product y t)
     ∙ ap (bit_xor (bit_xor (element_product b (element_product p q)) s)) (sym (product-xor_right F y (element_product b q) t))
 
-power_sum-weighed :
+pub power_sum-weighed :
     (F : IsField 391) (y : ℕ) (bs : List ℕ) (j : ℕ)
     → power_sum (weighed y bs) j ≡ bit_xor (power_sum bs (suc j)) (element_product y (power_sum bs j))
 unfolding weighed

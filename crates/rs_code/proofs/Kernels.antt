@@ -1,17 +1,16 @@
 -- What the steps of the generator, of the rows and of the parity do to power sums.
-use Rattle.std.proofs.Common.{◌≡◌, ℕ, zero, suc, ◌+◌, ◌*◌, ◌/◌, ◌%◌, ◌^◌, ◌<◌, ◌≤◌, List, [], ◌∷◌, ◌++◌, length, get_or, set, take, replicate, lit<, refl, sym, ◌∙◌, ap, ap₂, subst, arith, inl, inr, append_assoc, length-append}
-use Rattle.std.specs.Int.Bits.{bit_xor, xor_zero_r, xor_shifted}
-use Rattle.std.proofs.lemmas.Bool.{cases_lt, cases_eq}
-use Rattle.std.proofs.lemmas.List.{get_or-set_same, get_or-set_other, length-take-le, get_or-replicate, length-replicate}
-use Rattle.std.proofs.lemmas.Nat.{xor_comm, shl_below}
+use Rattle.std.proofs.Common.{◌≡◌, ℕ, zero, suc, ◌+◌, ◌*◌, ◌<◌, ◌≤◌, List, [], ◌∷◌, ◌++◌, length, get_or, take, refl, sym, ◌∙◌, ap, ap₂, arith, inl, inr, append_assoc, length-append}
+use Rattle.std.specs.Int.Bits.{bit_xor, xor_zero_r}
+use Rattle.std.proofs.lemmas.Bool.{cases_lt}
+use Rattle.std.proofs.lemmas.List.{length-take-le}
+use Rattle.std.proofs.lemmas.Nat.{xor_comm}
 use Rattle.gf256_core.specs.Field.{IsField}
 use Rattle.poly256.specs.Polynomial.{element_product, element_power, scaled}
 use Rattle.rs_code.specs.CodeWord.{power_sum}
 use Rattle.rs_code.proofs.Xors.{xor-cancel, product-zero_right}
 use Rattle.rs_code.proofs.Powers.{power-zero, product-one}
-use Rattle.rs_code.proofs.Distance.{difference, length-difference, get_or-difference}
-use Rattle.rs_code.proofs.Places.{get_or-push_zero, get_or-front, get_or-zeros}
-use Rattle.rs_code.proofs.PowerSums.{power_sum-cons, power_sum-empty, power_sum-cons_zero, power_sum-zeros, power_sum-sum, power_sum-multiple, power_sum-append}
+use Rattle.rs_code.proofs.Places.{get_or-push_zero, get_or-front}
+use Rattle.rs_code.proofs.PowerSums.{power_sum-cons, power_sum-empty, power_sum-cons_zero, power_sum-sum, power_sum-multiple, power_sum-append}
 
 -- a word with 0 behind it
 pub power_sum-push_zero :

@@ -14,6 +14,9 @@ pub mod Mending
 pub mod Mended
 pub mod UplinkTable
 pub mod ProductTables
+pub mod PowerRows
+pub mod PointValues
+pub mod Marked
 pub mod Dividing
 pub mod Words
 pub mod Nearest

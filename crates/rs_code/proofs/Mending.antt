@@ -1,5 +1,5 @@
 -- The errors of a word at the places that its locator names.
-use Rattle.std.proofs.Common.{◌≡◌, ℕ, zero, suc, ◌+◌, ◌-◌, ◌*◌, ◌<◌, ◌≤◌, ◌⊎◌, List, [], ◌∷◌, ◌++◌, length, get_or, set, drop, drop-cons, add-one, cond, eqb, lit<, refl, sym, ◌∙◌, ap, ap₂, arith, inl, inr, append_assoc, length-append}
+use Rattle.std.proofs.Common.{◌≡◌, ℕ, zero, suc, ◌+◌, ◌-◌, ◌*◌, ◌<◌, ◌⊎◌, List, [], ◌∷◌, ◌++◌, length, get_or, set, drop, drop-cons, add-one, cond, eqb, lit<, refl, sym, ◌∙◌, ap, ap₂, arith, inl, inr, append_assoc, length-append}
 use Rattle.std.specs.Int.Bits.{bit_xor, xor_zero_r}
 use Rattle.std.proofs.lemmas.Bool.{cases_eq}
 use Rattle.std.proofs.lemmas.List.{set_at, get_or_at}
@@ -8,7 +8,7 @@ use Rattle.poly256.specs.Polynomial.{element_product, element_power, value_at}
 use Rattle.rs_code.specs.CodeWord.{power_sum}
 use Rattle.rs_code.specs.Mending.{zero_places, points_of, points_sum, with_errors}
 use Rattle.rs_code.proofs.Xors.{xor-cancel}
-use Rattle.rs_code.proofs.Powers.{power-suc, power-zero, power-add, power-fits}
+use Rattle.rs_code.proofs.Powers.{power-suc, power-zero, power-add}
 use Rattle.rs_code.proofs.PowerSums.{power_sum-cons, power_sum-empty, power_sum-cons_zero}
 use Rattle.rs_code.proofs.Distance.{difference}
 use Rattle.rs_code.proofs.ZeroPlaces.{chosen_if, chosen_unless, zero_places-zero, zero_places-other, zero_places-none}
@@ -111,7 +111,7 @@ get_or-raised_errors first (p ∷ ps) [] i l h = absurd (omega arith)
 get_or-raised_errors first (p ∷ ps) (e ∷ es) zero l h = refl
 get_or-raised_errors first (p ∷ ps) (e ∷ es) (suc i) l h = get_or-raised_errors first ps es i (omega arith) (omega arith)
 
-power-power : (F : IsField 391) (a m n : ℕ) → element_power a (n * m) ≡ element_power (element_power a m) n
+pub power-power : (F : IsField 391) (a m n : ℕ) → element_power a (n * m) ≡ element_power (element_power a m) n
 power-power F a m zero =
     ap (element_power a) (let e : 0 * m ≡ 0 = omega arith in e) ∙ power-zero a ∙ sym (power-zero (element_power a m))
 power-power F a m (suc n) =

@@ -1,11 +1,10 @@
 -- The tables by which products are made: their laws are computed over the whole tables.
-use Rattle.std.proofs.Common.{◌≡◌, ℕ, zero, suc, ◌+◌, ◌<◌, ◌≤◌, List, [], ◌∷◌, Bool, true, false, ◌&&◌, cond, eqb, ltb, length, get_or, lit<, lit≤, refl, sym, ◌∙◌, ap, ap₂, subst, arith, inl, inr}
-use Rattle.std.proofs.lemmas.Bool.{and_parts, eqb-true, ltb-true, cases_eq, cases_lt}
-use Rattle.std.proofs.lemmas.List.{get_or_past}
+use Rattle.std.proofs.Common.{◌≡◌, ℕ, zero, suc, ◌+◌, ◌<◌, ◌≤◌, List, [], ◌∷◌, Bool, true, false, ◌&&◌, cond, eqb, ltb, length, get_or, refl, sym, ◌∙◌, ap, ap₂, subst, arith, inl, inr}
+use Rattle.std.proofs.lemmas.Bool.{and_parts, eqb-true, ltb-true, cases_eq}
 use Rattle.gf256_core.specs.Field.{IsField, product, power, remainder, plain_product}
 use Rattle.poly256.specs.Polynomial.{element_product, element_power}
 use Rattle.rs_code.specs.declared.product.TheConstants.{POWERS, LOGARITHMS}
-use Rattle.rs_code.proofs.Powers.{power-suc, power-zero, power-add}
+use Rattle.rs_code.proofs.Powers.{power-suc, power-add}
 use Rattle.rs_code.proofs.ZeroPlaces.{chosen_unless}
 use Rattle.rs_code.proofs.Xors.{product-zero_right}
 

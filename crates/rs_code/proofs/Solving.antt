@@ -1,14 +1,13 @@
 -- Values at different points by their sums: the sums of the values times their points plus one more point.
-use Rattle.std.proofs.Common.{◌≡◌, ◌≢◌, ℕ, zero, suc, ◌+◌, ◌-◌, ◌<◌, ◌≤◌, List, [], ◌∷◌, ◌++◌, length, get_or, set, take, drop, lit<, refl, sym, ◌∙◌, ap, ap₂, subst, arith, inl, inr}
+use Rattle.std.proofs.Common.{◌≡◌, ◌≢◌, ℕ, zero, suc, ◌+◌, ◌<◌, List, [], ◌∷◌, ◌++◌, length, get_or, set, take, drop, lit<, refl, sym, ◌∙◌, ap, ap₂, subst, arith, inl, inr}
 use Rattle.std.specs.Int.Bits.{bit_xor, xor_zero_r, xor_assoc, xor_self}
-use Rattle.std.proofs.lemmas.Nat.{xor_comm}
 use Rattle.std.proofs.lemmas.Bool.{cases_eq}
 use Rattle.std.proofs.lemmas.List.{ext_get_or, get_or-set_same, get_or-set_other}
 use Rattle.gf256_core.specs.Field.{IsField}
 use Rattle.poly256.specs.Polynomial.{element_product, element_power}
 use Rattle.poly256.specs.Laws.{AreDifferent}
 use Rattle.rs_code.specs.Mending.{points_sum, total_of}
-use Rattle.rs_code.proofs.Xors.{xor-shuffle, xor-cancel, xor-equal, zero-xor, product-zero_right, product-xor_right, product-turned}
+use Rattle.rs_code.proofs.Xors.{xor-shuffle, xor-equal, zero-xor, product-zero_right, product-xor_right, product-turned}
 use Rattle.rs_code.proofs.Powers.{power-suc, power-zero, product-one}
 
 -- a product may be undone

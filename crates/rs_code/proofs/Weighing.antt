@@ -1,14 +1,14 @@
 -- A word whose bytes are each multiplied by a function of their points. By the values of a polynomial its power sums are
 -- those of the word, paired with the coefficients; so where these are 0, each byte is 0 or stands at a point where the
 -- polynomial is 0.
-use Rattle.std.proofs.Common.{◌≡◌, ℕ, zero, suc, ◌+◌, ◌-◌, ◌*◌, ◌<◌, ◌≤◌, ◌⊎◌, List, [], ◌∷◌, length, get_or, lit<, refl, sym, ◌∙◌, ap, ap₂, arith, inl, inr}
+use Rattle.std.proofs.Common.{◌≡◌, ℕ, zero, suc, ◌+◌, ◌-◌, ◌*◌, ◌<◌, ◌≤◌, ◌⊎◌, List, [], ◌∷◌, length, get_or, lit<, refl, sym, ◌∙◌, ap, ap₂, arith}
 use Rattle.std.specs.Int.Bits.{bit_xor, xor_zero_r}
 use Rattle.gf256_core.specs.Field.{IsField}
 use Rattle.poly256.specs.Polynomial.{element_product, element_power, value_at}
 use Rattle.poly256.specs.Laws.{HasValues}
 use Rattle.rs_code.specs.CodeWord.{power_sum}
 use Rattle.rs_code.specs.Mending.{paired}
-use Rattle.rs_code.proofs.Xors.{xor-shuffle, zero-xor, product-zero_right, product-xor_right, product-turned}
+use Rattle.rs_code.proofs.Xors.{xor-shuffle, product-zero_right, product-xor_right}
 use Rattle.rs_code.proofs.Powers.{power-add}
 use Rattle.rs_code.proofs.PowerSums.{power_sum-cons, power_sum-empty, power_sum-zeros}
 use Rattle.rs_code.proofs.Distance.{weight, weight-cons, zero_from_sums}

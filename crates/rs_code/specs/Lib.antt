@@ -2,4 +2,5 @@ pub mod CodeWord
 pub mod Functions
 pub mod Laws
 pub mod Mending
+pub mod Rows
 pub mod UplinkRows

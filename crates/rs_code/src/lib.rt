@@ -5,9 +5,13 @@ mod code;
 mod generator;
 mod laws;
 mod locator;
+mod marks;
 mod mend;
+mod place_powers;
 mod product;
 mod remainder;
+mod root_powers;
+mod rows;
 #[cfg(test)]
 mod tests;
 mod uplink_rows;

@@ -1,6 +1,6 @@
 -- What a store holds is at most what arrived, and its answers are those of the definitions.
 use Rattle.std.proofs.Common.{◌≡◌, ℕ, ◌≤◌, Bool, true, false, cond, List, [], ◌∷◌, length}
-use Rattle.std.proofs.Common.{find, filter, Option, Some, None, is_some, refl, sym, ap, subst, ◌∙◌, inl, inr, arith}
+use Rattle.std.proofs.Common.{Option, Some, None, is_some, refl, sym, ap, subst, ◌∙◌, inl, inr, arith}
 use Rattle.std.specs.List.{list_all, sum_by, AllByRecursion}
 use Rattle.std.specs.List.Sorted.{IsStrictlySortedBy}
 use Rattle.std.specs.Map.{keys_of, values_of, lookup, remove_entry}
@@ -11,6 +11,7 @@ use Rattle.std.proofs.lemmas.Bool.{cases_Bool, cond-true, cond-false}
 use Rattle.std.proofs.lemmas.List.Sums.{sum_by-cons}
 use Rattle.std.proofs.lemmas.Map.Entries.{length-values_of, sum_by-remove_entry}
 use Rattle.std.proofs.lemmas.Map.Keys.{sorted_head, sorted_tail}
+use Rattle.list_members.proofs.Ranges.{find_filter}
 use Rattle.apdu_core.specs.declared.unit.Seg.{Seg}
 use Rattle.segment_core.specs.Arrival.{Arrival, is_piece, has_piece, other_numbers, whole_with, completes}
 use Rattle.segment_core.specs.Kept.{Pieces, kept_under, kept_piece, was_whole, piece_name, arrival_named}
@@ -132,18 +133,6 @@ weighed f g [] (e ∷ es) once fits =
     absurd (cc)
 weighed f g (a ∷ came) es once fits = weighed_one f g a came (weighed f g came) es once fits a.segmentation refl
 
--- the first of those that pass a test that each candidate passes
-find-filter : {A : Type 0} (p q : A → Bool) → ((x : A) → p x ≡ true → q x ≡ true) → (xs : List A) → find p (filter q xs)
-    ≡ find p xs
-find-filter p q each [] = refl
-find-filter p q each (x ∷ xs) = elim (cases_Bool (p x)) [
-  | inl is ↦ let passes = each x is in rw (passes, is) refl
-  | inr other ↦ elim (cases_Bool (q x)) [
-    | inl passes ↦ rw (passes, other) (find-filter p q each xs)
-    | inr fails ↦ rw (fails, other) (find-filter p q each xs)
-  ]
-]
-
 named_live : (longest : Longest) (moment : ℕ) (k : PieceName) (a : Arrival) (o : Option Seg) → a.segmentation ≡ o
     → is k k.number a ≡ true → is_live longest moment k.product k.version ≡ true
     → is_live longest moment a.product a.version ≡ true
@@ -174,7 +163,7 @@ kept_fits f g each store moment taken stands purged k v h =
     let kept = from_kept (was_whole taken k)
     (first taken k k.number) v (sym (stands.keeps k (stands.numbered k some) at_clock) ∙ h) in
     let same_first : first (live_arrivals store.longest moment taken) k k.number ≡ first taken k k.number =
-    find-filter (is k k.number) (λ (a : Arrival). is_live store.longest moment a.product a.version)
+    find_filter (is k k.number) (λ (a : Arrival). is_live store.longest moment a.product a.version)
     (λ a is_k. named_live store.longest moment k a a.segmentation refl is_k live) taken in (
       kept.0,
       same_first ∙ kept.1,

@@ -17,7 +17,7 @@ use Rattle.segment_core.specs.Arrival.{Arrival, Whole, whole_with, joined_payloa
 use Rattle.segment_core.specs.Arrival.{completed_after}
 use Rattle.segment_core.specs.Joining.{Segment, segment, arrival_of, whole_of, AreSent, HasAll, IsOfFile}
 use Rattle.segment_core.proofs.Parts.{parts-whole, are_parts}
-use Rattle.segment_core.proofs.Ranges.{in_range, range_has, all_in, in_all, not_all_in}
+use Rattle.list_members.proofs.Ranges.{in_range, range_has, all_in, in_all, not_all_in}
 use Rattle.segment_core.proofs.Joined.{fields_of, segmentation-cut, segmentation-whole, has, IsOfSent, AreAmong, has-in}
 use Rattle.segment_core.proofs.Joined.{in-has, joined-is}
 

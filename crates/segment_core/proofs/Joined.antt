@@ -13,7 +13,8 @@ use Rattle.segment_core.specs.File.{File, is_segmented, parts_of, part_of, segme
 use Rattle.segment_core.specs.Arrival.{same_file, is_piece, first_piece, has_piece, bytes_of_piece, joined_payload}
 use Rattle.segment_core.specs.Joining.{Segment, segment, arrival_of, AreApart, HasAll}
 use Rattle.segment_core.proofs.Parts.{are_parts}
-use Rattle.segment_core.proofs.Ranges.{in_range, flat_map_same, read_all}
+use Rattle.list_members.proofs.Ranges.{in_range, flat_map_same}
+use Rattle.segment_core.proofs.Ranges.{read_all}
 
 -- the fields of a segment of a payload that is cut
 abbrev pub fields_of : File → ℕ → Seg

@@ -1,7 +1,7 @@
 -- Up to when no piece is stale.
 use Rattle.std.proofs.Common.{◌≡◌, ℕ, ◌+◌, ◌<◌, ◌≤◌, true, List, [], ◌∷◌, Option, Some, None, is_some, refl, sym, ap, subst}
 use Rattle.std.proofs.Common.{◌∙◌, inl, inr, arith}
-use Rattle.std.proofs.lemmas.Bool.{cases_Bool, cond-true, cond-false, lt-ltb}
+use Rattle.std.proofs.lemmas.Bool.{cases_Bool, lt-ltb}
 use Rattle.apdu_core.specs.declared.unit.Seg.{Seg}
 use Rattle.undo_map.specs.Marked.{Marked}
 use Rattle.segment_core.specs.Arrival.{Arrival}

@@ -120,6 +120,37 @@ pub parts-count : (form : TimeForm) (payload : List ℕ) → is_segmented form p
 parts-count form payload cut =
     ap length (parts-cut form payload cut) ∙ length-pieces (segments_needed form payload) (segment_limit form) payload
 
+-- a payload has no more bytes than so many full frames
+limit_most : (form : TimeForm) → segment_limit form ≤ body_limit
+limit_most Minute = omega arith
+limit_most Second = omega arith
+limit_most DayMinute = omega arith
+limit_most DaySecond = omega arith
+
+whole_most : (form : TimeForm) → whole_limit form ≤ body_limit
+whole_most Minute = omega arith
+whole_most Second = omega arith
+whole_most DayMinute = omega arith
+whole_most DaySecond = omega arith
+
+times_most : (count limit most : ℕ) → limit ≤ most → count * limit ≤ count * most
+times_most zero limit most le = omega arith
+times_most (suc count) limit most le = let rest = times_most count limit most le in omega arith
+
+pub parts-hold : (form : TimeForm) (payload : List ℕ) → length payload ≤ length (parts form payload) * body_limit
+parts-hold form payload = elim (cases_Bool (is_segmented form payload)) [
+  | inl cut ↦
+      let size : length (parts form payload) ≡ segments_needed form payload = parts-count form payload cut in
+      let hold = needed_hold (length payload) (segment_limit form) (limit_some form) in
+      let most = times_most (segments_needed form payload) (segment_limit form) body_limit (limit_most form) in
+      subst (λ (n : ℕ). length payload ≤ n * body_limit) (sym size) (omega (arith, hold, most))
+  | inr whole ↦
+      let one : length (parts form payload) ≡ 1 = ap length (parts-whole form payload whole) in
+      let short : length payload ≤ whole_limit form = leb-true (length payload) (whole_limit form) (not-false _ whole) in
+      let most = whole_most form in
+      subst (λ (n : ℕ). length payload ≤ n * body_limit) (sym one) (omega (arith, short, most))
+]
+
 -- where a part stands in a payload that is cut
 pub part-at : (form : TimeForm) (payload : List ℕ) (number : ℕ) → is_segmented form payload ≡ true
     → number - 1 < length (parts form payload)

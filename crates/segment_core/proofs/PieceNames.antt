@@ -20,7 +20,7 @@ use Rattle.segment_core.specs.Kept.{Pieces, kept_under, same_piece, with_number}
 use Rattle.segment_core.specs.HeldPieces.{is_number_of, others_held, held_with}
 use Rattle.segment_core.specs.declared.piece_name.PieceName.{PieceName}
 use Rattle.segment_core.specs.contracts.piece_name.PieceNameOrd.TheImpl as order
-use Rattle.segment_core.proofs.Ranges.{in_range, range_has}
+use Rattle.list_members.proofs.Ranges.{in_range, range_has}
 
 pub bool_same : (a b : Bool) → (a ≡ true → b ≡ true) → (b ≡ true → a ≡ true) → a ≡ b
 bool_same true b f g = sym (f refl)

@@ -18,16 +18,9 @@ use Rattle.segment_core.specs.HeldPieces.{held_with, is_number_of}
 use Rattle.segment_core.specs.Store.{live_answer}
 use Rattle.segment_core.specs.declared.piece_name.PieceName.{PieceName}
 use Rattle.segment_core.specs.declared.arrived.Taken.TheVariants.{Whole}
-use Rattle.segment_core.proofs.Ranges.{in_range, range_has, all_in, in_all, not_all, not_all_in, flat_map_same}
+use Rattle.list_members.proofs.Ranges.{in_range, range_has, all_in, in_all, not_all, not_all_in, list_all_same, flat_map_same}
 use Rattle.segment_core.proofs.Completed.{in-others, others-in}
 use Rattle.segment_core.proofs.PieceNames.{bool_same, same-is, same-self}
-
-list_all_same : {A : Type 0} (p g : A → Bool) (xs : List A) → ((x : A) → IsIn x xs → p x ≡ g x) → list_all p xs ≡ list_all g xs
-list_all_same p g [] each = refl
-list_all_same p g (x ∷ xs) each =
-    let here : p x ≡ g x = each x (inl refl) in
-    let later : list_all p xs ≡ list_all g xs = list_all_same p g xs (λ y h. each y (inr h)) in
-    rw (here, later) refl
 
 found_some : {A : Type 0} (p : A → Bool) (xs : List A) → is_some (find p xs) ≡ list_any p xs
 found_some p [] = refl

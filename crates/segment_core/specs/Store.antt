@@ -1,9 +1,11 @@
 -- What a joiner holds, and the arrivals for which it stands.
-use Rattle.std.specs.Prelude.{◌≡◌, ℕ, ◌+◌, ◌≤◌, Bool, true, ◌||◌, ◌==◌, nat_lt, if◌then◌else◌, List, [], ◌∷◌, ◌++◌}
+use Rattle.std.specs.Prelude.{◌≡◌, ℕ, ◌+◌, ◌≤◌, Bool, true, ◌==◌, nat_lt, if◌then◌else◌, List, [], ◌∷◌, ◌++◌}
 use Rattle.std.specs.Prelude.{filter, Option, Some, None, is_some}
 use Rattle.std.specs.List.{list_all}
 use Rattle.apdu_core.specs.declared.unit.Seg.{Seg}
+use Rattle.life_table.specs.Products.{regional_radar, conus_radar}
 use Rattle.undo_map.specs.Marked.{Marked}
+use Rattle.segment_core.specs.File.{most_segments}
 use Rattle.segment_core.specs.Arrival.{Arrival, has_piece, other_numbers, joined_payload}
 use Rattle.segment_core.specs.Kept.{Pieces, IsNumbered, kept_under, kept_of}
 use Rattle.segment_core.specs.declared.piece_name.PieceName.{PieceName}
@@ -22,11 +24,9 @@ pub record MarkedStore : Type 0 where
   pub store : Store
   pub mark : Option Store
 
-abbrev pub is_read_product : ℕ → Bool
-is_read_product product = (product == 63) || (product == 64) || (product == 413)
-
 abbrev pub longest_of : Longest → ℕ → ℕ
-longest_of longest product = if product == 63 then longest.regional else (if product == 64 then longest.conus else longest.text)
+longest_of longest product = if product == regional_radar then longest.regional
+    else (if product == conus_radar then longest.conus else longest.text)
 
 -- the longest life of the product has not passed since the version
 abbrev pub is_live : Longest → ℕ → ℕ → ℕ → Bool
@@ -52,10 +52,10 @@ abbrev pub IsNotBefore : Option ℕ → ℕ → Type 0
 IsNotBefore None moment = Unit {0}
 IsNotBefore (Some kept) moment = kept ≤ moment
 
--- a segment's count is at most 64, and its number from 1 to the count
+-- a segment's count is not too large, and its number is from 1 to the count
 abbrev pub FitsFile : Option Seg → Type 0
 FitsFile None = Unit {0}
-FitsFile (Some s) = (1 ≤ s.number) × (s.number ≤ s.count) × (s.count ≤ 64)
+FitsFile (Some s) = (1 ≤ s.number) × (s.number ≤ s.count) × (s.count ≤ most_segments)
 
 -- what an arrival that is not stale brings
 abbrev pub live_answer : List Arrival → Arrival → Option Seg → Taken

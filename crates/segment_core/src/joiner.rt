@@ -3,7 +3,8 @@ ghost use Rattle.std.specs.Prelude.{◌≡◌, IfOk, IsSome, List, None, OnErr, 
 ghost use Rattle.segment_core.specs.Arrival.{Arrival};
 ghost use Rattle.segment_core.specs.Bound.{IsPurged};
 ghost use Rattle.segment_core.specs.Store.{FitsFile, IsNotBefore, StandsFor, answer_of};
-ghost use Rattle.segment_core.specs.Store.{is_read_product, live_pieces, taken_with};
+ghost use Rattle.life_table.specs.Products.{is_read_product};
+ghost use Rattle.segment_core.specs.Store.{live_pieces, taken_with};
 ghost use Rattle.segment_core.specs.Views.{arrival_view};
 
 use crate::arrived::{Arrived, Longest, Taken};

@@ -2,6 +2,7 @@
 #![tactic(auto)]
 
 mod arrived;
+mod cutting;
 mod held;
 mod joiner;
 pub mod laws;
@@ -12,5 +13,6 @@ mod sizes;
 mod tests;
 
 pub use arrived::{Arrived, Longest, Taken};
+pub use cutting::{is_segmented, part_at, part_count};
 pub use joiner::Joiner;
 pub use pieces::{Pieces, split};

@@ -1,12 +1,10 @@
 //! A payload, cut into the pieces of which each is sent in an APDU of its own.
-ghost use Rattle.std.specs.Prelude.{◌≡◌, ◌-◌, ◌<◌, ◌≤◌, [], IsTrue, length, take, drop};
-ghost use Rattle.std.specs.List.{slice_index_or};
+ghost use Rattle.std.specs.Prelude.{◌≡◌, ◌<◌, ◌≤◌, IsTrue, length};
 ghost use Rattle.apdu_core.specs.Views.{apdu_view};
 ghost use Rattle.fisb_time.specs.TimeForm.{shows};
-ghost use Rattle.segment_core.specs.File.{File, apdu_of_segment, is_segmented, parts};
-ghost use Rattle.segment_core.specs.File.{parts_of, segmentation_of};
+ghost use Rattle.segment_core.specs.File.{File, apdu_of_segment, parts, parts_of, segmentation_of};
 
-use crate::sizes::{segment_limit, whole_limit};
+use crate::cutting::{is_segmented, part_at, part_count};
 use apdu_core::{Apdu, Seg};
 use fisb_time::{Moment, TimeForm, fields_of};
 use std::marker::Model;
@@ -76,7 +74,7 @@ impl<'a> Pieces<'a> {
         ensures value { result ≡ length (parts_of self.now) }
         ensures few { result ≤ 64 }
     {
-        piece_count(self.form, self.payload)
+        part_count(self.form, self.payload.len())
     }
 
     /// The APDU of a piece, by its number from 1 to `count`.
@@ -90,29 +88,8 @@ impl<'a> Pieces<'a> {
             form: self.form,
             time: fields_of(self.form, self.version),
             seg: seg_of(self.form, self.file, self.payload, number),
-            payload: piece_at(self.form, self.payload, number),
+            payload: part_at(self.form, self.payload, number),
         }
-    }
-}
-
-/// Whether a payload takes several pieces.
-fn is_segmented(form: TimeForm, payload: &[u8]) -> bool
-    ensures { result ≡ is_segmented form payload.now }
-{
-    payload.len() > whole_limit(form)
-}
-
-/// How many pieces a payload takes.
-fn piece_count(form: TimeForm, payload: &[u8]) -> u16
-    requires { length (parts form payload.now) ≤ 64 }
-    ensures { result ≡ length (parts form payload.now) }
-{
-    if is_segmented(form, payload) {
-        let limit = segment_limit(form);
-        let count = (payload.len() + (limit - 1)) / limit;
-        count as u16
-    } else {
-        1
     }
 }
 
@@ -122,37 +99,13 @@ fn seg_of(form: TimeForm, file: u16, payload: &[u8], number: u16) -> Option<Seg>
     ensures { (f : File) → f.form ≡ form → f.number ≡ file → f.payload ≡ payload.now
         → result ≡ segmentation_of f number }
 {
-    if is_segmented(form, payload) {
+    if is_segmented(form, payload.len()) {
         Some(Seg {
             file,
-            count: piece_count(form, payload),
+            count: part_count(form, payload.len()),
             number,
         })
     } else {
         None
     }
-}
-
-/// The bytes of a piece.
-fn piece_at<'a>(form: TimeForm, payload: &'a [u8], number: u16) -> &'a [u8]
-    requires some { 1 ≤ number }
-    requires most { number ≤ length (parts form payload.now) }
-    ensures { result.now ≡ slice_index_or (parts form payload.now) (number - 1) [] }
-{
-    if is_segmented(form, payload) {
-        let limit = segment_limit(form);
-        part_from(payload, usize::from(number - 1) * limit, limit)
-    } else {
-        payload
-    }
-}
-
-/// So many bytes from a place on, or what is left there.
-fn part_from(payload: &[u8], start: usize, limit: usize) -> &[u8]
-    requires { start ≤ length payload.now }
-    ensures { result.now ≡ take limit (drop start payload.now) }
-{
-    let (_, rest) = payload.split_at(start);
-    let (part, _) = rest.split_at(rest.len().min(limit));
-    part
 }

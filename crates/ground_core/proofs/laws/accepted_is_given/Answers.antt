@@ -9,4 +9,5 @@ returns c = accepted-given (record {
   reads = c.reading_undoes_writing.ensures.text;
   longest_life = c.longest_is_greatest.ensures.texts;
   same = c.keys_are_ordered.ensures.same;
+  few = c.parts_are_few.ensures.texts;
 })

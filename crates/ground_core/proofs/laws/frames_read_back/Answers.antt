@@ -7,6 +7,7 @@ returns c = frames-read_back (record {
   bodies = c.bodies_read_back.ensures.back;
   size = c.bodies_read_back.ensures.size;
   apdus = c.apdu_reads_back.ensures;
+  parts = c.parts_fit_frames.ensures;
   given = c.accepted_is_given.ensures;
   items_are = c.histories_have_items.ensures;
 })

@@ -1,9 +1,8 @@
 use Rattle.std.proofs.Common.{arith}
-use Rattle.receiver_core.proofs.Lives.{short_life}
 use Rattle.receiver_core.proofs.reports.take_report.Goals as goal
 
 pub overflow_add-until : goal.overflow_add-until
 overflow_add-until c =
-    let short = short_life c.args.table.now _ _ c.in-Some.ensures.rules c.in-Some.ensures.row in
+    let short = c.in-Some.ensures.bounded in
     let range = c.seconds.ensures.in_range in
     omega (arith, short, range)

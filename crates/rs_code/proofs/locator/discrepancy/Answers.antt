@@ -1,4 +1,4 @@
-use Rattle.std.proofs.Common.{◌≡◌, ◌<◌, ◌∷◌, ◌+◌, ℕ, List, length, suc, arith, refl, ap, ap₂, sym, ◌∙◌, drop, get_or, drop-cons, add-one}
+use Rattle.std.proofs.Common.{◌≡◌, ◌<◌, ◌+◌, ℕ, List, length, suc, arith, ap, ap₂, sym, ◌∙◌, drop, get_or, drop-cons, add-one}
 use Rattle.std.specs.Int.Bits.{bit_xor, xor_zero_r, xor_assoc}
 use Rattle.std.proofs.lemmas.List.{drop_all}
 use Rattle.poly256.specs.Polynomial.{element_product}

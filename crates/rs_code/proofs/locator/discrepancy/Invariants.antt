@@ -1,4 +1,4 @@
-use Rattle.std.proofs.Common.{◌≡◌, ◌<◌, ◌+◌, ℕ, get_or, drop, bit_xor}
+use Rattle.std.proofs.Common.{◌≡◌, ◌<◌, ◌+◌, get_or, drop, bit_xor}
 use Rattle.rs_code.specs.Mending.{paired}
 use Rattle.rs_code.proofs.locator.discrepancy.Given as goal
 

@@ -1,4 +1,4 @@
-use Rattle.std.proofs.Common.{◌≡◌, ◌<◌, ◌≤◌, ◌+◌, ◌/◌, ℕ, List, length, arith, get_or, ap, sym, ◌∙◌, subst, length-set, rules}
+use Rattle.std.proofs.Common.{◌≡◌, ◌<◌, ◌+◌, ◌/◌, length, arith, get_or, sym, ◌∙◌, subst, length-set, rules}
 use Rattle.rs_code.specs.Mending.{paired, IsLocator, IsEarlier}
 use Rattle.rs_code.proofs.Places.{get_or-zeros}
 use Rattle.rs_code.proofs.Pairing.{paired-front}

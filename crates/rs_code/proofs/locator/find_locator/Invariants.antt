@@ -1,4 +1,4 @@
-use Rattle.std.proofs.Common.{◌≡◌, ◌<◌, ◌≤◌, ℕ, length}
+use Rattle.std.proofs.Common.{◌≡◌, ◌<◌, ◌≤◌, length}
 use Rattle.rs_code.specs.Mending.{IsLocator, IsEarlier}
 use Rattle.rs_code.proofs.locator.find_locator.Given as goal
 

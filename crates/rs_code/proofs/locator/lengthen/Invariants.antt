@@ -1,4 +1,4 @@
-use Rattle.std.proofs.Common.{◌≡◌, ◌+◌, ℕ, length}
+use Rattle.std.proofs.Common.{◌≡◌, ◌+◌, length}
 use Rattle.rs_code.specs.Mending.{IsLocator}
 use Rattle.rs_code.proofs.locator.lengthen.Given as goal
 

@@ -1,4 +1,4 @@
-use Rattle.std.proofs.Common.{◌≡◌, ◌+◌, ◌∷◌, ℕ, List, suc, length, drop, get_or, arith, ap, ap₂, sym, ◌∙◌, drop-cons, add-one}
+use Rattle.std.proofs.Common.{◌≡◌, ◌+◌, ◌∷◌, ℕ, drop, get_or, arith, ap, ap₂, sym, ◌∙◌, drop-cons, add-one}
 use Rattle.std.proofs.lemmas.List.{drop_all}
 use Rattle.rs_code.specs.CodeWord.{differences}
 use Rattle.rs_code.proofs.Differences.{differences-cons_same, differences-cons_apart}

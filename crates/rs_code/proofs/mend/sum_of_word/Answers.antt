@@ -1,4 +1,4 @@
-use Rattle.std.proofs.Common.{◌≡◌, ◌<◌, ◌*◌, ℕ, List, [], ◌∷◌, ◌++◌, length, take, get_or, arith, ap, ap₂, sym, ◌∙◌, subst}
+use Rattle.std.proofs.Common.{◌<◌, ℕ, List, take, get_or, arith, ap, ap₂, sym, ◌∙◌}
 use Rattle.std.specs.Int.Bits.{bit_xor}
 use Rattle.std.proofs.lemmas.List.{take_more, take_all}
 use Rattle.poly256.specs.Polynomial.{element_product}

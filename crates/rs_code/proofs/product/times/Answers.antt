@@ -1,4 +1,4 @@
-use Rattle.std.proofs.Common.{◌≡◌, ◌<◌, ◌≤◌, ◌+◌, ℕ, get_or, arith, ap, ap₂, ◌∙◌, subst}
+use Rattle.std.proofs.Common.{◌≡◌, ◌≤◌, ◌+◌, ℕ, get_or, arith, ap₂, ◌∙◌}
 use Rattle.poly256.specs.Polynomial.{element_product}
 use Rattle.rs_code.specs.declared.product.TheConstants.{POWERS, LOGARITHMS}
 use Rattle.rs_code.proofs.ProductTables.{product_row, logarithm-fits}

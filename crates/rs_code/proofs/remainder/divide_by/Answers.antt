@@ -1,6 +1,6 @@
-use Rattle.std.proofs.Common.{◌≡◌, ◌<◌, ◌≤◌, ◌+◌, ◌-◌, ◌∷◌, ◌++◌, ℕ, List, length, get_or, take, drop, arith, ap, ap₂, sym, ◌∙◌, subst, length-append}
-use Rattle.std.proofs.lemmas.List.{get_or-take, take_at}
-use Rattle.poly256.specs.Polynomial.{element_product, sum_of, scaled, raised}
+use Rattle.std.proofs.Common.{◌≡◌, ◌<◌, ◌+◌, ◌-◌, ◌++◌, ℕ, List, length, get_or, drop, arith, ap, ap₂, ◌∙◌, subst, length-append}
+use Rattle.std.proofs.lemmas.List.{get_or-take}
+use Rattle.poly256.specs.Polynomial.{sum_of, scaled}
 use Rattle.rs_code.specs.CodeWord.{power_sum}
 use Rattle.rs_code.proofs.Kernels.{length-scaled}
 use Rattle.rs_code.proofs.Dividing.{division-step, multiple-zero, raised-zero}

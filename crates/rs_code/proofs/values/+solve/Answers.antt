@@ -1,7 +1,6 @@
-use Rattle.std.proofs.Common.{◌≡◌, ◌<◌, ◌∷◌, ◌++◌, set, ◌+◌, ℕ, List, length, get_or, drop, arith, ap, ap₂, sym, ◌∙◌, subst, refl}
+use Rattle.std.proofs.Common.{◌≡◌, ◌<◌, ◌∷◌, ◌++◌, set, ℕ, List, length, get_or, drop, arith, ap, ap₂, sym, ◌∙◌, subst}
 use Rattle.std.specs.Int.Bits.{bit_xor}
-use Rattle.rs_code.specs.Mending.{total_of}
-use Rattle.rs_code.proofs.Solving.{Solves, solve_step, others-apart, others-not_first, one_before, first_of_front}
+use Rattle.rs_code.proofs.Solving.{Solves, solve_step, one_before, first_of_front}
 use Rattle.poly256.specs.Polynomial.{element_product}
 use Rattle.rs_code.proofs.values.+solve.Goals as goal
 

@@ -1,10 +1,10 @@
-use Rattle.std.proofs.Common.{◌≡◌, ◌*◌, ◌-◌, ◌+◌, ◌∷◌, ℕ, List, suc, length, get_or, set, drop, arith, ap, ap₂, sym, ◌∙◌, subst, refl, length-set, inl, inr}
+use Rattle.std.proofs.Common.{◌≡◌, ◌-◌, ◌+◌, ℕ, List, get_or, set, drop, arith, ap, sym, ◌∙◌, refl, length-set, inl, inr}
 use Rattle.std.specs.Int.Bits.{bit_xor}
 use Rattle.std.proofs.lemmas.Bool.{cases_eq}
 use Rattle.std.proofs.lemmas.List.{drop_all}
-use Rattle.poly256.specs.Polynomial.{element_product, element_power}
+use Rattle.poly256.specs.Polynomial.{element_product}
 use Rattle.rs_code.specs.Mending.{with_errors}
-use Rattle.rs_code.proofs.Powers.{power-fits, power-not_zero}
+use Rattle.rs_code.proofs.Powers.{power-not_zero}
 use Rattle.rs_code.proofs.Solving.{cancelled}
 use Rattle.rs_code.proofs.Mending.{with_errors-none, with_errors-next}
 use Rattle.rs_code.proofs.values.add_errors.Goals as goal

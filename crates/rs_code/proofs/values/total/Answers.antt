@@ -1,4 +1,4 @@
-use Rattle.std.proofs.Common.{ℕ, List, arith, suc, drop, get_or, ap, sym, ◌∙◌, add-one, drop-cons}
+use Rattle.std.proofs.Common.{ℕ, arith, suc, drop, get_or, ap, sym, ◌∙◌, add-one, drop-cons}
 use Rattle.std.specs.Int.Bits.{bit_xor, xor_zero_r, xor_assoc}
 use Rattle.std.proofs.lemmas.List.{drop_all}
 use Rattle.rs_code.specs.Mending.{total_of}

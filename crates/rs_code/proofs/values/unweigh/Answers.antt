@@ -1,9 +1,7 @@
-use Rattle.std.proofs.Common.{◌≡◌, ◌<◌, ℕ, arith, get_or, ap, ap₂, ◌∙◌, sym, length-set, subst}
+use Rattle.std.proofs.Common.{◌<◌, ℕ, arith, get_or, ap, ◌∙◌, sym, length-set, subst}
 use Rattle.std.specs.Int.Bits.{bit_xor}
-use Rattle.std.proofs.lemmas.Bool.{cases_eq}
 use Rattle.poly256.specs.Polynomial.{element_product}
 use Rattle.rs_code.proofs.Places.{set_keeps}
-use Rattle.rs_code.proofs.Xors.{xor-equal}
 use Rattle.rs_code.proofs.Solving.{quotient_grows, not_zero_apart}
 use Rattle.rs_code.proofs.values.unweigh.Goals as goal
 

@@ -3,7 +3,7 @@ use Rattle.segment_core.specs.Arrival.{other_numbers}
 use Rattle.segment_core.specs.Kept.{fields_of, kept_under}
 use Rattle.segment_core.specs.declared.piece_name.PieceName.{PieceName}
 use Rattle.segment_core.specs.HeldPieces.{is_held}
-use Rattle.segment_core.proofs.Ranges.{in_all, not_all}
+use Rattle.list_members.proofs.Ranges.{in_all, not_all}
 use Rattle.segment_core.proofs.Completed.{in-others, others-in}
 use Rattle.segment_core.proofs.held.are_others_held.Goals as goal
 

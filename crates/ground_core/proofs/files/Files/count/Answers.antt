@@ -2,7 +2,7 @@ use Rattle.std.proofs.Common.{◌≡◌, ℕ, ◌+◌, ◌&&◌, ◌==◌, if◌
 use Rattle.std.specs.BTreeMap.{get}
 use Rattle.std.specs.Option.{option_copied_mut}
 use Rattle.ground_core.specs.Views.{count_at}
-use Rattle.ground_core.specs.Newest.{HasCount}
+use Rattle.ground_core.specs.Counts.{HasCount}
 use Rattle.ground_core.proofs.MapKeys.{pair_cmp, put_count}
 use Rattle.ground_core.proofs.files.Files.count.Goals as goal
 

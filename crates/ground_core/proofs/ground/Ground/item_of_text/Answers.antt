@@ -1,15 +1,17 @@
-use Rattle.std.proofs.Common.{◌≡◌, ◌+◌, if◌then◌else◌, refl, sym, ap, subst, ◌∙◌, length, arith}
+use Rattle.std.proofs.Common.{◌≡◌, ◌+◌, if◌then◌else◌, Ok, refl, sym, ap, subst, ◌∙◌, length, arith}
 use Rattle.std.proofs.lemmas.Result.{err_from_is_err_and}
 use Rattle.dlac_text.specs.Payload.{text_payload}
 use Rattle.life_table.specs.LifeTable.{TextRow, row, text_row}
 use Rattle.text_reports.specs.Views.{key_view}
+use Rattle.text_reports.specs.declared.key.TextKey.{TextKey as GivenKey}
+use Rattle.picture_core.specs.Key.{text_report}
 use Rattle.segment_core.specs.File.{is_segmented}
 use Rattle.ground_core.specs.Item.{Weather}
 use Rattle.ground_core.specs.Refusal.{version_refusal}
-use Rattle.ground_core.specs.Told.{IsTold, count_refusal}
+use Rattle.ground_core.specs.Told.{IsTold, count_refusal, latest_version}
 use Rattle.ground_core.specs.Views.{latest_at, count_at}
 use Rattle.ground_core.proofs.Accepted.{text_weather}
-use Rattle.ground_core.proofs.ItemOfText.{life_within, told_behind, judged_by, few_bytes, count_below}
+use Rattle.ground_core.proofs.ItemOfText.{told_behind, judged_by, few_bytes, count_below}
 use Rattle.ground_core.proofs.ground.Ground.item_of_text.Goals as goal
 
 pub returns-in_err-payload-clause-fault : goal.returns-in_err-payload-clause-fault
@@ -22,14 +24,14 @@ returns-in_err-key-clause-fault c = let p = err_from_is_err_and c.from_residual-
     (c.in_err-key.ensures.fault (latest_at c.args.self.now.newest) (count_at c.args.self.now.files) c.args.moment c.args.version))
 
 pub version_fault-requires : goal.version_fault-requires
-version_fault-requires c = life_within c.args.self.now.table c.all.result.now _ c.in-Some.ensures.rules (sym c.in-Some.ensures.row)
+version_fault-requires c = c.in-Some.ensures.bounded
 
 pub overflow_add-result : goal.overflow_add-result
 overflow_add-result c =
-    omega (arith, life_within c.args.self.now.table c.all.result.now _ c.in-Some.ensures.rules (sym c.in-Some.ensures.row), c.seconds.ensures.in_range.1)
+    omega (arith, c.in-Some.ensures.bounded, c.seconds.ensures.in_range.1)
 
-pub count_of-requires : goal.count_of-requires
-count_of-requires c = few_bytes _ (length c.args.text.now)
+pub part_count-requires : goal.part_count-requires
+part_count-requires c = few_bytes _ (length c.args.text.now)
     (c.len-size.ensures ∙ ap length c.in_ok-payload.ensures.payload ∙ c.payload_size.ensures.size c.args.text.now) c.in_ok-payload.ensures.sendable.1
 
 pub returns-in-Some-version_fault-clause-fault : goal.returns-in-Some-version_fault-clause-fault
@@ -40,8 +42,10 @@ returns-in-Some-version_fault-clause-fault c =
     let whole = judged_by table (latest_at c.args.self.now.newest) (count_at c.args.self.now.files) c.args.moment c.args.version c.args.text.now (key_view c.in_ok-key.key) r
     c.in_ok-payload.ensures.none c.in_ok-key.ensures.key (ap (text_row table) (sym c.all.ensures) ∙ sym c.in-Some.ensures.row) in
     let later = count_refusal w (count_at c.args.self.now.files c.args.version 413) in
+    let kept : c.version_of-kept.result ≡ latest_version (latest_at c.args.self.now.newest (text_report (key_view c.in_ok-key.key)))
+    = c.version_of-kept.ensures ∙ ap (λ (k : GivenKey). latest_version (latest_at c.args.self.now.newest (text_report (key_view k)))) c.in-Ok.ensures in
     subst (λ f. IsTold f c.in-Some-version_fault.fault)
-    (ap (λ k. version_refusal c.args.moment w k later) c.version_of-kept.ensures ∙ sym whole)
+    (ap (λ k. version_refusal c.args.moment w k later) kept ∙ sym whole)
     (c.in-Some-version_fault.ensures.tells w later refl refl refl)
 
 pub returns-in_err-file-clause-fault : goal.returns-in_err-file-clause-fault
@@ -56,8 +60,10 @@ returns-in_err-file-clause-fault c =
     let size : length (text_payload c.args.text.now) ≡ c.len-size.result = sym (c.len-size.ensures ∙ ap length c.in_ok-payload.ensures.payload) in
     let segmented = c.is_segmented-segmented.ensures (text_payload c.args.text.now) size in
     let p = err_from_is_err_and c.from_residual-in_err-file.result c.from_residual-in_err-file.ensures.1 in
+    let kept : c.version_of-kept.result ≡ latest_version (latest_at c.args.self.now.newest (text_report (key_view c.in_ok-key.key)))
+    = c.version_of-kept.ensures ∙ ap (λ (k : GivenKey). latest_version (latest_at c.args.self.now.newest (text_report (key_view k)))) c.in-Ok.ensures in
     rw (p.1, p.2) (subst (λ f. IsTold f c.in_err-file.field-0.0)
-    (ap (count_refusal w) c.of-given.ensures ∙ sym passes ∙ ap (λ k. version_refusal c.args.moment w k later) c.version_of-kept.ensures ∙ sym whole)
+    (sym passes ∙ ap (λ k. version_refusal c.args.moment w k later) kept ∙ sym whole)
     (c.in_err-file.ensures.fault w segmented))
 
 pub returns-clause-item : goal.returns-clause-item
@@ -65,12 +71,12 @@ returns-clause-item c =
     let r : TextRow = row c.all.result.now c.in-Some.row.kind.now c.in-Some.row.words c.in-Some.row.life c.in-Some.row.form in
     let segmented = c.is_segmented-segmented.ensures c.in_ok-payload.payload (sym c.len-size.ensures) in
     let file : c.in_ok-file.file ≡ (if is_segmented c.in-Some.row.form c.in_ok-payload.payload then count_at c.args.self.now.files c.args.version 413 else 0)
-    = c.in_ok-file.ensures.number ∙ ap (λ b. if b then c.of-given.result else 0) segmented
-    ∙ ap (λ n. if is_segmented c.in-Some.row.form c.in_ok-payload.payload then n else 0) c.of-given.ensures in
+    = c.in_ok-file.ensures.number ∙ ap (λ b. if b then count_at c.args.self.now.files c.args.version 413 else 0) segmented in
     record {
       row = r;
-      key_is = c.in_ok-key.ensures.key;
-      row_is = ap (text_row c.args.self.now.table) (sym c.all.ensures) ∙ sym c.in-Some.ensures.row;
+      key_is = c.in_ok-key.ensures.key ∙ ap (λ (k : GivenKey). Ok (key_view k)) (sym c.in-Ok.ensures);
+      row_is = ap (λ (k : GivenKey). text_row c.args.self.now.table k.kind) c.in-Ok.ensures
+          ∙ ap (text_row c.args.self.now.table) (sym c.all.ensures) ∙ sym c.in-Some.ensures.row;
       serial = refl;
       version_is = refl;
       until = ap (λ n. n + c.in-Some.row.life) c.seconds.ensures.value;
@@ -92,5 +98,6 @@ returns-clause-none c =
     let passes : version_refusal c.args.moment w c.version_of-kept.result later ≡ later = c.in_default-version_fault.ensures.passes w later refl refl refl in
     let size : length (text_payload c.args.text.now) ≡ c.len-size.result = sym (c.len-size.ensures ∙ ap length c.in_ok-payload.ensures.payload) in
     let segmented = c.is_segmented-segmented.ensures (text_payload c.args.text.now) size in
-    whole ∙ ap (λ k. version_refusal c.args.moment w k later) (sym c.version_of-kept.ensures) ∙ passes
-    ∙ ap (count_refusal w) (sym c.of-given.ensures) ∙ c.in_ok-file.ensures.none w segmented
+    let kept : c.version_of-kept.result ≡ latest_version (latest_at c.args.self.now.newest (text_report (key_view c.in_ok-key.key)))
+    = c.version_of-kept.ensures ∙ ap (λ (k : GivenKey). latest_version (latest_at c.args.self.now.newest (text_report (key_view k)))) c.in-Ok.ensures in
+    whole ∙ ap (λ k. version_refusal c.args.moment w k later) (sym kept) ∙ passes ∙ c.in_ok-file.ensures.none w segmented

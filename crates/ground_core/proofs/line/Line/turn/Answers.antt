@@ -1,7 +1,7 @@
 use Rattle.std.proofs.Common.{◌≡◌, ◌<◌, if◌then◌else◌, length, map, refl, sym, ap, subst, ◌∙◌, inr, rules}
 use Rattle.ground_core.specs.Views.{place_view, piece_at, latest_at, pieces_in}
 use Rattle.ground_core.specs.declared.item.SentItem.{SentItem}
-use Rattle.text_reports.specs.Views.{key_view}
+use Rattle.ground_core.specs.NumberedKeys.{report_key}
 use Rattle.picture_core.specs.Key.{Key, text_report, same_key}
 use Rattle.ground_core.specs.Piece.{live_by, IsKept, ArePlaced, while_living}
 use Rattle.ground_core.proofs.Kept.{kept_where}
@@ -54,9 +54,9 @@ returns-then-not-is_live-clause-placed c h =
     let has = has_front c.args.self.now.places.items c.in-Some.front.now some c.in-Some.ensures.lookup in
     let latest = latest_at c.args.newest.now in
     let after = latest_at c.forget.new.self in
-    let own : Key = text_report (key_view c.in-Some.front.now.item.value.key) in
-    let named : Key = text_report (key_view c.deref-then-not-is_live.result.now.key) in
-    let same : named ≡ own = ap (λ (i : SentItem). text_report (key_view i.key)) c.deref-then-not-is_live.ensures in
+    let own : Key = text_report (report_key c.in-Some.front.now.item.value.key) in
+    let named : Key = text_report (report_key c.deref-then-not-is_live.result.now.key) in
+    let same : named ≡ own = ap (λ (i : SentItem). text_report (report_key i.key)) c.deref-then-not-is_live.ensures in
     let dead = ap (λ i. live_by latest c.args.moment (piece_at i c.in-Some.front.now.number)) (sym c.deref.ensures)
     ∙ sym (c.is_live.ensures c.in-Some.front.now.number) ∙ c.if-not-is_live.true in
     subst (ArePlaced after) (sym (ap (map place_view) c.pop_front.ensures.rest))

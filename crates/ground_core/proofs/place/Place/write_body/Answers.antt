@@ -3,7 +3,7 @@ use Rattle.apdu_core.specs.Apdu.{Apdu, header_length, apdu_bytes}
 use Rattle.segment_core.specs.File.{File, part_of, is_segmented}
 use Rattle.ground_core.specs.Views.{file_at}
 use Rattle.ground_core.specs.declared.item.SentItem.{SentItem}
-use Rattle.ground_core.proofs.Parts.{part_fits, is_some_segmentation}
+use Rattle.ground_core.proofs.Segments.{is_some_segmentation}
 use Rattle.ground_core.proofs.place.Place.write_body.Goals as goal
 
 pub write_apdu-requires-clause-holds : goal.write_apdu-requires-clause-holds
@@ -21,6 +21,6 @@ write_apdu-requires-clause-holds c =
     = size ∙ ap (λ (i : SentItem). header_length i.form (is_some apdu.segmentation) + length c.part.result.now) c.deref-item.ensures
     ∙ ap (λ b. header_length file.form b + length c.part.result.now) seg
     ∙ ap (λ n. header_length file.form (is_segmented file.form file.payload) + n) part in
-    let fits = part_fits file number c.args.self.now.in_range.0 (omega (arith, item.counted, c.args.self.now.in_range.1)) in
+    let fits = c.parts_fit_frames.ensures file number c.args.self.now.in_range.0 (omega (arith, item.counted, c.args.self.now.in_range.1)) in
     let room : length c.args.room.now ≡ 422 = c.told-room in
-    subst (λ n. n ≤ length c.args.room.now) (sym whole) (subst (λ n. header_length file.form (is_segmented file.form file.payload) + length (part_of file number) ≤ n) (sym room) fits)
+    subst (λ n. n ≤ length c.args.room.now) (sym whole) (subst (λ n. header_length file.form (is_segmented file.form file.payload) + length (part_of file number) ≤ n) (sym room) fits.fits)

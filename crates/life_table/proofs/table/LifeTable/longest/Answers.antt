@@ -1,8 +1,8 @@
-use Rattle.std.proofs.Common.{◌≡◌, ◌≤◌, ℕ, Option, IfSome, sym, subst}
+use Rattle.std.proofs.Common.{◌≡◌, ℕ, Option, IfSome, sym, subst}
 use Rattle.life_table.specs.LifeTable.{longest}
 use Rattle.life_table.specs.Views.{table_of}
 use Rattle.life_table.proofs.Finding.{longest_text, longest_radar}
-use Rattle.life_table.proofs.Greatest.{longest_short}
+use Rattle.life_table.proofs.Greatest.{IsShort, longest_short}
 use Rattle.life_table.proofs.table.LifeTable.longest.Goals as goal
 
 pub returns-then-product-eq-REPORTS-clause-life : goal.returns-then-product-eq-REPORTS-clause-life
@@ -16,7 +16,7 @@ returns-then-product-eq-REPORTS-clause-bounded c =
     let t = c.self.inside in
     let e = longest_text t.late t.texts.value.items t.radars.value.items c.args.product c.if-product-eq-REPORTS.true in
     let same : c.greatest_text_life.result ≡ longest (table_of t.late t.texts.value.items t.radars.value.items) c.args.product = cc in
-    subst (λ (answer : Option ℕ). IfSome answer (λ life. life ≤ 2592000)) (sym same) (longest_short (table_of t.late t.texts.value.items t.radars.value.items) c.args.product c.self.invariant)
+    subst (λ (answer : Option ℕ). IfSome answer IsShort) (sym same) (longest_short (table_of t.late t.texts.value.items t.radars.value.items) c.args.product c.self.invariant)
 
 pub returns-else-product-eq-REPORTS-clause-life : goal.returns-else-product-eq-REPORTS-clause-life
 returns-else-product-eq-REPORTS-clause-life c =
@@ -29,4 +29,4 @@ returns-else-product-eq-REPORTS-clause-bounded c =
     let t = c.self.inside in
     let e = longest_radar t.late t.texts.value.items t.radars.value.items c.args.product c.if-product-eq-REPORTS.false in
     let same : c.greatest_radar_life.result ≡ longest (table_of t.late t.texts.value.items t.radars.value.items) c.args.product = cc in
-    subst (λ (answer : Option ℕ). IfSome answer (λ life. life ≤ 2592000)) (sym same) (longest_short (table_of t.late t.texts.value.items t.radars.value.items) c.args.product c.self.invariant)
+    subst (λ (answer : Option ℕ). IfSome answer IsShort) (sym same) (longest_short (table_of t.late t.texts.value.items t.radars.value.items) c.args.product c.self.invariant)
