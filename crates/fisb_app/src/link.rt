@@ -1,5 +1,5 @@
 //! The command `link`: a ground, a receiver, and the frames between them.
-ghost use Rattle.std.specs.Prelude.{◌≡◌, ℕ, ◌<◌, ◌^◌, ◌∷◌, [], ◌++◌, List, OnOk, length, map, slice_get};
+ghost use Rattle.std.specs.Prelude.{◌≡◌, ℕ, ◌<◌, ◌^◌, ◌∷◌, [], ◌++◌, List, All, OnOk, length, map, slice_get};
 ghost use Rattle.std.specs.List.{cons_option};
 ghost use Rattle.life_table.specs.LifeTable.{LifeTable as Table};
 ghost use Rattle.picture_core.specs.Views.{shown_value};
@@ -8,7 +8,7 @@ ghost use Rattle.ground_core.specs.Airing.{Frame};
 ghost use Rattle.script_core.specs.LineView.{line_view, HasRanges};
 ghost use Rattle.script_core.specs.Script.{Line as ScriptLine, hear, station, text, turn};
 ghost use Rattle.fisb_app.specs.Output.{given_text, heard_picture, heard_text, picture_text};
-ghost use Rattle.fisb_app.specs.Past.{reception_from};
+ghost use Rattle.fisb_app.specs.Past.{air_heard, reception_from};
 ghost use Rattle.fisb_app.specs.declared.party.Party.TheVariants.{Link as TheLink};
 ghost use Rattle.fisb_app.specs.Reading.{CanCome, own_refusal, receiver_refusal};
 ghost use Rattle.fisb_app.specs.Stands.{HasTried, IsFound, LinkHolds, aired_view, sent_view};
@@ -25,7 +25,7 @@ use fisb_time::Moment;
 use fisb_wire::Bytes;
 use ground_core::AirFrame;
 use run_core::Stop;
-use script_core::{Line, Reason};
+use script_core::{Line, Reason, Wrong};
 use std::alloc::{AllocError, Global};
 use uplink_frame::stations_are_told;
 
@@ -70,7 +70,11 @@ impl<G: Sender, E: Ear> LineActor for Link<G, E> {
                 report,
             } => self.give(alloc, *moment, *version, report.as_str()),
             Line::Turn { moment, slot } => self.turn(alloc, *moment, *slot),
-            Line::Hear { moment, frame } => self.hear(alloc, *moment, *frame),
+            Line::Hear {
+                moment,
+                frame,
+                wrong,
+            } => self.hear(alloc, *moment, *frame, wrong),
             Line::Show { moment } => self.show(alloc, *moment),
         }
     }
@@ -143,19 +147,30 @@ impl<G: Sender, E: Ear> Link<G, E> {
         }
     }
 
-    /// Hears a frame that was sent.
-    fn hear(&mut self, alloc: Global, moment: Moment, frame: u32) -> Result<Bytes, Stop>
+    /// Hears a frame that was sent, with the wrong bytes in it.
+    fn hear(
+        &mut self,
+        alloc: Global,
+        moment: Moment,
+        frame: u32,
+        wrong: &Wrong,
+    ) -> Result<Bytes, Stop>
+        requires { All (λ one. (one.0 < 552) × (one.1 < 256)) wrong.now }
         ensures { (bytes : List ℕ) (acted : List ScriptLine)
-            → CanCome acted (hear moment frame) → LinkHolds G.stands E.stands bytes acted self.old
-            → HasTried (own_refusal self.old.sending.table acted (hear moment frame))
+            → CanCome acted (hear moment frame wrong.now)
+            → LinkHolds G.stands E.stands bytes acted self.old
+            → HasTried (own_refusal self.old.sending.table acted (hear moment frame wrong.now))
             (λ given. (given ≡ given_text Party.Link heard_picture self.old.sending.table acted
-            (hear moment frame))
-            × LinkHolds G.stands E.stands bytes (hear moment frame ∷ acted) self.new) result }
+            (hear moment frame wrong.now))
+            × LinkHolds G.stands E.stands bytes (hear moment frame wrong.now ∷ acted) self.new)
+            result }
     {
-        match self.find(moment, frame) {
-            Ok(air) => self.receive(alloc, moment, &air),
-            Err(reason) => Err(Stop::Refused(reason)),
-        }
+        let mut air = match self.find(moment, frame) {
+            Ok(air) => air,
+            Err(reason) => return Err(Stop::Refused(reason)),
+        };
+        put_wrong(&mut air, wrong.all());
+        self.receive(alloc, moment, &air)
     }
 
     /// The bytes on the air of a frame that was sent, in time.
@@ -218,4 +233,14 @@ fn keep(sent: &mut Vec<SentFrame>, frame: &AirFrame) -> Result<(), AllocError>
         air: frame.air,
     })?;
     Ok(())
+}
+
+/// Puts the wrong bytes of a frame in their places.
+fn put_wrong(air: &mut [u8; 552], wrong: &[(u16, u8)])
+    requires { All (λ one. (one.0 < 552) × (one.1 < 256)) wrong.now }
+    ensures { air.new ≡ air_heard wrong.now air.old }
+{
+    for (place, byte) in wrong {
+        air[usize::from(*place)] = *byte;
+    }
 }
