@@ -6,7 +6,10 @@ ghost use Rattle.dlac_text.specs.Alphabet.{is_in_alphabet, code_of, character_of
 pub fn is_in_alphabet(character: char) -> bool
     ensures { result ≡ is_in_alphabet character }
 {
-    matches!(character, 'A'..='Z' | ' '..='?' | '\u{1A}' | '\n' | '|')
+    if matches!(character, ' '..='?' | 'A'..='Z') {
+        return true;
+    }
+    matches!(character, '\u{1A}' | '\n' | '|')
 }
 
 /// The six-bit code of a character of the alphabet, which is given as its ASCII byte.
@@ -15,12 +18,13 @@ pub fn code_of(character: u8) -> u8
     ensures code { result ≡ code_of character }
     ensures six_bits { result < 64 }
 {
+    if b' ' <= character && character <= b'Z' {
+        return character % 64;
+    }
     match character {
-        b'A'..=b'Z' => character - b'@',
         0x1A => 27,
         b'\n' => 30,
-        b'|' => 31,
-        _ => character,
+        _ => 31,
     }
 }
 

@@ -11,7 +11,7 @@ pub fn plain(alloc: Global, report: &Report) -> Result<String, AllocError>
     ensures { IfOk result (λ text. string_bytes text ≡ plain_text report.now) }
 {
     let characters = report.all().as_bytes();
-    let mut text = String::new(alloc);
+    let mut text = String::with_capacity(alloc, characters.len())?;
     for character in characters {
         push_plain(&mut text, *character)?;
     }

@@ -25,6 +25,3 @@ pub use queue_laws::no_starvation;
 
 /// The station of a ground.
 pub type Station = uplink_frame::StationId;
-
-#[cfg(test)]
-mod tests;

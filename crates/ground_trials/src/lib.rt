@@ -1,0 +1,5 @@
+//! Trials of the ground: whole rows of texts that are given and frames that are filled.
+#![tactic(auto)]
+
+#[cfg(test)]
+mod tests;

@@ -1,0 +1,347 @@
+use dlac_text::TextFault;
+use fisb_time::Moment;
+use ground_core::{AirFrame, FillFault, GiveFault, Ground, Station};
+use life_table::LifeTable;
+use std::alloc::{AllocError, Global};
+use std::test::Fail;
+
+/// The moment of most calls, and a whole minute shortly before it.
+const NOW: u64 = 1_700_000_000;
+
+const MINUTE: u64 = 1_699_999_980;
+
+/// What is answered to a text that is given.
+#[derive(Clone, Copy)]
+enum Answer {
+    Given,
+    Clock(u64),
+    NotNewer(u64),
+    Expired,
+    TooLong,
+    NoFile,
+}
+
+/// What is asked of a ground, and what it has to answer.
+#[derive(Clone, Copy)]
+enum Step {
+    /// To take a text at a moment under a version: a front, and so many letters A behind it.
+    Give(u64, u64, &'static str, usize, Answer),
+    /// To fill a frame at a moment: it has so many bodies, which take so many bytes, and these bytes at these places, each
+    /// divided by a number.
+    Fill(u64, u16, u16, &'static [(usize, u8, u8)]),
+    /// To fill a frame at a moment that is below this last one.
+    FillEarly(u64, u64),
+}
+
+fn ground_under(alloc: Global, table: LifeTable) -> Ground {
+    let station = Station {
+        lat: 0,
+        lon: 0,
+        position_valid: false,
+        site: 0,
+    };
+    Ground::new(alloc, station, table)
+}
+
+fn moment_of(seconds: u64) -> Result<Moment, Fail> {
+    let moment = Moment::new(seconds).ok_or("a moment")?;
+    Ok(moment)
+}
+
+/// A text with so many letters A behind its front.
+fn with_letters(alloc: Global, front: &str, count: usize) -> Result<String, AllocError> {
+    let mut text = String::from_str(alloc, front)?;
+    for _ in 0..count {
+        text.push('A')?;
+    }
+    Ok(text)
+}
+
+/// The fault that an answer names.
+fn fault_named(answer: Answer) -> Result<Option<GiveFault>, Fail> {
+    match answer {
+        Answer::Given => Ok(None),
+        Answer::Clock(last) => {
+            let kept = moment_of(last)?;
+            Ok(Some(GiveFault::Clock { kept }))
+        }
+        Answer::NotNewer(last) => {
+            let kept = moment_of(last)?;
+            Ok(Some(GiveFault::NotNewer { kept }))
+        }
+        Answer::Expired => Ok(Some(GiveFault::Expired)),
+        Answer::TooLong => Ok(Some(GiveFault::BadText(TextFault::TooLong))),
+        Answer::NoFile => Ok(Some(GiveFault::NoFile)),
+    }
+}
+
+/// The fault of a text that is given, if there is one.
+fn fault_of_text(
+    ground: &mut Ground,
+    moment: u64,
+    version: u64,
+    text: &str,
+) -> Result<Option<GiveFault>, Fail> {
+    let moment = moment_of(moment)?;
+    let version = moment_of(version)?;
+    if text.len() >= 100_000 {
+        return Err(Fail::from("a short text"));
+    }
+    Ok(ground.give_text(moment, version, text).err())
+}
+
+fn has_bytes(air: &[u8; 552], bytes: &[(usize, u8, u8)]) -> bool {
+    for (place, divisor, value) in bytes {
+        let Some(byte) = air.get(*place) else {
+            return false;
+        };
+        if byte.checked_div(*divisor) != Some(*value) {
+            return false;
+        }
+    }
+    true
+}
+
+fn next_frame(ground: &mut Ground, moment: u64) -> Result<AirFrame, Fail> {
+    let moment = moment_of(moment)?;
+    let frame = ground.fill(moment, 0)?;
+    Ok(frame)
+}
+
+fn is_refused_below(ground: &mut Ground, moment: u64, last: u64) -> Result<bool, Fail> {
+    let moment = moment_of(moment)?;
+    let kept = moment_of(last)?;
+    Ok(ground.fill(moment, 0).err() == Some(FillFault::Clock { kept }))
+}
+
+fn is_given(
+    ground: &mut Ground,
+    moment: u64,
+    version: u64,
+    text: &str,
+    answer: Answer,
+) -> Result<bool, Fail> {
+    let fault = fault_named(answer)?;
+    Ok(fault_of_text(ground, moment, version, text)? == fault)
+}
+
+fn is_answered(alloc: Global, ground: &mut Ground, step: Step) -> Result<bool, Fail> {
+    match step {
+        Step::Give(moment, version, front, letters, answer) => {
+            let text = with_letters(alloc, front, letters)?;
+            is_given(ground, moment, version, text.as_str(), answer)
+        }
+        Step::Fill(moment, bodies, used, bytes) => {
+            let frame = next_frame(ground, moment)?;
+            Ok(
+                frame.moment.seconds() == moment
+                    && frame.slot == 0
+                    && frame.bodies == bodies
+                    && frame.used == used
+                    && has_bytes(&frame.air, bytes),
+            )
+        }
+        Step::FillEarly(moment, last) => is_refused_below(ground, moment, last),
+    }
+}
+
+/// The place of the first step that is answered otherwise.
+fn first_wrong(alloc: Global, ground: &mut Ground, steps: &[Step]) -> Result<Option<usize>, Fail> {
+    for (place, step) in steps.iter().enumerate() {
+        if !is_answered(alloc, ground, *step)? {
+            return Ok(Some(place));
+        }
+    }
+    Ok(None)
+}
+
+/// The same for a ground under the default table that was given nothing.
+fn first_wrong_of_new(alloc: Global, steps: &[Step]) -> Result<Option<usize>, Fail> {
+    let mut ground = ground_under(alloc, LifeTable::default_table(alloc)?);
+    first_wrong(alloc, &mut ground, steps)
+}
+
+#[test]
+fn a_text_is_sent_in_the_next_frame(rt: HostRuntime) -> Result<(), Fail> {
+    // The payload's bytes 0 to 71 are the first block, of which each sixth byte of the frame is one.
+    let bytes = &[
+        (36, 1, 0xA0),
+        (48, 1, 0x06),
+        (54, 1, 0x80),
+        (60, 1, 0x06),
+        (66, 1, 0x74),
+    ];
+    let steps = [
+        Step::Give(NOW, MINUTE, "METAR KSEA", 0, Answer::Given),
+        Step::Fill(NOW + 1, 1, 15, bytes),
+    ];
+    assert_eq!(rt; first_wrong_of_new(rt.alloc(), &steps)?, None);
+    Ok(())
+}
+
+#[test]
+fn a_call_below_the_last_moment_is_told_by_the_clock(rt: HostRuntime) -> Result<(), Fail> {
+    let steps = [
+        Step::Give(NOW, MINUTE, "METAR KSEA", 0, Answer::Given),
+        Step::Give(NOW - 1, MINUTE, "METAR KBFI", 0, Answer::Clock(NOW)),
+        Step::FillEarly(NOW - 1, NOW),
+        Step::Fill(NOW, 1, 15, &[]),
+    ];
+    assert_eq!(rt; first_wrong_of_new(rt.alloc(), &steps)?, None);
+    Ok(())
+}
+
+#[test]
+fn three_texts_of_273_characters_take_turns(rt: HostRuntime) -> Result<(), Fail> {
+    // The byte that begins with the third letter of each place: 4 for an A, 8 for a B, 12 for a C.
+    let steps = [
+        Step::Give(NOW, MINUTE, "METAR KAAA ", 262, Answer::Given),
+        Step::Give(NOW, MINUTE, "METAR KBBB ", 262, Answer::Given),
+        Step::Give(NOW, MINUTE, "METAR KCCC ", 262, Answer::Given),
+        Step::Fill(NOW, 2, 424, &[(120, 1, 4), (99, 1, 8)]),
+        Step::Fill(NOW, 2, 424, &[(120, 1, 12), (99, 1, 4)]),
+        Step::Fill(NOW, 2, 424, &[(120, 1, 8), (99, 1, 12)]),
+    ];
+    assert_eq!(rt; first_wrong_of_new(rt.alloc(), &steps)?, None);
+    Ok(())
+}
+
+#[test]
+fn long_texts_of_one_version_are_numbered_from_0(rt: HostRuntime) -> Result<(), Fail> {
+    // Byte 84 begins with the file number, which is below 64, and byte 96 is the segment's number. The second segment has
+    // 36 of the 451 bytes. Each version numbers its own texts from 0.
+    let day_later = MINUTE + 86_400;
+    let steps = [
+        Step::Give(NOW, MINUTE, "METAR KAAA ", 589, Answer::Given),
+        Step::Give(NOW, MINUTE, "METAR KBBB ", 589, Answer::Given),
+        Step::Fill(NOW, 1, 424, &[(84, 4, 0), (96, 1, 1)]),
+        Step::Fill(NOW, 1, 45, &[(84, 4, 0), (96, 1, 2)]),
+        Step::Fill(NOW, 1, 424, &[(84, 4, 1), (96, 1, 1)]),
+        Step::Fill(NOW, 1, 45, &[(84, 4, 1), (96, 1, 2)]),
+        Step::Give(day_later, day_later, "METAR KCCC ", 589, Answer::Given),
+        Step::Fill(day_later, 1, 424, &[(84, 4, 0), (96, 1, 1)]),
+    ];
+    assert_eq!(rt; first_wrong_of_new(rt.alloc(), &steps)?, None);
+    Ok(())
+}
+
+/// How many of so many frames have one body that fills them.
+fn full_frames(ground: &mut Ground, frames: u32) -> Result<u32, Fail> {
+    let mut full = 0u32;
+    for _ in 0..frames {
+        let frame = next_frame(ground, NOW)?;
+        if frame.bodies == 1 && frame.used == 424 {
+            full = full.wrapping_add(1);
+        }
+    }
+    Ok(full)
+}
+
+#[test]
+fn the_longest_text_has_30_segments(rt: HostRuntime) -> Result<(), Fail> {
+    let alloc = rt.alloc();
+    let mut ground = ground_under(alloc, LifeTable::default_table(alloc)?);
+    let longest = [Step::Give(NOW, MINUTE, "METAR KSEA ", 16_373, Answer::Given)];
+    assert_eq!(rt; first_wrong(alloc, &mut ground, &longest)?, None);
+    assert_eq!(rt; full_frames(&mut ground, 29)?, 29);
+    let steps = [
+        Step::Fill(NOW, 1, 263, &[]),
+        Step::Give(NOW, MINUTE + 60, "METAR KSEA ", 16_374, Answer::TooLong),
+    ];
+    assert_eq!(rt; first_wrong(alloc, &mut ground, &steps)?, None);
+    Ok(())
+}
+
+#[test]
+fn a_newer_version_takes_the_place_of_the_older(rt: HostRuntime) -> Result<(), Fail> {
+    let steps = [
+        Step::Give(NOW, MINUTE, "METAR KSEA 1", 0, Answer::Given),
+        Step::Give(NOW, MINUTE, "SPECI KSEA 2", 0, Answer::NotNewer(MINUTE)),
+        Step::Give(NOW, MINUTE + 60, "METAR KSEA 3", 0, Answer::Given),
+        Step::Fill(NOW, 1, 16, &[]),
+    ];
+    assert_eq!(rt; first_wrong_of_new(rt.alloc(), &steps)?, None);
+    Ok(())
+}
+
+#[test]
+fn a_life_ends_at_its_second(rt: HostRuntime) -> Result<(), Fail> {
+    // The key is forgotten then, and an older version is refused because its life is over.
+    let end = MINUTE + 7_200;
+    let steps = [
+        Step::Give(NOW, MINUTE, "METAR KSEA", 0, Answer::Given),
+        Step::Fill(end - 1, 1, 15, &[]),
+        Step::Fill(end, 0, 0, &[]),
+        Step::Give(end, MINUTE, "METAR KSEA", 0, Answer::Expired),
+        Step::Give(end, MINUTE + 60, "METAR KSEA", 0, Answer::Given),
+        Step::Fill(end, 1, 15, &[]),
+    ];
+    assert_eq!(rt; first_wrong_of_new(rt.alloc(), &steps)?, None);
+    Ok(())
+}
+
+/// A table with a type of each form.
+const FOUR_FORMS: &str = "version = 1\nlate = 600\n\
+    [[text]]\ntype = \"METAR\"\nwords = 2\nlife = 7200\nform = 0\n\
+    [[text]]\ntype = \"TAF\"\nwords = 2\nlife = 28800\nform = 1\n\
+    [[text]]\ntype = \"PIREP\"\nwords = 3\nlife = 10800\nform = 2\n\
+    [[text]]\ntype = \"WINDS\"\nwords = 3\nlife = 86400\nform = 3\n";
+
+/// How many texts of a type are taken, of so many of different places with so many letters A.
+fn count_given(
+    alloc: Global,
+    ground: &mut Ground,
+    kind: &str,
+    places: u32,
+    letters: usize,
+) -> Result<u32, Fail> {
+    let mut count = 0u32;
+    for place in 0..places {
+        let front = format!(in alloc; "{kind} K{place:04} ")?;
+        let text = with_letters(alloc, front.as_str(), letters)?;
+        if fault_of_text(ground, NOW, MINUTE, text.as_str())?.is_none() {
+            count = count.wrapping_add(1);
+        }
+    }
+    Ok(count)
+}
+
+fn bodies_in(ground: &mut Ground, frames: u32) -> Result<u32, Fail> {
+    let mut bodies = 0u32;
+    for _ in 0..frames {
+        bodies = bodies.wrapping_add(u32::from(next_frame(ground, NOW)?.bodies));
+    }
+    Ok(bodies)
+}
+
+// The 75 texts of each type take 20, 19, 21 and 22 bytes each, so 31 frames have room for all twice, even if 21 bytes are
+// left at the end of each.
+#[test]
+fn texts_of_each_form_are_aired_twice(rt: HostRuntime) -> Result<(), Fail> {
+    let alloc = rt.alloc();
+    let table = LifeTable::read(alloc, FOUR_FORMS.as_bytes())
+        .ok()
+        .ok_or("a table")?;
+    let mut ground = ground_under(alloc, table);
+    for kind in ["METAR", "TAF", "PIREP", "WINDS"] {
+        assert_eq!(rt; count_given(alloc, &mut ground, kind, 75, 5)?, 75);
+    }
+    assert!(rt; bodies_in(&mut ground, 31)? >= 600);
+    Ok(())
+}
+
+#[test]
+fn long_texts_of_one_version_have_1024_file_numbers(rt: HostRuntime) -> Result<(), Fail> {
+    let alloc = rt.alloc();
+    let mut ground = ground_under(alloc, LifeTable::default_table(alloc)?);
+    assert_eq!(rt;
+        count_given(alloc, &mut ground, "METAR", 1_024, 600)?,
+        1_024
+    );
+    let steps = [
+        Step::Give(NOW, MINUTE, "METAR KSEA ", 600, Answer::NoFile),
+        Step::Give(NOW, MINUTE, "METAR KSEA", 0, Answer::Given),
+    ];
+    assert_eq!(rt; first_wrong(alloc, &mut ground, &steps)?, None);
+    Ok(())
+}
