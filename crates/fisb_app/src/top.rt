@@ -1,7 +1,7 @@
 //! The top call.
 ghost use Rattle.std.specs.Prelude.{◌≡◌, ◌≤◌, ◌↔◌, None, Some, map, string_bytes};
 ghost use Rattle.fisb_wire.specs.Faults.{Rose};
-ghost use Rattle.run_core.specs.Run.{HasRun, IsDecided, ends, task_of};
+ghost use Rattle.run_core.specs.Run.{HasRun, IsDecided, ends, sink_end, task_of};
 ghost use Rattle.fisb_app.specs.Command.{IsUnbuilt, command_named};
 ghost use Rattle.fisb_app.specs.declared.command.Command.{Command};
 ghost use Rattle.fisb_app.specs.Unbuilt.{HasRefused};
@@ -10,6 +10,7 @@ ghost use Rattle.fisb_app.specs.Work.{ground_work, link_work, promised_work};
 use crate::command::{Command, command_of};
 use crate::ear::Ear;
 use crate::ground_alone::GroundAlone;
+use crate::in_order::InOrder;
 use crate::laws::promises_are_kept;
 use crate::link::Link;
 use fisb_wire::{Sink, Source};
@@ -67,11 +68,20 @@ pub fn run<S: Source, K: Sink>(
     // nothing.
     ensures unbuilt { (command : Command)
         → command_named (map string_bytes words.now) ≡ Some command → IsUnbuilt command
-        → (source.new ≡ source.old) × HasRefused (K.written sink.old) (K.written sink.new)
-        (K.faults sink.old) (K.faults sink.new) result }
+        → (source.new ≡ source.old) × HasRefused
+        (sink_end (K.written sink.old) (K.faults sink.old))
+        (sink_end (K.written sink.new) (K.faults sink.new)) result }
     ensures gdl { command_named (map string_bytes words.now) ≡ Some Command.Gdl
         → (source.new ≡ source.old) × (sink.new ≡ sink.old)
         × (result ≡ Status.Refused 1 Reason.NotBuilt) }
+
+    // What the counts of faults of source and sink tell.
+    ensures read_fault { result ≡ Status.ReadFault
+        → Rose (S.faults source.old) (S.faults source.new) }
+    ensures write_fault { result ≡ Status.WriteFault
+        → Rose (K.faults sink.old) (K.faults sink.new) }
+    ensures source_faults { S.faults source.old ≤ S.faults source.new }
+    ensures sink_faults { K.faults sink.old ≤ K.faults sink.new }
     ensures spare { K.spare sink.new ≡ None }
     ensures reach { K.reach sink.new ≡ K.reach sink.old }
 {
@@ -101,6 +111,12 @@ pub fn run_link<S: Source, K: Sink>(alloc: Global, source: &mut S, sink: &mut K)
         (ends (S.left source.old) (S.faults source.old) (K.written sink.old) (K.faults sink.old))
         (ends (S.left source.new) (S.faults source.new) (K.written sink.new) (K.faults sink.new))
         result }
+    ensures read_fault { result ≡ Status.ReadFault
+        → Rose (S.faults source.old) (S.faults source.new) }
+    ensures write_fault { result ≡ Status.WriteFault
+        → Rose (K.faults sink.old) (K.faults sink.new) }
+    ensures source_faults { S.faults source.old ≤ S.faults source.new }
+    ensures sink_faults { K.faults sink.old ≤ K.faults sink.new }
     ensures spare { K.spare sink.new ≡ None }
     ensures reach { K.reach sink.new ≡ K.reach sink.old }
 {
@@ -127,12 +143,18 @@ pub fn run_link_over<S: Source, K: Sink, E: Ear>(
         (ends (S.left source.old) (S.faults source.old) (K.written sink.old) (K.faults sink.old))
         (ends (S.left source.new) (S.faults source.new) (K.written sink.new) (K.faults sink.new))
         result }
+    ensures read_fault { result ≡ Status.ReadFault
+        → Rose (S.faults source.old) (S.faults source.new) }
+    ensures write_fault { result ≡ Status.WriteFault
+        → Rose (K.faults sink.old) (K.faults sink.new) }
+    ensures source_faults { S.faults source.old ≤ S.faults source.new }
+    ensures sink_faults { K.faults sink.old ≤ K.faults sink.new }
     ensures spare { K.spare sink.new ≡ None }
     ensures reach { K.reach sink.new ≡ K.reach sink.old }
 {
     runs_agree();
     promises_are_kept();
-    run_core::run::<Link<Ground, E>, S, K>(alloc, source, sink)
+    run_core::run::<InOrder<Link<Ground, E>>, S, K>(alloc, source, sink)
 }
 
 /// Runs `ground`: acts on the lines of the script that the source gives, as a ground alone, and
@@ -147,18 +169,25 @@ pub fn run_ground<S: Source, K: Sink>(alloc: Global, source: &mut S, sink: &mut 
         (ends (S.left source.old) (S.faults source.old) (K.written sink.old) (K.faults sink.old))
         (ends (S.left source.new) (S.faults source.new) (K.written sink.new) (K.faults sink.new))
         result }
+    ensures read_fault { result ≡ Status.ReadFault
+        → Rose (S.faults source.old) (S.faults source.new) }
+    ensures write_fault { result ≡ Status.WriteFault
+        → Rose (K.faults sink.old) (K.faults sink.new) }
+    ensures source_faults { S.faults source.old ≤ S.faults source.new }
+    ensures sink_faults { K.faults sink.old ≤ K.faults sink.new }
     ensures spare { K.spare sink.new ≡ None }
     ensures reach { K.reach sink.new ≡ K.reach sink.old }
 {
-    run_core::run::<GroundAlone<Ground>, S, K>(alloc, source, sink)
+    run_core::run::<InOrder<GroundAlone<Ground>>, S, K>(alloc, source, sink)
 }
 
 /// Runs `receive`, which is not built yet: nothing is read, and line 1 is refused.
 pub fn run_receive<S: Source, K: Sink>(alloc: Global, source: &mut S, sink: &mut K) -> Status
     requires { K.spare sink.old ≡ None }
     ensures unread { source.new ≡ source.old }
-    ensures refused { HasRefused (K.written sink.old) (K.written sink.new)
-        (K.faults sink.old) (K.faults sink.new) result }
+    ensures refused { HasRefused (sink_end (K.written sink.old) (K.faults sink.old))
+        (sink_end (K.written sink.new) (K.faults sink.new)) result }
+    ensures sink_faults { K.faults sink.old ≤ K.faults sink.new }
     ensures spare { K.spare sink.new ≡ None }
     ensures reach { K.reach sink.new ≡ K.reach sink.old }
 {
@@ -183,8 +212,9 @@ pub fn run_gdl<S: Source, K: Sink>(alloc: Global, source: &mut S, sink: &mut K) 
 pub fn run_make<K: Sink>(alloc: Global, count: u32, seed: u64, sink: &mut K) -> Status
     requires spare { K.spare sink.old ≡ None }
     requires count { (1 ≤ count) × (count ≤ 1000) }
-    ensures refused { HasRefused (K.written sink.old) (K.written sink.new)
-        (K.faults sink.old) (K.faults sink.new) result }
+    ensures refused { HasRefused (sink_end (K.written sink.old) (K.faults sink.old))
+        (sink_end (K.written sink.new) (K.faults sink.new)) result }
+    ensures sink_faults { K.faults sink.old ≤ K.faults sink.new }
     ensures spare { K.spare sink.new ≡ None }
     ensures reach { K.reach sink.new ≡ K.reach sink.old }
 {
@@ -194,8 +224,9 @@ pub fn run_make<K: Sink>(alloc: Global, count: u32, seed: u64, sink: &mut K) -> 
 /// Refuses line 1 for a command that is not built yet.
 fn refuse<K: Sink>(alloc: Global, sink: &mut K) -> Status
     requires { K.spare sink.old ≡ None }
-    ensures refused { HasRefused (K.written sink.old) (K.written sink.new)
-        (K.faults sink.old) (K.faults sink.new) result }
+    ensures refused { HasRefused (sink_end (K.written sink.old) (K.faults sink.old))
+        (sink_end (K.written sink.new) (K.faults sink.new)) result }
+    ensures sink_faults { K.faults sink.old ≤ K.faults sink.new }
     ensures spare { K.spare sink.new ≡ None }
     ensures reach { K.reach sink.new ≡ K.reach sink.old }
 {

@@ -5,7 +5,7 @@ ghost use Rattle.std.specs.Vec.Iter.{into_iter_items};
 ghost use Rattle.fisb_app.specs.Command.{command_named, IsUnbuilt};
 ghost use Rattle.fisb_app.specs.Unbuilt.{HasRefused};
 ghost use Rattle.fisb_app.specs.Work.{ground_work, link_work, promised_work};
-ghost use Rattle.run_core.specs.Run.{HasRun, IsDecided, ends, task_of};
+ghost use Rattle.run_core.specs.Run.{HasRun, IsDecided, ends, sink_end, task_of};
 ghost use Rattle.fisb_cli.specs.Ending.{EndsAs, IsGdlAlone, IsGroundAlone, IsLinkAlone, number_without_words, words_of};
 
 use fisb_app::{Status, run};
@@ -36,8 +36,9 @@ pub fn run_args<S: Source, K: Sink>(
     ensures untouched { result ≡ 2 → (source.new ≡ source.old) × (sink.new ≡ sink.old) }
     ensures unbuilt { IfOk args (λ args. IsSomeAnd
         (command_named (map string_bytes (words_of (into_iter_items args)))) IsUnbuilt
-        → (source.new ≡ source.old) × EndsAs result (HasRefused (K.written sink.old)
-        (K.written sink.new) (K.faults sink.old) (K.faults sink.new))) }
+        → (source.new ≡ source.old) × EndsAs result (HasRefused
+        (sink_end (K.written sink.old) (K.faults sink.old))
+        (sink_end (K.written sink.new) (K.faults sink.new)))) }
     ensures gdl { IfOk args (λ args. IsGdlAlone (map string_bytes (words_of (into_iter_items args)))
         → (source.new ≡ source.old) × (sink.new ≡ sink.old) × ((result ≡ 3) ⊎ (result ≡ 7))) }
     ensures link { IfOk args (λ args. IsLinkAlone (map string_bytes (words_of (into_iter_items args)))

@@ -3,12 +3,12 @@ use Rattle.std.proofs.Common.{◌≡◌, ℕ, ◌-◌, ◌<◌, ◌≤◌, false
 use Rattle.std.specs.Io.KnownBytes.{Appends}
 use Rattle.fisb_wire.specs.Faults.{Rose}
 use Rattle.fisb_wire.specs.Ends.{IsReached}
-use Rattle.run_core.specs.declared.status.Status.TheVariants.{ReadFault, WriteFault}
+use Rattle.run_core.specs.declared.status.Status.TheVariants.{WriteFault}
 use Rattle.run_core.specs.Limits.{input_limit}
-use Rattle.run_core.specs.Work.{Fault}
-use Rattle.run_core.specs.Run.{Task, Ends, Ending, at_end, failed, full, stopped, HasRun, HasEnded, IsVerdict, acted_part, is_end, ending_of, taken_fault, taken_output}
+use Rattle.run_core.specs.Run.{Task, Ends, Ending, at_end, failed, full, stopped, HasRun, HasEnded, acted_part, is_end, ending_of, taken_output}
 use Rattle.run_core.specs.Laws.{Begins, IsStable, RunsComplete}
 use Rattle.run_core.proofs.Parts.{part-within, part-full, part-past}
+use Rattle.run_core.proofs.Faults.{read-fault-rose}
 use Rattle.run_core.proofs.Decided.{consumed-rest, ending-within, ending-over}
 
 -- the output of the bytes taken begins that of the whole input
@@ -50,19 +50,6 @@ front-size known (Some bytes) piece whole n begins within wrote room writes some
     let four = length-append known whole in
     omega (arith, full, one, two, three, four, within)
 
--- a read fault tells of a read that failed
-fault-ending : (ending : Ending) (old new : Ends) (size : ℕ) (fault : Option Fault) → HasEnded ending old new size
-    → IsVerdict ending fault ReadFault → (Rose old.reads new.reads → ⊥) → ⊥
-fault-ending ending old new size (Some found) ended v reads = absurd v
-fault-ending at_end old new size None ended v reads = cc
-fault-ending failed old new size None ended v reads = reads ended.0
-fault-ending full old new size None ended v reads = cc
-fault-ending stopped old new size None ended v reads = absurd v
-
-no-read-fault : (task : Task) (old new : Ends) → HasRun task old new ReadFault → (Rose old.reads new.reads → ⊥) → ⊥
-no-read-fault task old new h reads = fault-ending h.1 old new (length h.0)
-    (taken_fault task h.0 h.1) h.2.took.ended h.2.verdict reads
-
 no-write-fault : (task : Task) (old new : Ends) (input before : List ℕ) (room : ℕ) → IsStable task
     → HasRun task old new WriteFault → old.left ≡ Some input → old.written ≡ Some before
     → (Rose old.reads new.reads → ⊥) → IsReached (Some room) new.written new.writes
@@ -81,7 +68,7 @@ no-write-fault task old new input before room stable h left written reads reache
 
 pub runs-complete : RunsComplete
 runs-complete task old new status input before room stable h left written reads reached small = (
-  λ is. no-read-fault task old new (subst (HasRun task old new) is h) reads,
+  λ is. reads (read-fault-rose task old new status h is),
   λ is. no-write-fault task old new input before room stable
       (subst (HasRun task old new) is h) left written reads reached small,
 )

@@ -10,7 +10,7 @@ use Rattle.run_core.specs.declared.status.Status.TheVariants.{Done, Usage, Refus
 use Rattle.run_core.specs.Limits.{input_limit, ring_limit}
 use Rattle.run_core.specs.Work.{Work, Fault}
 use Rattle.run_core.specs.Acted.{first_fault, given, fault_with, given_with, refused_text, output_of}
-use Rattle.run_core.specs.Run.{Ends, ends, Ending, at_end, failed, full, stopped, task_of, HasRun, HasAnswered, HasWrittenFront, HasEnded, HasTaken, IsVerdict, IsNear, IsEnding, AppendsFront, acted_part, is_end, taken_fault, taken_output}
+use Rattle.run_core.specs.Run.{Ends, ends, sink_end, Ending, at_end, failed, full, stopped, task_of, HasRun, HasAnswered, HasWrittenFront, HasEnded, HasTaken, IsVerdict, IsNear, IsEnding, AppendsFront, acted_part, is_end, taken_fault, taken_output}
 use Rattle.run_core.specs.Acting.{HasStoppedOn, text_by}
 use Rattle.run_core.specs.Laws.{Begins}
 use Rattle.run_core.proofs.Parts.{part-within}
@@ -133,7 +133,7 @@ module _ (work : Work) (old now : Ends) (ending : Ending) (number : ℕ) where
 
   refused-run : (read : Result (List ℕ) Reason) (written : Option (List ℕ)) (writes line : ℕ) (why : Reason)
       → IsStop work old now ending number read
-      → HasStoppedOn work number read now.written written now.writes writes (Refused line why)
+      → HasStoppedOn work number read (sink_end now.written now.writes) (sink_end written writes) (Refused line why)
       → HasRun (task_of work) old (ends now.left now.reads written writes) (Refused line why)
   refused-run read written writes line why s h =
       let stop = subst (λ r. IsStop work old now ending number r) h.1 s in
@@ -143,7 +143,7 @@ module _ (work : Work) (old now : Ends) (ending : Ending) (number : ℕ) where
   -- so the run went
   pub stop-run : (read : Result (List ℕ) Reason) (written : Option (List ℕ)) (writes : ℕ) (status : Status)
       → IsStop work old now ending number read
-      → HasStoppedOn work number read now.written written now.writes writes status
+      → HasStoppedOn work number read (sink_end now.written now.writes) (sink_end written writes) status
       → HasRun (task_of work) old (ends now.left now.reads written writes) status
   stop-run read written writes Done s h = absurd h
   stop-run read written writes Usage s h = absurd h

@@ -8,6 +8,7 @@ pub mod Parts
 pub mod Decided
 pub mod Ends
 pub mod Steps
+pub mod Faults
 pub mod Complete
 pub mod Turns
 pub mod Starts

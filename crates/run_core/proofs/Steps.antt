@@ -13,7 +13,7 @@ use Rattle.run_core.specs.Lines.{lines_in, part_line}
 use Rattle.run_core.specs.Acted.{first_fault, given, reading, part_fault, fault_with, fault_of, given_with, given_of}
 use Rattle.run_core.specs.Reading.{HasGrown, newline_in}
 use Rattle.run_core.specs.Acting.{HasActedAs}
-use Rattle.run_core.specs.Run.{Ends, ends, at_end, failed, full, stopped, HasRun, task_of}
+use Rattle.run_core.specs.Run.{Ends, ends, sink_end, at_end, failed, full, stopped, HasRun, task_of}
 use Rattle.run_core.specs.Running.{IsAt}
 use Rattle.run_core.proofs.LineCuts.{lines-cut, part-cut, no-line, only-part, last-line, no-last}
 use Rattle.run_core.proofs.Newlines.{found-at}
@@ -66,7 +66,7 @@ module _ (work : Work) (table : List ℕ) (number : ℕ) (old : Ends) where
       (before written : Option (List ℕ)) (wb writes : ℕ) (input after : Input) (e : ℕ) (line text : List ℕ)
       (a : IsAt work table stands number old (ends left reads before wb) input) → newline_in input.ring.items ≡ Some e
       → line ≡ take e input.ring.items
-      → HasActedAs (reading (work.told table) a.past line) (stands' (line ∷ a.past)) before written wb writes text
+      → HasActedAs (reading (work.told table) a.past line) (stands' (line ∷ a.past)) (sink_end before wb) (sink_end written writes) text
       → after.ring.items ≡ drop (e + 1) input.ring.items → after.taken ≡ input.taken
       → IsAt work table stands' (number + 1) old (ends left reads written writes) after
   at-line stands stands' left reads before written wb writes input after e line text a found is acted items taken =
@@ -201,7 +201,7 @@ module _ (work : Work) (table : List ℕ) (number : ℕ) (old : Ends) where
         (written : Option (List ℕ)) (writes : ℕ) (text : List ℕ) → line ≡ input.ring.items
         → newline_in input.ring.items ≡ None
         → 0 < length input.ring.items → input.taken ≤ input_limit → IsAtEnd now.left
-        → HasActedAs (reading (work.told table) a.past line) stands' now.written written now.writes writes text
+        → HasActedAs (reading (work.told table) a.past line) stands' (sink_end now.written now.writes) (sink_end written writes) text
         → HasRun (task_of work) old (ends now.left now.reads written writes) Done
     last-done line a stands' written writes text is none some within end acted =
         let both = whole true a in

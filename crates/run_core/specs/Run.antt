@@ -28,6 +28,14 @@ abbrev pub ends : Option (List ℕ) → ℕ → Option (List ℕ) → ℕ → En
 ends left reads written writes =
     record { left = left; reads = reads; written = written; writes = writes }
 
+-- what a sink alone holds, where it tells it, and how many of its writes failed
+pub record SinkEnd : Type 0 where
+  pub written : Option (List ℕ)
+  pub writes : ℕ
+
+abbrev pub sink_end : Option (List ℕ) → ℕ → SinkEnd
+sink_end written writes = record { written = written; writes = writes }
+
 -- how the reading of an input ended: at its end, at a read that failed, at a byte past the limit, or
 -- before any of these, where no more had to be read
 pub data Ending : Type 0 where

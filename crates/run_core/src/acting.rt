@@ -3,6 +3,7 @@ ghost use Rattle.std.specs.Prelude.{◌≡◌, ℕ, ◌≤◌, List, ◌∷◌, 
 ghost use Rattle.script_core.specs.declared.reason.Reason.{Reason as AnyReason};
 ghost use Rattle.run_core.specs.Acted.{reading};
 ghost use Rattle.run_core.specs.Acting.{HasStoppedOn, HasActedOn};
+ghost use Rattle.run_core.specs.Run.{sink_end};
 
 use crate::actor::Actor;
 use crate::output::write_all;
@@ -27,7 +28,8 @@ pub(crate) fn act_on_line<A: Actor, K: Sink>(
     ensures acted { (table : List ℕ) (past : List (List ℕ)) → A.stands table past actor.old
         → HasActedOn A.work number (reading (A.work.told table) past line.now)
         (A.stands table (line.now ∷ past) actor.new)
-        (K.written sink.old) (K.written sink.new) (K.faults sink.old) (K.faults sink.new) result }
+        (sink_end (K.written sink.old) (K.faults sink.old))
+        (sink_end (K.written sink.new) (K.faults sink.new)) result }
     ensures spare { K.spare sink.new ≡ None }
     ensures reach { K.reach sink.new ≡ K.reach sink.old }
 {
@@ -61,7 +63,8 @@ pub(crate) fn act_on_front<A: Actor, K: Sink>(
     ensures acted { (table : List ℕ) (past : List (List ℕ)) → A.stands table past actor.old
         → HasActedOn A.work number (reading (A.work.told table) past (take end bytes.now))
         (A.stands table (take end bytes.now ∷ past) actor.new)
-        (K.written sink.old) (K.written sink.new) (K.faults sink.old) (K.faults sink.new) result }
+        (sink_end (K.written sink.old) (K.faults sink.old))
+        (sink_end (K.written sink.new) (K.faults sink.new)) result }
     ensures spare { K.spare sink.new ≡ None }
     ensures reach { K.reach sink.new ≡ K.reach sink.old }
 {
@@ -78,7 +81,8 @@ pub(crate) fn refuse<A: Actor, K: Sink>(
     requires { K.spare sink.old ≡ None }
     ensures refused { (read : Result (List ℕ) AnyReason) → read ≡ Err reason
         → HasStoppedOn A.work number read
-        (K.written sink.old) (K.written sink.new) (K.faults sink.old) (K.faults sink.new) result }
+        (sink_end (K.written sink.old) (K.faults sink.old))
+        (sink_end (K.written sink.new) (K.faults sink.new)) result }
     ensures spare { K.spare sink.new ≡ None }
     ensures reach { K.reach sink.new ≡ K.reach sink.old }
 {

@@ -1,6 +1,7 @@
 //! The run.
 ghost use Rattle.std.specs.Prelude.{◌≡◌, ℕ, ◌+◌, ◌≤◌, List, [], Option, None, length, take};
 ghost use Rattle.std.specs.Io.KnownBytes.{IsAtEnd};
+ghost use Rattle.fisb_wire.specs.Faults.{Rose};
 ghost use Rattle.run_core.specs.Actor.{HasOpened};
 ghost use Rattle.run_core.specs.Reading.{IsWithin};
 ghost use Rattle.run_core.specs.Run.{Ends, HasRun, IsDecided, ends, task_of};
@@ -30,6 +31,12 @@ pub fn run<A: Actor, S: Source, K: Sink>(alloc: Global, source: &mut S, sink: &m
         (ends (S.left source.old) (S.faults source.old) (K.written sink.old) (K.faults sink.old))
         (ends (S.left source.new) (S.faults source.new) (K.written sink.new) (K.faults sink.new))
         result }
+    ensures read_fault { result ≡ Status.ReadFault
+        → Rose (S.faults source.old) (S.faults source.new) }
+    ensures write_fault { result ≡ Status.WriteFault
+        → Rose (K.faults sink.old) (K.faults sink.new) }
+    ensures source_faults { S.faults source.old ≤ S.faults source.new }
+    ensures sink_faults { K.faults sink.old ≤ K.faults sink.new }
     ensures spare { K.spare sink.new ≡ None }
     ensures reach { K.reach sink.new ≡ K.reach sink.old }
 {

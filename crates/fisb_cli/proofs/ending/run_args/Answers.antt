@@ -16,7 +16,7 @@ returns-in-Ok-words-clause-unbuilt g c =
 
 pub returns-in-Err-words-clause-unbuilt : goal.returns-in-Err-words-clause-unbuilt
 returns-in-Err-words-clause-unbuilt g c =
-    rw c.in-Ok.is (λ is_unbuilt. (refl, (NoMemory, c.code-in-Err-words.ensures, refl)))
+    rw c.in-Ok.is (λ is_unbuilt. (refl, (NoMemory, c.code-in-Err-words.ensures, (refl, refl))))
 
 pub returns-in-Err-words-clause-link : goal.returns-in-Err-words-clause-link
 returns-in-Err-words-clause-link g c =

@@ -1,9 +1,9 @@
 //! Runs of a whole command over ends that fail or give few bytes, and each command's own call.
-//! Scripts over ends that do not fail are cases of `fisb_cases`.
+//! Scripts over ends that do not fail are cases of the file `stdin`.
 ghost use Rattle.std.specs.Prelude.{◌<◌};
 ghost use Rattle.receiver_core.specs.StandsFor.{StandsFor};
 
-use crate::{
+use fisb_app::{
     Ear, Reason, Status, run_gdl, run_ground, run_link, run_link_over, run_make, run_receive,
 };
 use fisb_time::Moment;
