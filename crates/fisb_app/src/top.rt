@@ -2,7 +2,7 @@
 ghost use Rattle.std.specs.Prelude.{◌≡◌, ◌≤◌, ◌↔◌, None, Some, map, string_bytes};
 ghost use Rattle.fisb_wire.specs.Faults.{Rose};
 ghost use Rattle.run_core.specs.Run.{HasRun, IsDecided, ends, sink_end, task_of};
-ghost use Rattle.fisb_app.specs.Command.{IsUnbuilt, command_named};
+ghost use Rattle.fisb_app.specs.Command.{RefusesInWriting, command_named};
 ghost use Rattle.fisb_app.specs.declared.command.Command.{Command};
 ghost use Rattle.fisb_app.specs.Unbuilt.{HasRefused};
 ghost use Rattle.fisb_app.specs.Work.{ground_work, link_work, promised_work};
@@ -67,7 +67,7 @@ pub fn run<S: Source, K: Sink>(
     // The commands that are not built yet: nothing is read, and line 1 is refused; `gdl` writes
     // nothing.
     ensures unbuilt { (command : Command)
-        → command_named (map string_bytes words.now) ≡ Some command → IsUnbuilt command
+        → command_named (map string_bytes words.now) ≡ Some command → RefusesInWriting command
         → (source.new ≡ source.old) × HasRefused
         (sink_end (K.written sink.old) (K.faults sink.old))
         (sink_end (K.written sink.new) (K.faults sink.new)) result }
