@@ -35,7 +35,8 @@ pub fn run<S: Source, K: Sink>(
     ensures untouched { result ≡ Status.Usage
         → (source.new ≡ source.old) × (sink.new ≡ sink.old) }
 
-    // `link`: what it took, wrote and answered.
+    // `link`: what it took, wrote and answered; and that each picture is the link picture while in
+    // no block of a frame heard before it more than ten bytes were wrong.
     ensures link { command_named (map string_bytes words.now) ≡ Some Command.Link
         → HasRun (task_of link_work)
         (ends (S.left source.old) (S.faults source.old) (K.written sink.old) (K.faults sink.old))
