@@ -9,6 +9,10 @@ use Rattle.apdu_core.specs.declared.unit.Seg.{Seg}
 use Rattle.apdu_core.specs.declared.fault.ApduFault.{ApduFault}
 use Rattle.apdu_core.specs.declared.fault.ApduFault.TheVariants.{Short, Flagged, BadSegment}
 
+-- how many file numbers there are
+abbrev pub file_numbers : ℕ
+file_numbers = 1024
+
 -- an APDU; its segment is numbered from 1 to the count of its file
 pub record Apdu : Type 0 where
   pub product : ℕ

@@ -6,7 +6,7 @@ use Rattle.fisb_time.specs.declared.form.TimeFields.{TimeFields}
 pub use Rattle.bit_fields.specs.Bits.{AreBytes}
 use Rattle.apdu_core.specs.declared.unit.Seg.{Seg}
 use Rattle.apdu_core.specs.declared.fault.ApduFault.{ApduFault}
-use Rattle.apdu_core.specs.Apdu.{Apdu, has_date, has_seconds, fill_width, header_with}
+use Rattle.apdu_core.specs.Apdu.{Apdu, file_numbers, has_date, has_seconds, fill_width, header_with}
 
 -- each field of the time is within its width, and those that the form lacks are 0
 pub record FitsTime (form : TimeForm) (time : TimeFields) : Type 0 where
@@ -21,7 +21,7 @@ pub record FitsTime (form : TimeForm) (time : TimeFields) : Type 0 where
 
 -- each field of a segment is within its width, there is a segment at least, and its number is from 1 to the count
 pub record FitsSegment (s : Seg) : Type 0 where
-  pub file : s.file < 1024
+  pub file : s.file < file_numbers
   pub count : s.count < 512
   pub first : 1 ≤ s.number
   pub last : s.number ≤ s.count

@@ -1,9 +1,14 @@
 -- Numbers of a given width side by side, the highest bit first, as the uplink formats lay them out.
-use Rattle.std.specs.Prelude.{ℕ, ◌+◌, ◌-◌, ◌*◌, ◌/◌, ◌%◌, ◌^◌, ◌<◌, List, [], ◌∷◌, fold, length, All}
+use Rattle.std.specs.Prelude.{ℕ, ◌+◌, ◌-◌, ◌*◌, ◌/◌, ◌%◌, ◌^◌, ◌<◌, Bool, if◌then◌else◌, List, []}
+use Rattle.std.specs.Prelude.{◌∷◌, fold, length, All}
 
 -- each number of the list is a byte
 abbrev pub AreBytes : List ℕ → Type 0
 AreBytes bytes = All (λ byte. byte < 256) bytes
+
+-- a flag as the number of one bit
+abbrev pub bit : Bool → ℕ
+bit b = if b then 1 else 0
 
 -- a field of so many bits, with its number
 pub record Field : Type 0 where

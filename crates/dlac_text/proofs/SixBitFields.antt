@@ -1,42 +1,19 @@
 -- The three-byte groups of the codes are the fields of six bits of the bytes.
-use Rattle.std.proofs.Common.{◌≡◌, ◌⊎◌, ℕ, zero, suc, ◌+◌, ◌-◌, ◌*◌, ◌/◌, ◌%◌, ◌^◌, ◌<◌, ◌≤◌, inl, inr, List, [], ◌∷◌, ◌++◌, length, get_or, fold, refl, sym, ap, ◌∙◌, length-append, All, arith}
-use Rattle.std.proofs.Math.Nat.{div-div-eq-div-mul, mul-add-div_right, mul-add-mod_self_right, mul_comm, mul_assoc, add-mul}
-use Rattle.std.proofs.lemmas.Nat.{pow-add, pow_pos, div-mul-add, mul-add-lt}
+use Rattle.std.proofs.Common.{◌≡◌, ◌⊎◌, ℕ, zero, suc, ◌+◌, ◌-◌, ◌*◌, ◌/◌, ◌%◌, ◌^◌, ◌<◌, ◌≤◌, inl, inr, List, [], ◌∷◌, ◌++◌, length, get_or, refl, sym, ap, ◌∙◌, length-append, All, arith}
+use Rattle.std.proofs.Math.Nat.{div-div-eq-div-mul, mul-add-div_right, mul-add-mod_self_right, mul_assoc}
+use Rattle.std.proofs.lemmas.Nat.{pow-add, pow_pos, div-mul-add}
 use Rattle.std.proofs.lemmas.List.{get_or_append_left}
 use Rattle.std.proofs.lemmas.List.Elements.{recursion_from_All, All-from_recursion}
 use Rattle.std.specs.List.{AllByRecursion}
 use Rattle.bit_fields.specs.Bits.{number_of, field_at}
+use Rattle.bit_fields.proofs.BytesAsNumbers.{behind, behind_is, number_of-fits}
 use Rattle.dlac_text.specs.SixBits.{packed, six_bit_groups}
 use Rattle.dlac_text.specs.SixBitFields.{AreFields, AreRead, AreWritten}
 use Rattle.dlac_text.proofs.RoundTrip.{IsByte, groups_of_packed, length-packed, packed_fits}
 use Rattle.dlac_text.proofs.SixBitsLemmas.{IsSixBits}
 
--- the number of some bytes behind a number
-abbrev behind : ℕ → List ℕ → ℕ
-behind start bytes = fold (λ number byte. 256 * number + byte) start bytes
-
-eight_more : (n : ℕ) → 2 ^ (8 * suc n) ≡ 256 * 2 ^ (8 * n)
-eight_more n = let e : 8 * suc n ≡ 8 + 8 * n = omega arith in ap (λ (k : ℕ). 2 ^ k) e ∙ pow-add 2 8 (8 * n)
-
-behind_step : (start x p n b c : ℕ) → b ≡ (256 * start + x) * p + n → c ≡ (256 * 0 + x) * p + n → b ≡ start * (256 * p) + c
-behind_step start x p n b c first second =
-    let split = add-mul (256 * start) x p in
-    let front : 256 * start * p ≡ start * (256 * p) = grind arith in
-    omega arith
-
-behind_is : (bytes : List ℕ) (start : ℕ) → behind start bytes ≡ start * 2 ^ (8 * length bytes) + number_of bytes
-behind_is [] start = omega arith
-behind_is (x ∷ xs) start =
-    behind_step start x (2 ^ (8 * length xs)) (number_of xs) (behind (256 * start + x) xs) (behind (256 * 0 + x) xs) (behind_is xs (256 * start + x)) (behind_is xs (256 * 0 + x))
-    ∙ ap (λ (p : ℕ). start * p + behind (256 * 0 + x) xs) (sym (eight_more (length xs)))
-
 fits : (xs : List ℕ) → AllByRecursion IsByte xs → number_of xs < 2 ^ (8 * length xs)
-fits [] h = omega arith
-fits (x ∷ xs) h =
-    let e : 256 * 0 + x ≡ x = omega arith in
-    let number : number_of (x ∷ xs) ≡ x * 2 ^ (8 * length xs) + number_of xs = ap (λ (n : ℕ). behind n xs) e ∙ behind_is xs x in
-    rw (number, eight_more (length xs), mul_comm 256 (2 ^ (8 * length xs)))
-    (mul-add-lt x (2 ^ (8 * length xs)) (number_of xs) 256 h.0 (fits xs h.1))
+fits xs h = number_of-fits xs (All-from_recursion IsByte xs h)
 
 -- three bytes as one number, before others
 abbrev three : ℕ → ℕ → ℕ → ℕ

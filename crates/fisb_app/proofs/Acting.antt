@@ -14,7 +14,7 @@ use Rattle.run_core.specs.declared.stop.Stop.{Stop}
 use Rattle.run_core.specs.declared.stop.Stop.TheVariants.{Refused, NoMemory}
 use Rattle.fisb_app.specs.declared.link.Link.{Link}
 use Rattle.fisb_app.specs.declared.party.Party.TheVariants.{Link as LinkParty}
-use Rattle.fisb_app.specs.Past.{sent_frames, reception_from, received_frame, receptions}
+use Rattle.fisb_app.specs.Past.{sent_frames, air_heard, reception_from, received_frame, receptions}
 use Rattle.fisb_app.specs.Reading.{frame_refusal, receiver_refusal, own_refusal}
 use Rattle.fisb_app.specs.Output.{heard_text, heard_frame, heard_picture, picture_text, given_text}
 use Rattle.fisb_app.specs.Stands.{Sends, Hears, Holds, LinkHolds, HasTried, IsFound, sent_view, aired_view}
@@ -26,41 +26,42 @@ HasLinked sends hears bytes acted line old new given =
     (given ≡ given_text LinkParty heard_picture old.sending.table acted line) × LinkHolds sends hears bytes (line ∷ acted) new
 
 -- one frame more is heard
-heard-holds : {G E : Type 0} (sends : Sends G) (hears : Hears E) (bytes : List ℕ) (acted : List Line) (moment number : ℕ) (old new : Link G E)
+heard-holds : {G E : Type 0} (sends : Sends G) (hears : Hears E) (bytes : List ℕ) (acted : List Line) (moment number : ℕ) (wrong : List (ℕ × ℕ)) (old new : Link G E)
     → LinkHolds sends hears bytes acted old → new.sending ≡ old.sending → new.sent ≡ old.sent
-    → hears old.sending.table (receptions old.sending.table (hear moment number ∷ acted)) new.ear
-    → LinkHolds sends hears bytes (hear moment number ∷ acted) new
-heard-holds sends hears bytes acted moment number old new h sending sent ear =
-    let line = hear moment number in record {
+    → hears old.sending.table (receptions old.sending.table (hear moment number wrong ∷ acted)) new.ear
+    → LinkHolds sends hears bytes (hear moment number wrong ∷ acted) new
+heard-holds sends hears bytes acted moment number wrong old new h sending sent ear =
+    let line = hear moment number wrong in record {
       holds = subst (λ s. Holds sends bytes (line ∷ acted) s) (sym sending) (record { opened = h.holds.opened; ground = h.holds.ground });
       sent = ap (λ s. map sent_view s.items) sent ∙ h.sent ∙ ap (λ s. map aired_view (sent_frames s.table acted)) (sym sending);
       ear = subst (λ s. hears s.table (receptions s.table (line ∷ acted)) new.ear) (sym sending) ear;
     }
 
-pub heard-line : {G E : Type 0} (sends : Sends G) (hears : Hears E) (bytes : List ℕ) (acted : List Line) (moment number : ℕ) (old new : Link G E) (air : List ℕ)
-    (result : Result (List ℕ) Stop) → LinkHolds sends hears bytes acted old → new.sending ≡ old.sending → new.sent ≡ old.sent
-    → IsFound old.sending.table.late moment (slice_get (sent_frames old.sending.table acted) number) (Ok air)
+pub heard-line : {G E : Type 0} (sends : Sends G) (hears : Hears E) (bytes : List ℕ) (acted : List Line) (moment number : ℕ) (wrong : List (ℕ × ℕ)) (old new : Link G E)
+    (air heard : List ℕ) (result : Result (List ℕ) Stop) → LinkHolds sends hears bytes acted old → new.sending ≡ old.sending → new.sent ≡ old.sent
+    → IsFound old.sending.table.late moment (slice_get (sent_frames old.sending.table acted) number) (Ok air) → heard ≡ air_heard wrong air
     → HasTried (receiver_refusal (receptions old.sending.table acted) moment)
-    (HasReceived (λ past. hears old.sending.table past new.ear) old.sending.table (receptions old.sending.table acted) moment air) result
-    → HasTried (own_refusal old.sending.table acted (hear moment number)) (HasLinked sends hears bytes acted (hear moment number) old new) result
-heard-line sends hears bytes acted moment number old new air (Ok text) h sending sent (frame, found, time, is) t =
+    (HasReceived (λ past. hears old.sending.table past new.ear) old.sending.table (receptions old.sending.table acted) moment heard) result
+    → HasTried (own_refusal old.sending.table acted (hear moment number wrong)) (HasLinked sends hears bytes acted (hear moment number wrong) old new) result
+heard-line sends hears bytes acted moment number wrong old new air heard (Ok text) h sending sent (frame, found, time, is) put t =
     let table = old.sending.table in
-    let past = receptions table acted in (
+    let past = receptions table acted in
+    let same = put ∙ ap (air_heard wrong) is in (
       ap (λ r. option_or r (receiver_refusal past moment)) time ∙ t.0,
       (
-        t.1.0 ∙ ap (heard_text table past moment) is ∙ sym (ap (heard_frame table past moment) found),
-        heard-holds sends hears bytes acted moment number old new h sending sent
-            (subst (λ r. hears table (cons_option r past) new.ear) (ap (reception_from past moment) is ∙ sym (ap (received_frame past moment) found)) t.1.1),
+        t.1.0 ∙ ap (heard_text table past moment) same ∙ sym (ap (heard_frame table past moment wrong) found),
+        heard-holds sends hears bytes acted moment number wrong old new h sending sent
+            (subst (λ r. hears table (cons_option r past) new.ear) (ap (reception_from past moment) same ∙ sym (ap (received_frame past moment wrong) found)) t.1.1),
       ),
     )
-heard-line sends hears bytes acted moment number old new air (Err (Refused why)) h sending sent (frame, found, time, is) t =
+heard-line sends hears bytes acted moment number wrong old new air heard (Err (Refused why)) h sending sent (frame, found, time, is) put t =
     ap (λ r. option_or r (receiver_refusal (receptions old.sending.table acted) moment)) time ∙ t
-heard-line sends hears bytes acted moment number old new air (Err NoMemory) h sending sent f t = tt
+heard-line sends hears bytes acted moment number wrong old new air heard (Err NoMemory) h sending sent f put t = tt
 
 -- no frame is heard
-pub unfound-line : (table : LifeTable) (acted : List Line) (moment number : ℕ) (why : Reason)
-    → frame_refusal table.late moment (slice_get (sent_frames table acted) number) ≡ Some why → own_refusal table acted (hear moment number) ≡ Some why
-unfound-line table acted moment number why e = ap (λ r. option_or r (receiver_refusal (receptions table acted) moment)) e
+pub unfound-line : (table : LifeTable) (acted : List Line) (moment number : ℕ) (wrong : List (ℕ × ℕ)) (why : Reason)
+    → frame_refusal table.late moment (slice_get (sent_frames table acted) number) ≡ Some why → own_refusal table acted (hear moment number wrong) ≡ Some why
+unfound-line table acted moment number wrong why e = ap (λ r. option_or r (receiver_refusal (receptions table acted) moment)) e
 
 -- a picture is shown
 pub shown-text : (table : LifeTable) (past : List Reception) (moment : ℕ) (entries : List ShownEntry) (text : List ℕ)

@@ -6,11 +6,10 @@ use Rattle.life_table.specs.LifeTable.{LifeTable}
 use Rattle.script_core.specs.Script.{Line}
 use Rattle.script_core.specs.Fields.{line_of}
 use Rattle.script_core.specs.declared.reason.Reason.{Reason}
-use Rattle.script_core.specs.declared.reason.Reason.TheVariants.{Station, NotBuilt, NotHere}
+use Rattle.script_core.specs.declared.reason.Reason.TheVariants.{Station, NotBuilt}
 use Rattle.fisb_app.specs.declared.party.Party.{Party}
-use Rattle.fisb_app.specs.declared.party.Party.TheVariants.{Ground}
 use Rattle.fisb_app.specs.Past.{lines_of, moment_of, latest, has_begun}
-use Rattle.fisb_app.specs.Reading.{CanCome, front_refusal, built_refusal, party_refusal, station_refusal, clock_refusal, own_refusal, is_unbuilt, is_station, is_heard_or_shown}
+use Rattle.fisb_app.specs.Reading.{CanCome, front_refusal, built_refusal, party_refusal, station_refusal, clock_refusal, own_refusal, is_unbuilt, is_station}
 use Rattle.fisb_app.specs.Output.{Shows, given_text}
 use Rattle.fisb_app.specs.Work.{answer, answer_under, formed_answer, line_answer, text_unless, opening_table}
 
@@ -73,6 +72,3 @@ clear party acted line e =
       here = two.0;
       clock = three.1;
     }
-
-pub not-heard : (line : Line) → party_refusal Ground line ≡ None → is_heard_or_shown line ≡ false
-not-heard line e = none-else (is_heard_or_shown line) NotHere e

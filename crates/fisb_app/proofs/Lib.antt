@@ -4,6 +4,7 @@ pub mod Found
 pub mod Steps
 pub mod PrintLines
 pub mod PrintLists
+pub mod Damaged
 pub mod Sound
 pub mod Promised
 pub mod Receiving

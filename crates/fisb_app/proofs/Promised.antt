@@ -20,19 +20,25 @@ use Rattle.run_core.specs.Run.{task_of}
 use Rattle.fisb_app.specs.declared.party.Party.TheVariants.{Link}
 use Rattle.fisb_app.specs.Past.{lines_of}
 use Rattle.fisb_app.specs.Reading.{refusal_of}
-use Rattle.fisb_app.specs.Output.{heard_picture, promised_picture, are_undamaged, given_text, picture_text}
+use Rattle.fisb_app.specs.Output.{heard_picture, promised_picture, given_text, picture_text}
+use Rattle.fisb_app.specs.Damage.{all_near}
 use Rattle.fisb_app.specs.Work.{answer, formed_answer, text_unless, opening_table, opened_with, link_work, promised_work}
 use Rattle.fisb_app.proofs.Judging.{answer-formed, lines-more}
 use Rattle.fisb_app.proofs.Sound.{Laws, IsSound, sound-start, sound-line, pictures-same}
 
+where-claimed : {A : Type 0} (claim : Bool) (promised heard : A) → (claim ≡ true → heard ≡ promised) → heard ≡ (if claim then promised else heard)
+where-claimed true promised heard same = same refl
+where-claimed false promised heard same = refl
+
 given-same : Laws → (table : LifeTable) (acted : List Line) (line : Line) → IsTable table → IsSound table acted → refusal_of Link table acted line ≡ None
-    → given_text Link heard_picture table acted line ≡ given_text Link (promised_picture are_undamaged) table acted line
+    → given_text Link heard_picture table acted line ≡ given_text Link (promised_picture all_near) table acted line
 given-same laws table acted empty rules s e = refl
 given-same laws table acted (station latitude longitude site) rules s e = refl
 given-same laws table acted (text moment version chars) rules s e = refl
 given-same laws table acted (turn moment slot) rules s e = refl
-given-same laws table acted (hear moment number) rules s e = refl
-given-same laws table acted (show moment) rules s e = ap (λ entries. picture_text moment (map shown_value entries)) (pictures-same laws table acted moment rules e s)
+given-same laws table acted (hear moment number wrong) rules s e = refl
+given-same laws table acted (show moment) rules s e =
+    ap (λ entries. picture_text moment (map shown_value entries)) (where-claimed (all_near table acted) _ _ (pictures-same laws table acted moment rules e s))
 given-same laws table acted unbuilt rules s e = refl
 
 judged-same : (one other : List ℕ) (refusal : Option Reason) → (refusal ≡ None → one ≡ other) → text_unless one refusal ≡ text_unless other refusal
@@ -40,7 +46,7 @@ judged-same one other None same = ap Ok (same refl)
 judged-same one other (Some why) same = refl
 
 formed-same : Laws → (table : LifeTable) (acted : List Line) (form : Option Line) → IsTable table → IsSound table acted
-    → formed_answer Link heard_picture table acted form ≡ formed_answer Link (promised_picture are_undamaged) table acted form
+    → formed_answer Link heard_picture table acted form ≡ formed_answer Link (promised_picture all_near) table acted form
 formed-same laws table acted None rules s = refl
 formed-same laws table acted (Some line) rules s = judged-same _ _ (refusal_of Link table acted line) (given-same laws table acted line rules s)
 
@@ -52,14 +58,14 @@ pub record IsUnder (bytes : List ℕ) (table : LifeTable) : Type 0 where
   pub rules : IsTable table
 
 told-same : (bytes : List ℕ) (table : LifeTable) → IsUnder bytes table → (past : List (List ℕ)) (raw : List ℕ) → IsSound table (lines_of past)
-    → answer Link heard_picture bytes past raw ≡ answer Link (promised_picture are_undamaged) bytes past raw
+    → answer Link heard_picture bytes past raw ≡ answer Link (promised_picture all_near) bytes past raw
 told-same bytes table u past raw s =
     answer-formed Link heard_picture bytes past raw table (line_of raw) u.opened refl
     ∙ formed-same u.laws table (lines_of past) (line_of raw) u.rules s
-    ∙ sym (answer-formed Link (promised_picture are_undamaged) bytes past raw table (line_of raw) u.opened refl)
+    ∙ sym (answer-formed Link (promised_picture all_near) bytes past raw table (line_of raw) u.opened refl)
 
 read-same : (bytes : List ℕ) (table : LifeTable) → IsUnder bytes table → (past : List (List ℕ)) (raw : List ℕ) → IsSound table (lines_of past)
-    → reading (answer Link heard_picture bytes) past raw ≡ reading (answer Link (promised_picture are_undamaged) bytes) past raw
+    → reading (answer Link heard_picture bytes) past raw ≡ reading (answer Link (promised_picture all_near) bytes) past raw
 read-same bytes table u past raw s =
     ap (λ told. if nat_lt line_limit (length raw) then Err LineLong else told) (told-same bytes table u past raw s)
 
@@ -95,20 +101,20 @@ given-with-same (Ok said) one other same = ap (λ later. said ++ later) (same sa
 given-with-same (Err why) one other same = refl
 
 faults-same : (bytes : List ℕ) (table : LifeTable) → IsUnder bytes table → (past : List (List ℕ)) (number start : ℕ) (lines : List (List ℕ)) (part : List ℕ) → IsSound table (lines_of past)
-    → fault_of (answer Link heard_picture bytes) past number start lines part ≡ fault_of (answer Link (promised_picture are_undamaged) bytes) past number start lines part
+    → fault_of (answer Link heard_picture bytes) past number start lines part ≡ fault_of (answer Link (promised_picture all_near) bytes) past number start lines part
 faults-same bytes table u past number start [] part s = refl
 faults-same bytes table u past number start (raw ∷ later) part s =
     fault-with-same number start (reading (answer Link heard_picture bytes) past raw) _ _
     (λ said e. faults-same bytes table u (raw ∷ past) (number + 1) (start + (length raw + 1)) later part (sound-read bytes table u past raw said s e))
-    ∙ ap (λ read. fault_with number start read (fault_of (answer Link (promised_picture are_undamaged) bytes) (raw ∷ past) (number + 1) (start + (length raw + 1)) later part)) (read-same bytes table u past raw s)
+    ∙ ap (λ read. fault_with number start read (fault_of (answer Link (promised_picture all_near) bytes) (raw ∷ past) (number + 1) (start + (length raw + 1)) later part)) (read-same bytes table u past raw s)
 
 gives-same : (bytes : List ℕ) (table : LifeTable) → IsUnder bytes table → (past lines : List (List ℕ)) → IsSound table (lines_of past)
-    → given_of (answer Link heard_picture bytes) past lines ≡ given_of (answer Link (promised_picture are_undamaged) bytes) past lines
+    → given_of (answer Link heard_picture bytes) past lines ≡ given_of (answer Link (promised_picture all_near) bytes) past lines
 gives-same bytes table u past [] s = refl
 gives-same bytes table u past (raw ∷ later) s =
     given-with-same (reading (answer Link heard_picture bytes) past raw) _ _
     (λ said e. gives-same bytes table u (raw ∷ past) later (sound-read bytes table u past raw said s e))
-    ∙ ap (λ read. given_with read (given_of (answer Link (promised_picture are_undamaged) bytes) (raw ∷ past) later)) (read-same bytes table u past raw s)
+    ∙ ap (λ read. given_with read (given_of (answer Link (promised_picture all_near) bytes) (raw ∷ past) later)) (read-same bytes table u past raw s)
 
 -- every table that opens a run keeps the rules
 pub record TablesKeepRules : Type 0 where
@@ -124,12 +130,12 @@ under laws ranges keeps bytes table is = record { laws = laws; ranges = ranges; 
 
 table-faults : Laws → LinesHaveRanges → TablesKeepRules → (bytes : List ℕ) (number size : ℕ) (lines : List (List ℕ)) (part : List ℕ) (read : Result LifeTable TableFault) → opening_table bytes ≡ read
     → table_fault number (opened_with read) (fault_of (answer Link heard_picture bytes) [] (number + 1) (size + 4) lines part)
-    ≡ table_fault number (opened_with read) (fault_of (answer Link (promised_picture are_undamaged) bytes) [] (number + 1) (size + 4) lines part)
+    ≡ table_fault number (opened_with read) (fault_of (answer Link (promised_picture all_near) bytes) [] (number + 1) (size + 4) lines part)
 table-faults laws ranges keeps bytes number size lines part (Ok table) is = faults-same bytes table (under laws ranges keeps bytes table is) [] (number + 1) (size + 4) lines part (sound-start table)
 table-faults laws ranges keeps bytes number size lines part (Err fault) is = refl
 
 table-gives : Laws → LinesHaveRanges → TablesKeepRules → (bytes : List ℕ) (lines : List (List ℕ)) (read : Result LifeTable TableFault) → opening_table bytes ≡ read
-    → table_given (opened_with read) (given_of (answer Link heard_picture bytes) [] lines) ≡ table_given (opened_with read) (given_of (answer Link (promised_picture are_undamaged) bytes) [] lines)
+    → table_given (opened_with read) (given_of (answer Link heard_picture bytes) [] lines) ≡ table_given (opened_with read) (given_of (answer Link (promised_picture all_near) bytes) [] lines)
 table-gives laws ranges keeps bytes lines (Ok table) is = gives-same bytes table (under laws ranges keeps bytes table is) [] lines (sound-start table)
 table-gives laws ranges keeps bytes lines (Err fault) is = refl
 

@@ -7,7 +7,7 @@ use Rattle.std.proofs.lemmas.Bool.Decides.{nat_tests}
 use Rattle.std.proofs.lemmas.List.{get_or_past}
 use Rattle.list_members.specs.Membership.{IsIn}
 use Rattle.uplink_frame.specs.Station.{FitsStation}
-use Rattle.uplink_weave.specs.Laws.{FrameGivesPayload}
+use Rattle.uplink_weave.specs.Laws.{NearFrameGivesPayload}
 use Rattle.uplink_weave.specs.Functions.{payload_in, lost_block_in}
 use Rattle.life_table.specs.LifeTable.{LifeTable}
 use Rattle.life_table.specs.Rules.{IsTable}
@@ -26,15 +26,17 @@ use Rattle.script_core.specs.Script.{Line, empty, station, text, turn, hear, sho
 use Rattle.script_core.specs.LineView.{HasRanges}
 use Rattle.script_core.specs.declared.reason.Reason.TheVariants.{Clock, Late}
 use Rattle.fisb_app.specs.declared.party.Party.TheVariants.{Link}
-use Rattle.fisb_app.specs.Past.{events, broadcast, hearings, station_of, sent_frames, air_of, reception_from, received_frame, reception_by, receptions, latest}
+use Rattle.fisb_app.specs.Past.{events, broadcast, hearings, station_of, sent_frames, air_of, air_heard, reception_from, received_frame, reception_by, receptions, latest}
 use Rattle.fisb_app.specs.Reading.{refusal_of, own_refusal, text_refusal, frame_refusal, receiver_refusal, earlier_than, reason_of_update}
+use Rattle.fisb_app.specs.Damage.{all_near, is_near_frame}
 use Rattle.fisb_app.proofs.Judging.{or-none, IsClear, clear}
+use Rattle.fisb_app.proofs.Damaged.{near-blocks, both-true}
 use Rattle.fisb_app.proofs.Turning.{Told, history-back, unbegun-events, unbegun-frames}
 
 -- what lower crates promise
 pub record Laws : Type 0 where
   pub told : Told
-  pub woven : FrameGivesPayload
+  pub near : NearFrameGivesPayload
   pub frames_back : FramesReadBack
   pub stay : HearingsStay
   pub agree : PicturesAgree
@@ -47,7 +49,7 @@ pub record IsSound (table : LifeTable) (acted : List Line) : Type 0 where
   pub station : FitsStation (station_of acted)
   pub is_broadcast : IsBroadcast table (broadcast acted)
   pub heard : AreHeard table.late (sent_frames table acted) (hearings acted)
-  pub received_is : receptions table acted ≡ receptions_of (sent_frames table acted) (hearings acted)
+  pub received_is : all_near table acted ≡ true → receptions table acted ≡ receptions_of (sent_frames table acted) (hearings acted)
   pub events_before : (moment : ℕ) → IsNotBehind moment (latest acted) → IsNotBefore moment (events acted)
   pub heard_before : (moment : ℕ) → IsNotBehind moment (latest acted) → IsAfterHearings moment (hearings acted)
   pub sent_before : (moment place : ℕ) (frame : Frame) → IsNotBehind moment (latest acted)
@@ -58,7 +60,7 @@ sound-start table = record {
   station = record { lat = omega arith; lon = omega arith; site = omega arith };
   is_broadcast = tt;
   heard = tt;
-  received_is = refl;
+  received_is = λ near. refl;
   events_before = λ moment is. tt;
   heard_before = λ moment is. tt;
   sent_before = λ moment place frame is found. cc;
@@ -101,15 +103,15 @@ byte-at bytes all i = elim (cases_Bool (nat_lt i (length bytes))) [
   | inr past ↦ (let is : slice_index bytes i ≡ 0 = get_or_past bytes i 0 (grind (arith, nat_tests)) in omega (arith, is))
 ]
 
--- a frame that was sent is received as it was sent
-received-sent : Laws → (table : LifeTable) (acted : List Line) (past : List Reception) (moment place : ℕ) (frame : Frame) → IsTable table → IsBroadcast table (broadcast acted)
-    → receiver_refusal past moment ≡ None → slice_get (sent_frames table acted) place ≡ Some frame
-    → reception_from past moment (air_of frame) ≡ Some (record { moment = moment; payload = frame_payload frame })
-received-sent laws table acted past moment place frame rules sound none found =
+-- a frame that was sent is received as it was sent, where each of its blocks is near
+received-sent : Laws → (table : LifeTable) (acted : List Line) (past : List Reception) (moment place : ℕ) (wrong : List (ℕ × ℕ)) (frame : Frame) → IsTable table
+    → IsBroadcast table (broadcast acted) → receiver_refusal past moment ≡ None → slice_get (sent_frames table acted) place ≡ Some frame → is_near_frame wrong (Some frame) ≡ true
+    → reception_from past moment (air_heard wrong (air_of frame)) ≡ Some (record { moment = moment; payload = frame_payload frame })
+received-sent laws table acted past moment place wrong frame rules sound none found near =
     let is = laws.frames_back table (broadcast acted) frame rules sound (found-in (sent_frames table acted) place frame found) in
-    let woven = laws.woven (frame_payload frame) is.size (byte-at _ is.bytes) in
+    let air = air_heard wrong (air_of frame) in
+    let woven = laws.near (frame_payload frame) air is.size (byte-at _ is.bytes) (near-blocks air (air_of frame) near) in
     let valid : is_valid (frame_payload frame) ≡ true = ap (λ h. h.app_valid) is.header_back in
-    let air = air_of frame in
     let timely = map-none Clock (last_above (clock_of past) moment) none in
     let first : refusal_of_air past moment air ≡ option_or (option_map lost (lost_block_in air)) (option_and_then payload_refusal (payload_in air)) =
     ap (λ c. option_or (option_map clock c) (option_or (option_map lost (lost_block_in air)) (option_and_then payload_refusal (payload_in air)))) timely in
@@ -127,11 +129,12 @@ in-time allowed moment None e before = cc
 in-time allowed moment (Some frame) e before = (before frame refl, time-test allowed moment frame.moment e)
 
 -- the reception of a line that is heard
-reception-heard : Laws → (table : LifeTable) (acted : List Line) (past : List Reception) (moment place : ℕ) (found : Option Frame) → IsTable table → IsBroadcast table (broadcast acted)
-    → receiver_refusal past moment ≡ None → slice_get (sent_frames table acted) place ≡ found → IsInTime table.late found moment
-    → received_frame past moment found ≡ Some (record { moment = moment; payload = payload_sent found })
-reception-heard laws table acted past moment place None rules sound none is in_time = absurd in_time
-reception-heard laws table acted past moment place (Some frame) rules sound none is in_time = received-sent laws table acted past moment place frame rules sound none is
+reception-heard : Laws → (table : LifeTable) (acted : List Line) (past : List Reception) (moment place : ℕ) (wrong : List (ℕ × ℕ)) (found : Option Frame) → IsTable table
+    → IsBroadcast table (broadcast acted) → receiver_refusal past moment ≡ None → slice_get (sent_frames table acted) place ≡ found → IsInTime table.late found moment
+    → is_near_frame wrong found ≡ true → received_frame past moment wrong found ≡ Some (record { moment = moment; payload = payload_sent found })
+reception-heard laws table acted past moment place wrong None rules sound none is in_time near = absurd in_time
+reception-heard laws table acted past moment place wrong (Some frame) rules sound none is in_time near =
+    received-sent laws table acted past moment place wrong frame rules sound none is near
 
 -- an update that is accepted, and a fill, are the next event of the broadcast
 next-event : Told → (table : LifeTable) (acted : List Line) (event : Event) → IsSound table acted → IsNext table (station_of acted) (events acted) event
@@ -154,7 +157,7 @@ sound-text laws table acted moment version size chars ranges is own s =
         not_before = s.events_before moment behind;
       });
       heard = still.still_heard;
-      received_is = s.received_is ∙ sym still.received;
+      received_is = λ near. s.received_is near ∙ sym still.received;
       events_before = λ m after. after;
       heard_before = λ m after. s.heard_before m (behind-past m moment (latest acted) after behind);
       sent_before = λ m place frame after found. s.sent_before m place frame (behind-past m moment (latest acted) after behind) (sent-same place frame found);
@@ -177,7 +180,7 @@ sound-turn laws table acted moment slot size ranges is s =
         not_before = s.events_before moment behind;
       });
       heard = still.still_heard;
-      received_is = s.received_is ∙ sym still.received;
+      received_is = λ near. s.received_is near ∙ sym still.received;
       events_before = λ m after. after;
       heard_before = λ m after. s.heard_before m (behind-past m moment (latest acted) after behind);
       sent_before = λ m place frame after found. elim (found-last (sent_frames table acted) _ place frame found) [
@@ -186,20 +189,23 @@ sound-turn laws table acted moment slot size ranges is s =
       ];
     }
 
-sound-hear : Laws → (table : LifeTable) (acted : List Line) (moment number size : ℕ) → IsTable table → HasRanges size (hear moment number)
-    → IsClear Link acted (hear moment number) → own_refusal table acted (hear moment number) ≡ None → IsSound table acted → IsSound table (hear moment number ∷ acted)
-sound-hear laws table acted moment number size rules ranges is own s =
+sound-hear : Laws → (table : LifeTable) (acted : List Line) (moment number size : ℕ) (wrong : List (ℕ × ℕ)) → IsTable table → HasRanges size (hear moment number wrong)
+    → IsClear Link acted (hear moment number wrong) → own_refusal table acted (hear moment number wrong) ≡ None → IsSound table acted
+    → IsSound table (hear moment number wrong ∷ acted)
+sound-hear laws table acted moment number size wrong rules ranges is own s =
     let behind = not-behind moment (latest acted) is.clock in
     let found = slice_get (sent_frames table acted) number in
     let both = or-none (frame_refusal table.late moment found) (receiver_refusal (receptions table acted) moment) own in
     let time = in-time table.late moment found both.0 (λ frame e. s.sent_before moment number frame behind e) in
-    let one = reception-heard laws table acted (receptions table acted) moment number found rules s.is_broadcast both.1 refl time in
     record {
       station = s.station;
       is_broadcast = s.is_broadcast;
       heard = (time, ranges.0, s.heard_before moment behind, s.heard);
-      received_is = ap (λ o. cons_option o (receptions table acted)) one
-          ∙ ap (λ rest. record { moment = moment; payload = payload_sent found } ∷ rest) s.received_is;
+      received_is = λ near.
+          let (own_near, past_near) = both-true (is_near_frame wrong found) (all_near table acted) near in
+          ap (λ o. cons_option o (receptions table acted))
+          (reception-heard laws table acted (receptions table acted) moment number wrong found rules s.is_broadcast both.1 refl time own_near)
+          ∙ ap (λ rest. record { moment = moment; payload = payload_sent found } ∷ rest) (s.received_is past_near);
       events_before = λ m after. s.events_before m (behind-past m moment (latest acted) after behind);
       heard_before = λ m after. after;
       sent_before = λ m place frame after e. s.sent_before m place frame (behind-past m moment (latest acted) after behind) e;
@@ -228,7 +234,7 @@ sound-station table acted latitude longitude site size ranges is s =
       station = record { lat = ranges.0; lon = ranges.1; site = ranges.2 };
       is_broadcast = subst (λ e. IsBroadcast table (map (λ event. record { station = station_of (line ∷ acted); event = event }) e)) (sym (unbegun-events acted none)) tt;
       heard = subst (λ f. AreHeard table.late f (hearings acted)) (sym same) s.heard;
-      received_is = s.received_is ∙ ap (λ f. receptions_of f (hearings acted)) (sym same);
+      received_is = λ near. s.received_is near ∙ ap (λ f. receptions_of f (hearings acted)) (sym same);
       events_before = s.events_before;
       heard_before = s.heard_before;
       sent_before = λ m place frame after found. s.sent_before m place frame after (subst (λ f. slice_get f place ≡ Some frame) same found);
@@ -244,16 +250,16 @@ sound-line laws table acted (text moment version chars) size rules ranges e s =
     sound-text laws table acted moment version size chars ranges (clear Link acted _ (or-none _ _ e).0) (or-none _ _ e).1 s
 sound-line laws table acted (turn moment slot) size rules ranges e s =
     sound-turn laws table acted moment slot size ranges (clear Link acted _ (or-none _ _ e).0) s
-sound-line laws table acted (hear moment number) size rules ranges e s =
-    sound-hear laws table acted moment number size rules ranges (clear Link acted _ (or-none _ _ e).0) (or-none _ _ e).1 s
+sound-line laws table acted (hear moment number wrong) size rules ranges e s =
+    sound-hear laws table acted moment number size wrong rules ranges (clear Link acted _ (or-none _ _ e).0) (or-none _ _ e).1 s
 sound-line laws table acted (show moment) size rules ranges e s =
     sound-show table acted moment (clear Link acted _ (or-none _ _ e).0) s
 sound-line laws table acted unbuilt size rules ranges e s = record { station = s.station; is_broadcast = s.is_broadcast; heard = s.heard; received_is = s.received_is; events_before = s.events_before; heard_before = s.heard_before; sent_before = s.sent_before }
 
--- at a moment that a line may have both pictures are one
+-- at a moment that a line may have both pictures are one, where each block that was heard is near
 pub pictures-same : Laws → (table : LifeTable) (acted : List Line) (moment : ℕ) → IsTable table → refusal_of Link table acted (show moment) ≡ None → IsSound table acted
-    → received_picture table (receptions table acted) moment ≡ link_picture table (broadcast acted) (hearings acted) moment
-pictures-same laws table acted moment rules e s =
+    → all_near table acted ≡ true → received_picture table (receptions table acted) moment ≡ link_picture table (broadcast acted) (hearings acted) moment
+pictures-same laws table acted moment rules e s near =
     let is = clear Link acted (show moment) (or-none _ _ e).0 in
-    ap (λ heard. received_picture table heard moment) s.received_is
+    ap (λ heard. received_picture table heard moment) (s.received_is near)
     ∙ laws.agree table (broadcast acted) (hearings acted) moment rules s.is_broadcast s.heard (s.heard_before moment (not-behind moment (latest acted) is.clock))

@@ -1,5 +1,5 @@
 -- One line more: what the parts of an actor leave.
-use Rattle.std.proofs.Common.{◌≡◌, ℕ, ◌||◌, not, Bool, true, false, if◌then◌else◌, List, ◌∷◌, length, map, Option, Some, None, option_map, Result, Ok, Err, refl, sym, ap, subst, ◌∙◌}
+use Rattle.std.proofs.Common.{◌≡◌, ℕ, ◌||◌, not, Bool, true, false, if◌then◌else◌, List, ◌∷◌, Option, Some, None, option_map, Result, Ok, Err, refl, sym, ap, subst, ◌∙◌}
 use Rattle.std.specs.Option.{option_or, option_and_then}
 use Rattle.uplink_weave.specs.Functions.{payload_in, lost_block_in}
 use Rattle.life_table.specs.LifeTable.{LifeTable}
@@ -17,14 +17,12 @@ use Rattle.script_core.specs.declared.reason.Reason.TheVariants.{Clock}
 use Rattle.run_core.specs.Actor.{HasActed}
 use Rattle.run_core.specs.declared.stop.Stop.{Stop}
 use Rattle.run_core.specs.declared.stop.Stop.TheVariants.{Refused, NoMemory}
-use Rattle.fisb_app.specs.declared.sending.Sending.{Sending}
-use Rattle.fisb_app.specs.declared.link.Link.{Link}
-use Rattle.fisb_app.specs.declared.ground_alone.GroundAlone.{GroundAlone}
-use Rattle.fisb_app.specs.Past.{lines_of, reception_by, receptions, sent_frames, moment_of, latest, has_begun, is_empty, events, station_of}
+use Rattle.fisb_app.specs.declared.in_order.InOrder.{InOrder}
+use Rattle.fisb_app.specs.Past.{lines_of, reception_by, moment_of, latest, has_begun, is_empty}
 use Rattle.fisb_app.specs.Reading.{receiver_refusal, reason_of_update}
 use Rattle.fisb_app.specs.Output.{heard_by}
 use Rattle.fisb_app.specs.Work.{text_unless}
-use Rattle.fisb_app.specs.Stands.{Sends, Hears, Holds, KeepsClock, LinkHolds, IsLink, AloneHolds, IsAlone, HasUnheard, TellsRefusal, sent_view, aired_view}
+use Rattle.fisb_app.specs.Stands.{IsInOrder, HasUnheard, TellsRefusal}
 use Rattle.fisb_app.proofs.Judging.{lines-more}
 
 -- a text's fault at a moment that is not too early
@@ -40,49 +38,16 @@ pub tells-acted : (S : Type 0) (told : Result (List ℕ) Reason) (own : Option R
 tells-acted S told own given (Refused why) e is = e ∙ ap (text_unless given) is
 tells-acted S told own given NoMemory e is = tt
 
-pub holds-moved : {G : Type 0} (sends : Sends G) (bytes : List ℕ) (acted : List Line) (before after : Sending G)
-    → after.table ≡ before.table → after.ground ≡ before.ground → Holds sends bytes acted before → Holds sends bytes acted after
-holds-moved sends bytes acted before after table ground h = record {
-  opened = h.opened ∙ ap Ok (sym table);
-  ground = subst (λ t. sends t (station_of acted) (events acted) after.ground) (sym table)
-      (subst (λ g. sends before.table (station_of acted) (events acted) g) (sym ground) h.ground);
-}
-
-pub link-moved : {G E : Type 0} (sends : Sends G) (hears : Hears E) (bytes : List ℕ) (acted : List Line) (before after : Link G E)
-    → after.sending.table ≡ before.sending.table → after.sending.ground ≡ before.sending.ground → after.sent ≡ before.sent → after.ear ≡ before.ear
-    → LinkHolds sends hears bytes acted before → LinkHolds sends hears bytes acted after
-link-moved sends hears bytes acted before after table ground sent ear h = record {
-  holds = holds-moved sends bytes acted before.sending after.sending table ground h.holds;
-  sent = ap (λ s. map sent_view s.items) sent ∙ h.sent ∙ ap (λ t. map aired_view (sent_frames t acted)) (sym table);
-  ear = subst (λ t. hears t (receptions t acted) after.ear) (sym table)
-      (subst (λ e. hears before.sending.table (receptions before.sending.table acted) e) (sym ear) h.ear);
-}
-
-pub link-next : {G E : Type 0} (sends : Sends G) (hears : Hears E) (bytes : List ℕ) (past : List (List ℕ)) (raw : List ℕ) (line : Line) (old mid new : Link G E)
-    → line_of raw ≡ Some line → IsLink sends hears bytes past old → KeepsClock old.sending mid.sending → LinkHolds sends hears bytes (line ∷ lines_of past) mid
-    → new.sending.table ≡ mid.sending.table → new.sending.ground ≡ mid.sending.ground → new.sent ≡ mid.sent → new.ear ≡ mid.ear
-    → new.sending.clock ≡ option_or (moment_of line) mid.sending.clock → new.sending.has_begun ≡ (mid.sending.has_begun || not (is_empty line))
-    → IsLink sends hears bytes (raw ∷ past) new
-link-next sends hears bytes past raw line old mid new is s keeps h table ground sent ear clocked begun =
+-- a line that was acted on in its order is one more
+pub in-order-more : {P : Type 0} (holds : List ℕ → List Line → P → Type 0) (bytes : List ℕ) (past : List (List ℕ)) (raw : List ℕ) (line : Line)
+    (old new : InOrder P) (made : P) → line_of raw ≡ Some line → IsInOrder holds bytes past old → holds bytes (line ∷ lines_of past) made
+    → new.inner ≡ made → new.clock ≡ option_or (moment_of line) old.clock → new.has_begun ≡ (old.has_begun || not (is_empty line))
+    → IsInOrder holds bytes (raw ∷ past) new
+in-order-more holds bytes past raw line old new made is s h inner clocked begun =
     let more = lines-more raw past line is in record {
-      parts = subst (λ acted. LinkHolds sends hears bytes acted new) (sym more) (link-moved sends hears bytes (line ∷ lines_of past) mid new table ground sent ear h);
-      clock = clocked ∙ ap (option_or (moment_of line)) (keeps.clock ∙ s.clock) ∙ ap latest (sym more);
-      begun = begun ∙ ap (λ b. b || not (is_empty line)) (keeps.begun ∙ s.begun) ∙ ap has_begun (sym more);
-    }
-
-pub alone-next : {G : Type 0} (sends : Sends G) (bytes : List ℕ) (past : List (List ℕ)) (raw : List ℕ) (line : Line) (old mid new : GroundAlone G)
-    → line_of raw ≡ Some line → IsAlone sends bytes past old → KeepsClock old.sending mid.sending → AloneHolds sends bytes (line ∷ lines_of past) mid
-    → new.sending.table ≡ mid.sending.table → new.sending.ground ≡ mid.sending.ground → new.sent ≡ mid.sent
-    → new.sending.clock ≡ option_or (moment_of line) mid.sending.clock → new.sending.has_begun ≡ (mid.sending.has_begun || not (is_empty line))
-    → IsAlone sends bytes (raw ∷ past) new
-alone-next sends bytes past raw line old mid new is s keeps h table ground sent clocked begun =
-    let more = lines-more raw past line is in record {
-      parts = subst (λ acted. AloneHolds sends bytes acted new) (sym more) (record {
-        holds = holds-moved sends bytes (line ∷ lines_of past) mid.sending new.sending table ground h.holds;
-        sent = sent ∙ h.sent ∙ ap (λ t. length (sent_frames t (line ∷ lines_of past))) (sym table);
-      });
-      clock = clocked ∙ ap (option_or (moment_of line)) (keeps.clock ∙ s.clock) ∙ ap latest (sym more);
-      begun = begun ∙ ap (λ b. b || not (is_empty line)) (keeps.begun ∙ s.begun) ∙ ap has_begun (sym more);
+      parts = subst (λ acted. holds bytes acted new.inner) (sym more) (subst (λ p. holds bytes (line ∷ lines_of past) p) (sym inner) h);
+      clock = clocked ∙ ap (option_or (moment_of line)) s.clock ∙ ap latest (sym more);
+      begun = begun ∙ ap (λ b. b || not (is_empty line)) s.begun ∙ ap has_begun (sym more);
     }
 
 -- a frame that is not heard for its bytes is in time

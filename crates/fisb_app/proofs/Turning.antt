@@ -90,7 +90,7 @@ unbegun-events (empty ∷ past) e = unbegun-events past (or-false (has_begun pas
 unbegun-events (station latitude longitude site ∷ past) e = absurd (or-true (has_begun past) e)
 unbegun-events (text moment version chars ∷ past) e = absurd (or-true (has_begun past) e)
 unbegun-events (turn moment slot ∷ past) e = absurd (or-true (has_begun past) e)
-unbegun-events (hear moment frame ∷ past) e = absurd (or-true (has_begun past) e)
+unbegun-events (hear moment frame wrong ∷ past) e = absurd (or-true (has_begun past) e)
 unbegun-events (show moment ∷ past) e = absurd (or-true (has_begun past) e)
 unbegun-events (unbuilt ∷ past) e = absurd (or-true (has_begun past) e)
 

@@ -1,5 +1,5 @@
 -- The texts that lines give.
-use Rattle.std.specs.Prelude.{ℕ, Bool, true, if◌then◌else◌, List, [], ◌∷◌, ◌++◌, length, map, flat_map, Option, Some, None, slice_get, codes, decimal}
+use Rattle.std.specs.Prelude.{ℕ, Bool, if◌then◌else◌, List, [], ◌∷◌, ◌++◌, length, map, flat_map, Option, Some, None, slice_get, codes, decimal}
 use Rattle.hex.specs.Hex.{encode_lower}
 use Rattle.dlac_text.specs.Plain.{plain_text}
 use Rattle.uplink_frame.specs.declared.header.UplinkHeader.{UplinkHeader}
@@ -20,7 +20,7 @@ use Rattle.script_core.specs.Script.{Line, empty, station, text, turn, hear, sho
 use Rattle.script_core.specs.Refusal.{spaced}
 use Rattle.fisb_app.specs.declared.party.Party.{Party}
 use Rattle.fisb_app.specs.declared.party.Party.TheVariants.{Link, Ground}
-use Rattle.fisb_app.specs.Past.{events, broadcast, hearings, station_of, sent_frames, air_of, receptions}
+use Rattle.fisb_app.specs.Past.{events, broadcast, hearings, station_of, sent_frames, air_of, air_heard, receptions}
 
 -- a frame that was sent; a ground alone writes its bytes on the air too
 abbrev pub sent_words : ℕ → Frame → List (List ℕ)
@@ -94,9 +94,10 @@ heard_by table past moment air (Some no_application) = spaced (codes "noapp" ∷
 abbrev pub heard_text : LifeTable → List Reception → ℕ → List ℕ → List ℕ
 heard_text table past moment air = heard_by table past moment air (refusal_of_air past moment air)
 
-abbrev pub heard_frame : LifeTable → List Reception → ℕ → Option Frame → List ℕ
-heard_frame table past moment None = []
-heard_frame table past moment (Some frame) = heard_text table past moment (air_of frame)
+abbrev pub heard_frame : LifeTable → List Reception → ℕ → List (ℕ × ℕ) → Option Frame → List ℕ
+heard_frame table past moment wrong None = []
+heard_frame table past moment wrong (Some frame) =
+    heard_text table past moment (air_heard wrong (air_of frame))
 
 -- the picture of a moment, by the lines acted on
 abbrev pub Shows : Type 0
@@ -109,15 +110,11 @@ heard_picture table acted moment = received_picture table (receptions table acte
 -- What is claimed of the lines before a picture. Where it holds the picture is the one that the link promises, which knows no
 -- byte of a frame; elsewhere it is promised only that it is the picture by the bytes.
 abbrev pub Claim : Type 0
-Claim = List Line → Bool
+Claim = LifeTable → List Line → Bool
 
 abbrev pub promised_picture : Claim → Shows
-promised_picture claim table acted moment = if claim acted
+promised_picture claim table acted moment = if claim table acted
     then link_picture table (broadcast acted) (hearings acted) moment else heard_picture table acted moment
-
--- every frame was heard as it was sent: no line changes one on its way yet
-abbrev pub are_undamaged : Claim
-are_undamaged acted = true
 
 -- what a line gives after the lines acted on, where `shows` gives the pictures
 abbrev pub given_text : Party → Shows → LifeTable → List Line → Line → List ℕ
@@ -126,7 +123,7 @@ given_text party shows table past (station latitude longitude site) = []
 given_text party shows table past (text moment version chars) = []
 given_text party shows table past (turn moment slot) = sent_text party (length (sent_frames table past))
     (frame_after table (station_of past) (events past) moment slot)
-given_text party shows table past (hear moment frame) =
-    heard_frame table (receptions table past) moment (slice_get (sent_frames table past) frame)
+given_text party shows table past (hear moment frame wrong) =
+    heard_frame table (receptions table past) moment wrong (slice_get (sent_frames table past) frame)
 given_text party shows table past (show moment) = picture_text moment (map shown_value (shows table past moment))
 given_text party shows table past unbuilt = []

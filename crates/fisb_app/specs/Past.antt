@@ -1,7 +1,7 @@
 -- What the lines acted on have made: the station's history, what was heard of its frames, and what was received. The newest
 -- line stands first.
-use Rattle.std.specs.Prelude.{ℕ, Bool, true, false, not, ◌||◌, List, [], ◌∷◌, map, Option, Some, None, slice_get}
-use Rattle.std.specs.List.{cons_option, filter_map}
+use Rattle.std.specs.Prelude.{ℕ, ◌==◌, Bool, true, false, not, ◌||◌, if◌then◌else◌, List, [], ◌∷◌, map, Option, Some, None, slice_get, slice_index}
+use Rattle.std.specs.List.{cons_option, filter_map, range_with_len}
 use Rattle.std.specs.Option.{option_or}
 use Rattle.uplink_weave.specs.Functions.{woven, payload_in}
 use Rattle.uplink_frame.specs.declared.station.StationId.{StationId}
@@ -28,7 +28,7 @@ station_named (station latitude longitude site) before =
     record { lat = latitude; lon = longitude; position_valid = true; site = site }
 station_named (text moment version chars) before = before
 station_named (turn moment slot) before = before
-station_named (hear moment frame) before = before
+station_named (hear moment frame wrong) before = before
 station_named (show moment) before = before
 station_named unbuilt before = before
 
@@ -42,7 +42,7 @@ event_of empty = None
 event_of (station latitude longitude site) = None
 event_of (text moment version chars) = Some (accepted moment (updates.text version chars))
 event_of (turn moment slot) = Some (fill moment slot)
-event_of (hear moment frame) = None
+event_of (hear moment frame wrong) = None
 event_of (show moment) = None
 event_of unbuilt = None
 
@@ -59,13 +59,21 @@ sent_frames table acted = frames table (broadcast acted)
 abbrev pub air_of : Frame → List ℕ
 air_of frame = woven (frame_payload frame)
 
+-- a frame as it is heard, where each of these places has a wrong byte: at every other place the byte that was sent
+abbrev pub byte_heard : List (ℕ × ℕ) → ℕ → ℕ → ℕ
+byte_heard [] place sent = sent
+byte_heard (one ∷ more) place sent = byte_heard more place (if one.0 == place then one.1 else sent)
+
+unfoldable pub air_heard : List (ℕ × ℕ) → List ℕ → List ℕ
+air_heard wrong air = map (λ place. byte_heard wrong place (slice_index air place)) (range_with_len 0 552)
+
 -- what was heard
 abbrev pub hearing_of : Line → Option Hearing
 hearing_of empty = None
 hearing_of (station latitude longitude site) = None
 hearing_of (text moment version chars) = None
 hearing_of (turn moment slot) = None
-hearing_of (hear moment frame) = Some (record { frame = frame; moment = moment })
+hearing_of (hear moment frame wrong) = Some (record { frame = frame; moment = moment })
 hearing_of (show moment) = None
 hearing_of unbuilt = None
 
@@ -81,9 +89,9 @@ reception_by None moment (Some payload) = Some (record { moment = moment; payloa
 abbrev pub reception_from : List Reception → ℕ → List ℕ → Option Reception
 reception_from past moment air = reception_by (refusal_of_air past moment air) moment (payload_in air)
 
-abbrev pub received_frame : List Reception → ℕ → Option Frame → Option Reception
-received_frame past moment None = None
-received_frame past moment (Some frame) = reception_from past moment (air_of frame)
+abbrev pub received_frame : List Reception → ℕ → List (ℕ × ℕ) → Option Frame → Option Reception
+received_frame past moment wrong None = None
+received_frame past moment wrong (Some frame) = reception_from past moment (air_heard wrong (air_of frame))
 
 -- the receptions after a line, where the frames that were sent and the receptions stood so before it
 abbrev pub receptions_after : List Frame → List Reception → Line → List Reception
@@ -91,8 +99,8 @@ receptions_after sent past empty = past
 receptions_after sent past (station latitude longitude site) = past
 receptions_after sent past (text moment version chars) = past
 receptions_after sent past (turn moment slot) = past
-receptions_after sent past (hear moment frame) =
-    cons_option (received_frame past moment (slice_get sent frame)) past
+receptions_after sent past (hear moment frame wrong) =
+    cons_option (received_frame past moment wrong (slice_get sent frame)) past
 receptions_after sent past (show moment) = past
 receptions_after sent past unbuilt = past
 
@@ -106,7 +114,7 @@ moment_of empty = None
 moment_of (station latitude longitude site) = None
 moment_of (text moment version chars) = Some moment
 moment_of (turn moment slot) = Some moment
-moment_of (hear moment frame) = Some moment
+moment_of (hear moment frame wrong) = Some moment
 moment_of (show moment) = Some moment
 moment_of unbuilt = None
 
@@ -120,7 +128,7 @@ is_empty empty = true
 is_empty (station latitude longitude site) = false
 is_empty (text moment version chars) = false
 is_empty (turn moment slot) = false
-is_empty (hear moment frame) = false
+is_empty (hear moment frame wrong) = false
 is_empty (show moment) = false
 is_empty unbuilt = false
 

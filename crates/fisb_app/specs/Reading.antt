@@ -29,7 +29,7 @@ is_unbuilt empty = false
 is_unbuilt (station latitude longitude site) = false
 is_unbuilt (text moment version chars) = false
 is_unbuilt (turn moment slot) = false
-is_unbuilt (hear moment frame) = false
+is_unbuilt (hear moment frame wrong) = false
 is_unbuilt (show moment) = false
 is_unbuilt unbuilt = true
 
@@ -42,7 +42,7 @@ is_heard_or_shown empty = false
 is_heard_or_shown (station latitude longitude site) = false
 is_heard_or_shown (text moment version chars) = false
 is_heard_or_shown (turn moment slot) = false
-is_heard_or_shown (hear moment frame) = true
+is_heard_or_shown (hear moment frame wrong) = true
 is_heard_or_shown (show moment) = true
 is_heard_or_shown unbuilt = false
 
@@ -56,7 +56,7 @@ is_station empty = false
 is_station (station latitude longitude site) = true
 is_station (text moment version chars) = false
 is_station (turn moment slot) = false
-is_station (hear moment frame) = false
+is_station (hear moment frame wrong) = false
 is_station (show moment) = false
 is_station unbuilt = false
 
@@ -120,7 +120,7 @@ own_refusal table acted empty = None
 own_refusal table acted (station latitude longitude site) = None
 own_refusal table acted (text moment version chars) = text_refusal table acted moment version chars
 own_refusal table acted (turn moment slot) = turn_refusal (length (sent_frames table acted)) acted moment
-own_refusal table acted (hear moment frame) =
+own_refusal table acted (hear moment frame wrong) =
     option_or (frame_refusal table.late moment (slice_get (sent_frames table acted) frame))
     (receiver_refusal (receptions table acted) moment)
 own_refusal table acted (show moment) = receiver_refusal (receptions table acted) moment

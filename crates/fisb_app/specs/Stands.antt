@@ -10,6 +10,7 @@ use Rattle.script_core.specs.declared.reason.Reason.{Reason}
 use Rattle.run_core.specs.declared.stop.Stop.{Stop}
 use Rattle.run_core.specs.declared.stop.Stop.TheVariants.{Refused, NoMemory}
 use Rattle.fisb_app.specs.declared.sending.Sending.{Sending}
+use Rattle.fisb_app.specs.declared.in_order.InOrder.{InOrder}
 use Rattle.fisb_app.specs.declared.link.Link.{Link}
 use Rattle.fisb_app.specs.declared.ground_alone.GroundAlone.{GroundAlone}
 use Rattle.fisb_app.specs.declared.sent.SentFrame.{SentFrame}
@@ -31,18 +32,6 @@ pub record Holds {G : Type 0} (sends : Sends G) (bytes : List ℕ) (acted : List
   pub opened : opening_table bytes ≡ Ok s.table
   pub ground : sends s.table (station_of acted) (events acted) s.ground
 
--- the clock and the beginning, too, are those of the lines
-pub record IsSending {G : Type 0} (sends : Sends G) (bytes : List ℕ) (acted : List Line) (s : Sending G) : Type 0 where
-  pub holds : Holds sends bytes acted s
-  pub clock : s.clock ≡ latest acted
-  pub begun : s.has_begun ≡ has_begun acted
-
--- an operation leaves clock, beginning and table as they were
-pub record KeepsClock {G : Type 0} (before after : Sending G) : Type 0 where
-  pub table : after.table ≡ before.table
-  pub clock : after.clock ≡ before.clock
-  pub begun : after.has_begun ≡ before.has_begun
-
 -- a frame by its moment and its bytes on the air
 pub record Aired : Type 0 where
   pub moment : ℕ
@@ -61,22 +50,17 @@ pub record LinkHolds {G E : Type 0} (sends : Sends G) (hears : Hears E) (bytes :
   pub sent : map sent_view link.sent.items ≡ map aired_view (sent_frames link.sending.table acted)
   pub ear : hears link.sending.table (receptions link.sending.table acted) link.ear
 
-pub record IsLink {G E : Type 0} (sends : Sends G) (hears : Hears E) (bytes : List ℕ) (past : List (List ℕ))
-    (link : Link G E) : Type 0 where
-  pub parts : LinkHolds sends hears bytes (lines_of past) link
-  pub clock : link.sending.clock ≡ latest (lines_of past)
-  pub begun : link.sending.has_begun ≡ has_begun (lines_of past)
-
 pub record AloneHolds {G : Type 0} (sends : Sends G) (bytes : List ℕ) (acted : List Line) (alone : GroundAlone G)
     : Type 0 where
   pub holds : Holds sends bytes acted alone.sending
   pub sent : alone.sent ≡ length (sent_frames alone.sending.table acted)
 
-pub record IsAlone {G : Type 0} (sends : Sends G) (bytes : List ℕ) (past : List (List ℕ)) (alone : GroundAlone G)
-    : Type 0 where
-  pub parts : AloneHolds sends bytes (lines_of past) alone
-  pub clock : alone.sending.clock ≡ latest (lines_of past)
-  pub begun : alone.sending.has_begun ≡ has_begun (lines_of past)
+-- a command acted on these lines in their order: its clock and its beginning, too, are those of the lines
+pub record IsInOrder {P : Type 0} (holds : List ℕ → List Line → P → Type 0) (bytes : List ℕ) (past : List (List ℕ))
+    (s : InOrder P) : Type 0 where
+  pub parts : holds bytes (lines_of past) s.inner
+  pub clock : s.clock ≡ latest (lines_of past)
+  pub begun : s.has_begun ≡ has_begun (lines_of past)
 
 -- a stop tells the reason; memory that is not found may stand in its place
 abbrev pub TellsRefusal : Option Reason → Stop → Type 0

@@ -13,7 +13,8 @@ use Rattle.fisb_app.specs.declared.party.Party.{Party}
 use Rattle.fisb_app.specs.declared.party.Party.TheVariants.{Link, Ground}
 use Rattle.fisb_app.specs.Past.{lines_of}
 use Rattle.fisb_app.specs.Reading.{refusal_of}
-use Rattle.fisb_app.specs.Output.{Shows, heard_picture, promised_picture, are_undamaged, given_text}
+use Rattle.fisb_app.specs.Output.{Shows, heard_picture, promised_picture, given_text}
+use Rattle.fisb_app.specs.Damage.{all_near}
 
 -- no bytes stand for the default table
 abbrev pub opening_table : List ℕ → Result LifeTable Fault
@@ -64,6 +65,7 @@ link_work = work_of Link heard_picture
 abbrev pub ground_work : Work
 ground_work = work_of Ground heard_picture
 
--- what a link promises: the pictures are told by what was given, sent and heard alone, as frames are undamaged
+-- what a link promises: the pictures are told by what was given, sent and heard alone, as long as each block of each frame
+-- was heard with at most ten wrong bytes
 abbrev pub promised_work : Work
-promised_work = work_of Link (promised_picture are_undamaged)
+promised_work = work_of Link (promised_picture all_near)

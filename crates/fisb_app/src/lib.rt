@@ -4,6 +4,7 @@
 mod command;
 mod ear;
 mod ground_alone;
+mod in_order;
 pub mod laws;
 mod line_kinds;
 mod link;
@@ -20,6 +21,3 @@ pub use ear::Ear;
 pub use run_core::Status;
 pub use script_core::Reason;
 pub use top::{run, run_gdl, run_ground, run_link, run_link_over, run_make, run_receive};
-
-#[cfg(test)]
-mod tests;

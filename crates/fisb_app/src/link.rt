@@ -1,5 +1,5 @@
 //! The command `link`: a ground, a receiver, and the frames between them.
-ghost use Rattle.std.specs.Prelude.{◌≡◌, ℕ, ◌<◌, ◌^◌, ◌∷◌, [], ◌++◌, List, OnOk, length, map, slice_get};
+ghost use Rattle.std.specs.Prelude.{◌≡◌, ℕ, ◌<◌, ◌^◌, ◌∷◌, [], ◌++◌, List, All, OnOk, length, map, slice_get};
 ghost use Rattle.std.specs.List.{cons_option};
 ghost use Rattle.life_table.specs.LifeTable.{LifeTable as Table};
 ghost use Rattle.picture_core.specs.Views.{shown_value};
@@ -8,12 +8,13 @@ ghost use Rattle.ground_core.specs.Airing.{Frame};
 ghost use Rattle.script_core.specs.LineView.{line_view, HasRanges};
 ghost use Rattle.script_core.specs.Script.{Line as ScriptLine, hear, station, text, turn};
 ghost use Rattle.fisb_app.specs.Output.{given_text, heard_picture, heard_text, picture_text};
-ghost use Rattle.fisb_app.specs.Past.{reception_from};
+ghost use Rattle.fisb_app.specs.Past.{air_heard, reception_from};
+ghost use Rattle.fisb_app.specs.declared.party.Party.TheVariants.{Link as TheLink};
 ghost use Rattle.fisb_app.specs.Reading.{CanCome, own_refusal, receiver_refusal};
-ghost use Rattle.fisb_app.specs.Stands.{HasTried, IsFound, IsLink, KeepsClock, LinkHolds, aired_view, sent_view};
-ghost use Rattle.fisb_app.specs.Work.{link_work};
+ghost use Rattle.fisb_app.specs.Stands.{HasTried, IsFound, LinkHolds, aired_view, sent_view};
 
 use crate::ear::Ear;
+use crate::in_order::LineActor;
 use crate::party::Party;
 use crate::printing::{no_text, print_heard, print_picture, print_sent};
 use crate::sender::Sender;
@@ -23,8 +24,8 @@ use crate::unheard::{print_unheard, stop_of_show};
 use fisb_time::Moment;
 use fisb_wire::Bytes;
 use ground_core::AirFrame;
-use run_core::{Actor, Stop};
-use script_core::{Line, LineFault, Reason, print_refused, read_line};
+use run_core::Stop;
+use script_core::{Line, Reason, Wrong};
 use std::alloc::{AllocError, Global};
 use uplink_frame::stations_are_told;
 
@@ -36,13 +37,19 @@ pub(crate) struct Link<G: Sender, E: Ear> {
     pub(crate) sent: Vec<SentFrame>,
 }
 
-impl<G: Sender, E: Ear> Actor for Link<G, E> {
-    ghost work = { link_work };
+impl<G: Sender, E: Ear> LineActor for Link<G, E> {
+    ghost PARTY = { TheLink };
 
-    ghost stands = { IsLink G.stands E.stands };
+    const PARTY: Party = Party::Link;
 
-    fn new(alloc: Global, table: &[u8]) -> Result<Link<G, E>, Stop> {
-        let sending: Sending<G> = Sending::new(alloc, table)?;
+    ghost table = { λ actor. actor.sending.table };
+
+    ghost holds = { LinkHolds G.stands E.stands };
+
+    ghost opened = { λ bytes acted actor h. h.holds.opened };
+
+    fn new(alloc: Global, bytes: &[u8]) -> Result<Link<G, E>, Stop> {
+        let sending: Sending<G> = Sending::new(alloc, bytes)?;
         let Ok(copy) = sending.table.copy(alloc) else {
             return Err(Stop::NoMemory);
         };
@@ -53,42 +60,7 @@ impl<G: Sender, E: Ear> Actor for Link<G, E> {
         })
     }
 
-    fn act(&mut self, alloc: Global, line: &[u8]) -> Result<Bytes, Stop> {
-        let line = match read_line(alloc, line) {
-            Ok(line) => line,
-            Err(LineFault::Syntax) => return Err(Stop::Refused(Reason::Syntax)),
-            Err(LineFault::NoMemory) => return Err(Stop::NoMemory),
-        };
-        if let Some(reason) = self.sending.refusal(Party::Link, &line) {
-            return Err(Stop::Refused(reason));
-        }
-        match self.act_on(alloc, &line) {
-            Ok(text) => {
-                self.sending.advance(&line);
-                Ok(text)
-            }
-            Err(stop) => Err(stop),
-        }
-    }
-
-    fn refusal(alloc: Global, line: u64, reason: &Reason) -> Result<Bytes, AllocError> {
-        print_refused(alloc, line, reason)
-    }
-}
-
-impl<G: Sender, E: Ear> Link<G, E> {
-    /// Acts on a line against which nothing but its content can stand.
-    fn act_on(&mut self, alloc: Global, line: &Line) -> Result<Bytes, Stop>
-        requires { HasRanges 32768 (line_view line.now) }
-        ensures tried { (bytes : List ℕ) (acted : List ScriptLine)
-            → CanCome acted (line_view line.now)
-            → LinkHolds G.stands E.stands bytes acted self.old
-            → HasTried (own_refusal self.old.sending.table acted (line_view line.now))
-            (λ given. (given ≡ given_text Party.Link heard_picture self.old.sending.table acted
-            (line_view line.now))
-            × LinkHolds G.stands E.stands bytes (line_view line.now ∷ acted) self.new) result }
-        ensures rest { KeepsClock self.old.sending self.new.sending }
-    {
+    fn act_on(&mut self, alloc: Global, line: &Line) -> Result<Bytes, Stop> {
         match line {
             Line::Nothing | Line::Unbuilt => Ok(no_text(alloc)),
             Line::Station { lat, lon, site } => self.name_station(alloc, *lat, *lon, *site),
@@ -98,22 +70,27 @@ impl<G: Sender, E: Ear> Link<G, E> {
                 report,
             } => self.give(alloc, *moment, *version, report.as_str()),
             Line::Turn { moment, slot } => self.turn(alloc, *moment, *slot),
-            Line::Hear { moment, frame } => self.hear(alloc, *moment, *frame),
+            Line::Hear {
+                moment,
+                frame,
+                wrong,
+            } => self.hear(alloc, *moment, *frame, wrong),
             Line::Show { moment } => self.show(alloc, *moment),
         }
     }
+}
 
+impl<G: Sender, E: Ear> Link<G, E> {
     /// Names the station.
     fn name_station(&mut self, alloc: Global, lat: u32, lon: u32, site: u8) -> Result<Bytes, Stop>
         requires { (lat < 2 ^ 23) × (lon < 2 ^ 24) × (site < 16) }
-        ensures tried { (bytes : List ℕ) (acted : List ScriptLine)
+        ensures { (bytes : List ℕ) (acted : List ScriptLine)
             → CanCome acted (station lat lon site)
             → LinkHolds G.stands E.stands bytes acted self.old
             → HasTried (own_refusal self.old.sending.table acted (station lat lon site))
             (λ given. (given ≡ given_text Party.Link heard_picture self.old.sending.table acted
             (station lat lon site))
             × LinkHolds G.stands E.stands bytes (station lat lon site ∷ acted) self.new) result }
-        ensures rest { KeepsClock self.old.sending self.new.sending }
     {
         match self.sending.name_station(alloc, lat, lon, site) {
             Ok(()) => Ok(no_text(alloc)),
@@ -130,7 +107,7 @@ impl<G: Sender, E: Ear> Link<G, E> {
         report: &str,
     ) -> Result<Bytes, Stop>
         requires { length report.now < 2 ^ 32 }
-        ensures tried { (bytes : List ℕ) (acted : List ScriptLine)
+        ensures { (bytes : List ℕ) (acted : List ScriptLine)
             → CanCome acted (text moment version report.now)
             → LinkHolds G.stands E.stands bytes acted self.old
             → HasTried (own_refusal self.old.sending.table acted (text moment version report.now))
@@ -138,7 +115,6 @@ impl<G: Sender, E: Ear> Link<G, E> {
             (text moment version report.now))
             × LinkHolds G.stands E.stands bytes (text moment version report.now ∷ acted) self.new)
             result }
-        ensures rest { KeepsClock self.old.sending self.new.sending }
     {
         match self.sending.give(moment, version, report) {
             Ok(()) => Ok(no_text(alloc)),
@@ -149,13 +125,12 @@ impl<G: Sender, E: Ear> Link<G, E> {
     /// Fills a frame, keeps it, and answers its text.
     fn turn(&mut self, alloc: Global, moment: Moment, slot: u8) -> Result<Bytes, Stop>
         requires { slot < 32 }
-        ensures tried { (bytes : List ℕ) (acted : List ScriptLine)
+        ensures { (bytes : List ℕ) (acted : List ScriptLine)
             → CanCome acted (turn moment slot) → LinkHolds G.stands E.stands bytes acted self.old
             → HasTried (own_refusal self.old.sending.table acted (turn moment slot))
             (λ given. (given ≡ given_text Party.Link heard_picture self.old.sending.table acted
             (turn moment slot))
             × LinkHolds G.stands E.stands bytes (turn moment slot ∷ acted) self.new) result }
-        ensures rest { KeepsClock self.old.sending self.new.sending }
     {
         stations_are_told();
         let index = self.sent.len();
@@ -172,20 +147,30 @@ impl<G: Sender, E: Ear> Link<G, E> {
         }
     }
 
-    /// Hears a frame that was sent.
-    fn hear(&mut self, alloc: Global, moment: Moment, frame: u32) -> Result<Bytes, Stop>
-        ensures tried { (bytes : List ℕ) (acted : List ScriptLine)
-            → CanCome acted (hear moment frame) → LinkHolds G.stands E.stands bytes acted self.old
-            → HasTried (own_refusal self.old.sending.table acted (hear moment frame))
+    /// Hears a frame that was sent, with the wrong bytes in it.
+    fn hear(
+        &mut self,
+        alloc: Global,
+        moment: Moment,
+        frame: u32,
+        wrong: &Wrong,
+    ) -> Result<Bytes, Stop>
+        requires { All (λ one. (one.0 < 552) × (one.1 < 256)) wrong.now }
+        ensures { (bytes : List ℕ) (acted : List ScriptLine)
+            → CanCome acted (hear moment frame wrong.now)
+            → LinkHolds G.stands E.stands bytes acted self.old
+            → HasTried (own_refusal self.old.sending.table acted (hear moment frame wrong.now))
             (λ given. (given ≡ given_text Party.Link heard_picture self.old.sending.table acted
-            (hear moment frame))
-            × LinkHolds G.stands E.stands bytes (hear moment frame ∷ acted) self.new) result }
-        ensures rest { KeepsClock self.old.sending self.new.sending }
+            (hear moment frame wrong.now))
+            × LinkHolds G.stands E.stands bytes (hear moment frame wrong.now ∷ acted) self.new)
+            result }
     {
-        match self.find(moment, frame) {
-            Ok(air) => self.receive(alloc, moment, &air),
-            Err(reason) => Err(Stop::Refused(reason)),
-        }
+        let mut air = match self.find(moment, frame) {
+            Ok(air) => air,
+            Err(reason) => return Err(Stop::Refused(reason)),
+        };
+        put_wrong(&mut air, wrong.all());
+        self.receive(alloc, moment, &air)
     }
 
     /// The bytes on the air of a frame that was sent, in time.
@@ -248,4 +233,14 @@ fn keep(sent: &mut Vec<SentFrame>, frame: &AirFrame) -> Result<(), AllocError>
         air: frame.air,
     })?;
     Ok(())
+}
+
+/// Puts the wrong bytes of a frame in their places.
+fn put_wrong(air: &mut [u8; 552], wrong: &[(u16, u8)])
+    requires { All (λ one. (one.0 < 552) × (one.1 < 256)) wrong.now }
+    ensures { air.new ≡ air_heard wrong.now air.old }
+{
+    for (place, byte) in wrong {
+        air[usize::from(*place)] = *byte;
+    }
 }

@@ -1,48 +1,39 @@
 //! What both commands do: naming a station, giving texts and filling frames.
-ghost use Rattle.std.specs.Prelude.{◌≡◌, ℕ, ◌<◌, ◌^◌, ◌||◌, ◌∷◌, List, [], Option, None, false, IfErr, IfOk, OnOk, length, not};
-ghost use Rattle.std.specs.Option.{option_or};
+ghost use Rattle.std.specs.Prelude.{◌≡◌, ℕ, ◌<◌, ◌^◌, ◌∷◌, List, [], None, Some, false, IfErr, IfOk, OnOk, length};
 ghost use Rattle.ground_core.specs.Airing.{frame_after};
 ghost use Rattle.ground_core.specs.OnAir.{IsOnAir};
 ghost use Rattle.run_core.specs.Actor.{HasOpened};
-ghost use Rattle.script_core.specs.LineView.{line_view};
 ghost use Rattle.script_core.specs.Script.{Line as ScriptLine, station, text, turn};
-ghost use Rattle.fisb_app.specs.Past.{events, has_begun, is_empty, moment_of, station_of};
-ghost use Rattle.fisb_app.specs.Reading.{earlier_than, front_refusal, party_refusal, text_refusal, turn_refusal};
-ghost use Rattle.fisb_app.specs.Stands.{HasRead, HasTried, Holds, IsSending, KeepsClock};
+ghost use Rattle.fisb_app.specs.Past.{events, has_begun, station_of};
+ghost use Rattle.fisb_app.specs.Reading.{text_refusal, turn_refusal};
+ghost use Rattle.fisb_app.specs.Stands.{HasRead, HasTried, Holds};
 ghost use Rattle.fisb_app.specs.Work.{opened_with, opening_table};
-ghost use Rattle.script_core.specs.declared.reason.Reason.TheVariants.{NotHere};
-ghost use Rattle.std.specs.Prelude.{Some, if◌then◌else◌};
 
-use crate::line_kinds::{is_empty, is_heard_or_shown, is_station, is_unbuilt, moment_of};
-use crate::party::Party;
 use crate::sender::Sender;
 use crate::stopping::{kept_of, stop_of};
 use fisb_time::Moment;
 use ground_core::AirFrame;
 use life_table::{LifeTable, TableFault};
 use run_core::Stop;
-use script_core::{Line, Reason};
+use script_core::Reason;
 use std::alloc::{AllocError, Global};
 use uplink_frame::StationId;
 
 /// The most frames of a run.
 const FRAME_LIMIT: usize = 65_536;
 
-/// What is sent, and how far the script has come.
+/// What is sent.
 #[derive(Drop)]
 pub(crate) struct Sending<G: Sender> {
     pub(crate) table: LifeTable,
     pub(crate) ground: G,
-    pub(crate) clock: Option<Moment>,
-    /// Whether a line other than an empty one was acted on.
-    pub(crate) has_begun: bool,
 }
 
 impl<G: Sender> Sending<G> {
     /// Before any line, under the table of some bytes.
     pub(crate) fn new(alloc: Global, table: &[u8]) -> Result<Sending<G>, Stop>
         ensures { HasOpened (opened_with (opening_table table.now))
-            (IsSending G.stands table.now []) result }
+            (Holds G.stands table.now []) result }
     {
         let station = StationId {
             lat: 0,
@@ -57,43 +48,7 @@ impl<G: Sender> Sending<G> {
         Ok(Sending {
             table,
             ground: G::new(alloc, station, copy),
-            clock: None,
-            has_begun: false,
         })
-    }
-
-    /// The first reason against a line that does not look at its content.
-    pub(crate) fn refusal(&self, party: Party, line: &Line) -> Option<Reason>
-        ensures { result ≡ front_refusal party self.now.has_begun self.now.clock
-            (line_view line.now) }
-    {
-        if is_unbuilt(line) {
-            return Some(Reason::NotBuilt);
-        }
-        if !takes(party, line) {
-            return Some(Reason::NotHere);
-        }
-        if is_station(line) && self.has_begun {
-            return Some(Reason::Station);
-        }
-        match earlier_than(moment_of(line), self.clock) {
-            Some(kept) => Some(Reason::Clock { kept }),
-            None => None,
-        }
-    }
-
-    /// Sets the clock, and that a line was acted on.
-    pub(crate) fn advance(&mut self, line: &Line)
-        ensures clock { self.new.clock ≡ option_or (moment_of (line_view line.now)) self.old.clock }
-        ensures begun { self.new.has_begun
-            ≡ (self.old.has_begun || not (is_empty (line_view line.now))) }
-        ensures table { self.new.table ≡ self.old.table }
-        ensures ground { self.new.ground ≡ self.old.ground }
-    {
-        if let Some(moment) = moment_of(line) {
-            self.clock = Some(moment);
-        }
-        self.has_begun = self.has_begun || !is_empty(line);
     }
 
     /// Names the station, before any other line.
@@ -108,7 +63,7 @@ impl<G: Sender> Sending<G> {
         ensures named { (bytes : List ℕ) (acted : List ScriptLine) → has_begun acted ≡ false
             → Holds G.stands bytes acted self.old
             → OnOk result (Holds G.stands bytes (station lat lon site ∷ acted) self.new) }
-        ensures rest { KeepsClock self.old self.new }
+        ensures table { self.new.table ≡ self.old.table }
     {
         let station = StationId {
             lat,
@@ -129,7 +84,7 @@ impl<G: Sender> Sending<G> {
             → HasTried (text_refusal self.old.table acted moment version report.now)
             (λ done. Holds G.stands bytes (text moment version report.now ∷ acted) self.new)
             result }
-        ensures rest { KeepsClock self.old self.new }
+        ensures table { self.new.table ≡ self.old.table }
     {
         match self.ground.give_text(moment, version, report) {
             Ok(()) => Ok(()),
@@ -159,7 +114,7 @@ impl<G: Sender> Sending<G> {
             → Holds G.stands bytes acted self.old
             → IfErr result (λ why. turn_refusal count acted moment ≡ Some why) }
         ensures room { OnOk result (count < 65536) }
-        ensures rest { KeepsClock self.old self.new }
+        ensures table { self.new.table ≡ self.old.table }
     {
         if count >= FRAME_LIMIT {
             return Err(Reason::Frames);
@@ -170,29 +125,6 @@ impl<G: Sender> Sending<G> {
                 kept: kept_of(fault),
             }),
         }
-    }
-}
-
-/// Whether a command takes a line.
-fn takes(party: Party, line: &Line) -> bool
-    ensures { party_refusal party (line_view line.now) ≡ (if result then None else Some NotHere) }
-{
-    match party {
-        Party::Link => true,
-        Party::Ground => !is_heard_or_shown(line),
-    }
-}
-
-/// The last moment, where a line's own is below it.
-fn earlier_than(own: Option<Moment>, last: Option<Moment>) -> Option<Moment>
-    ensures { result ≡ earlier_than own last }
-{
-    let Some(moment) = own else {
-        return None;
-    };
-    match last {
-        Some(kept) if moment < kept => Some(kept),
-        _ => None,
     }
 }
 

@@ -10,6 +10,7 @@ ghost use Rattle.fisb_app.specs.Work.{ground_work, link_work, promised_work};
 use crate::command::{Command, command_of};
 use crate::ear::Ear;
 use crate::ground_alone::GroundAlone;
+use crate::in_order::InOrder;
 use crate::laws::promises_are_kept;
 use crate::link::Link;
 use fisb_wire::{Sink, Source};
@@ -153,7 +154,7 @@ pub fn run_link_over<S: Source, K: Sink, E: Ear>(
 {
     runs_agree();
     promises_are_kept();
-    run_core::run::<Link<Ground, E>, S, K>(alloc, source, sink)
+    run_core::run::<InOrder<Link<Ground, E>>, S, K>(alloc, source, sink)
 }
 
 /// Runs `ground`: acts on the lines of the script that the source gives, as a ground alone, and
@@ -177,7 +178,7 @@ pub fn run_ground<S: Source, K: Sink>(alloc: Global, source: &mut S, sink: &mut 
     ensures spare { K.spare sink.new ≡ None }
     ensures reach { K.reach sink.new ≡ K.reach sink.old }
 {
-    run_core::run::<GroundAlone<Ground>, S, K>(alloc, source, sink)
+    run_core::run::<InOrder<GroundAlone<Ground>>, S, K>(alloc, source, sink)
 }
 
 /// Runs `receive`, which is not built yet: nothing is read, and line 1 is refused.

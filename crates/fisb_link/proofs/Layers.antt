@@ -18,8 +18,8 @@ use Rattle.picture_core.specs.Picture.{shown_at, picture}
 use Rattle.picture_core.specs.Shown.{AddsSame, IsShown}
 use Rattle.segment_core.specs.Cutting.{PartsFitFrames}
 use Rattle.segment_core.specs.Joining.{OnlyFilesComplete, FilesComplete, WholeFilesComplete, CompletedGrows}
+use Rattle.apdu_core.specs.Apdu.{file_numbers}
 use Rattle.ground_core.specs.Item.{Item, is_segmented}
-use Rattle.ground_core.specs.History.{file_numbers}
 use Rattle.ground_core.specs.Airing.{Frame, has_key}
 use Rattle.ground_core.specs.Sound.{IsSound, HistoriesHaveItems}
 use Rattle.ground_core.specs.Sent.{IsFrame, ItemsAreOfStations, SegmentsAreOfItems, FramesReadBack}

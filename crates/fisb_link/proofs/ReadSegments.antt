@@ -26,7 +26,6 @@ use Rattle.ground_core.specs.Item.{Item, Segment, segment_of, segments_of, file_
 use Rattle.ground_core.specs.Airing.{Frame}
 use Rattle.ground_core.specs.Sent.{IsAired}
 use Rattle.receiver_core.specs.Reception.{is_large, arrival_with_version, arrival_with_row, arrival_of_apdu, arrival_in}
-use Rattle.receiver_core.specs.Reception as reception
 use Rattle.receiver_core.specs.declared.unread.UnreadReason.{UnreadReason}
 use Rattle.receiver_core.specs.declared.unread.UnreadReason.TheVariants.{Stale, Product, Files}
 use Rattle.fisb_link.proofs.Layers.{Layers, AreAll, Setting}
@@ -106,7 +105,7 @@ body-back layers table all s are item_in of_item =
 -- and is not one of too many
 not-large : (cut : Bool) (fields : Seg) → fields.count ≤ 64
     → is_large (cond cut (Some fields) None) ≡ false
-not-large true fields few = le-ltb reception.most_segments fields.count few
+not-large true fields few = le-ltb files.most_segments fields.count few
 not-large false fields few = refl
 
 -- the time round trip holds for what was live when it was sent, and is heard in time

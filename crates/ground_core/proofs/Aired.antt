@@ -8,10 +8,11 @@ use Rattle.uplink_frame.specs.declared.station.StationId.{StationId}
 use Rattle.list_members.specs.Membership.{IsIn}
 use Rattle.list_members.proofs.Members.{IsIn-before, IsIn-after, IsIn-either, IsIn-from_filter}
 use Rattle.list_members.proofs.ListMembers.{in_map, in_flat_map}
+use Rattle.uplink_frame.specs.UplinkFrame.{frame_room}
 use Rattle.ground_core.specs.Item.{Weather, Item, Segment, segments_of, room_of, end_of}
 use Rattle.ground_core.specs.Update.{weather_of}
 use Rattle.ground_core.specs.History.{Event, accepted, fill, item_of, items_made, new_items, items}
-use Rattle.ground_core.specs.Airing.{Touch, touch, is_live, is_touched, last_touches, waiting, fitting, frame_room, airing, touches, log}
+use Rattle.ground_core.specs.Airing.{Touch, touch, is_live, is_touched, last_touches, waiting, fitting, airing, touches, log}
 use Rattle.ground_core.specs.Broadcast.{IsNotBefore, IsHistory}
 use Rattle.ground_core.specs.Sound.{AreGiven, AcceptedIsGiven}
 use Rattle.ground_core.proofs.Segments.{is_segment_of}

@@ -14,9 +14,10 @@ use Rattle.segment_core.specs.File.{apdu_of_segment}
 use Rattle.list_members.specs.Membership.{IsIn}
 use Rattle.list_members.proofs.Members.{IsIn-before, IsIn-either}
 use Rattle.list_members.proofs.ListMembers.{in_map, in_one, All-members}
+use Rattle.uplink_frame.specs.UplinkFrame.{frame_room}
 use Rattle.ground_core.specs.Item.{Item, Segment, segments_of, file_of, room_of, body_of}
 use Rattle.ground_core.specs.History.{Event, accepted, fill, new_items, items}
-use Rattle.ground_core.specs.Airing.{Frame, frame_after, frame_room, used_room, waiting, log}
+use Rattle.ground_core.specs.Airing.{Frame, frame_after, used_room, waiting, log}
 use Rattle.ground_core.specs.Broadcast.{StationEvent, IsBroadcast, IsNext, history_of, frames_of_event, frames, all_items}
 use Rattle.ground_core.specs.Sound.{IsSound, AcceptedIsGiven, HistoriesHaveItems}
 use Rattle.ground_core.specs.Sent.{IsFrame, FramesReadBack, fisb_frames_of}

@@ -12,9 +12,10 @@ use Rattle.list_members.proofs.Members.{IsIn-filter, IsIn-either}
 use Rattle.list_members.proofs.ListMembers.{in_any, any_in, in_one}
 use Rattle.picture_core.specs.Key.{Key, same_key}
 use Rattle.picture_core.specs.Entry.{Entry}
+use Rattle.apdu_core.specs.Apdu.{file_numbers}
 use Rattle.ground_core.specs.Item.{Weather, Item, is_segmented, end_of}
 use Rattle.ground_core.specs.Update.{weather_of}
-use Rattle.ground_core.specs.History.{Event, accepted, fill, is_kept, is_rival, has_number, file_numbers, free_number, number_for, item_of, items_made, items}
+use Rattle.ground_core.specs.History.{Event, accepted, fill, is_kept, is_rival, has_number, free_number, number_for, item_of, items_made, items}
 use Rattle.ground_core.specs.Airing.{has_key}
 use Rattle.ground_core.specs.Broadcast.{IsHistory}
 use Rattle.ground_core.specs.Sound.{IsSound, IsGiven, AreGiven, AcceptedIsGiven, AreItems, HistoriesHaveItems}

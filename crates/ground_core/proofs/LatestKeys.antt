@@ -1,14 +1,10 @@
 -- What is kept of keys is found by what they are.
-use Rattle.std.proofs.Common.{◌≡◌, ℕ, Bool, true, false, ◌&&◌, ◌==◌, cond, if◌then◌else◌, List, Option, Some, None, option_map, refl, sym, ap, subst, ◌∙◌, inl, inr, arith}
-use Rattle.std.specs.Str.{bytes_eq}
+use Rattle.std.proofs.Common.{◌≡◌, ℕ, Bool, true, false, ◌&&◌, ◌==◌, cond, if◌then◌else◌, Option, Some, None, option_map, refl, sym, ap, subst, ◌∙◌, inl, inr, arith}
 use Rattle.std.specs.Ordering.{nat_cmp, is_eq}
-use Rattle.std.specs.Option.{option_cmp}
-use Rattle.std.specs.Cmp.Lexicographic.{slice_cmp}
 use Rattle.std.specs.BTreeMap.{is_at}
-use Rattle.std.proofs.lemmas.Map.Text.{is_eq-slice_cmp}
 use Rattle.std.proofs.lemmas.Bool.{cases_Bool}
 use Rattle.std.proofs.lemmas.Bool.Decides.{nat_tests}
-use Rattle.text_reports.specs.TextKey.{TextKey, same_text_key, same_third, text_key_cmp}
+use Rattle.text_reports.specs.TextKey.{TextKey, same_text_key}
 use Rattle.picture_core.specs.Key.{Key, radar_block, text_report}
 use Rattle.radar_core.specs.declared.key.BlockKey.{BlockKey}
 use Rattle.std.specs.Rc.{rc_with_value}
@@ -19,27 +15,8 @@ use Rattle.ground_core.specs.Views.{given_view}
 use Rattle.ground_core.specs.declared.numbered_key.NumberedKey.{NumberedKey}
 use Rattle.ground_core.specs.contracts.numbered_key.NumberedKeyOrd.TheImpl as numbered
 use Rattle.ground_core.specs.declared.newest.Given.{Given}
-use Rattle.ground_core.proofs.KeyLemmas.{text_key_is}
+use Rattle.ground_core.proofs.KeyLemmas.{KeyLaws, text_key_is}
 use Rattle.ground_core.proofs.MapKeys.{eq_then, eq_numbers}
-
-third_cmp : (a b : Option (List ℕ)) → is_eq (option_cmp (slice_cmp nat_cmp) a b) ≡ same_third a b
-third_cmp None None = refl
-third_cmp None (Some w) = refl
-third_cmp (Some v) None = refl
-third_cmp (Some v) (Some w) = is_eq-slice_cmp v w
-
-and_assoc : (a b c : Bool) → (a && (b && c)) ≡ ((a && b) && c)
-and_assoc true b c = refl
-and_assoc false b c = refl
-
-key_cmp_eq : (a b : TextKey) → is_eq (text_key_cmp a b) ≡ same_text_key a b
-key_cmp_eq a b =
-    eq_then (slice_cmp nat_cmp a.kind b.kind) _
-    ∙ ap (λ x. is_eq (slice_cmp nat_cmp a.kind b.kind) && x) (eq_then (slice_cmp nat_cmp a.place b.place) _)
-    ∙ and_assoc (is_eq (slice_cmp nat_cmp a.kind b.kind)) (is_eq (slice_cmp nat_cmp a.place b.place)) (is_eq (option_cmp (slice_cmp nat_cmp) a.third b.third))
-    ∙ ap (λ x. (x && is_eq (slice_cmp nat_cmp a.place b.place)) && is_eq (option_cmp (slice_cmp nat_cmp) a.third b.third)) (is_eq-slice_cmp a.kind b.kind)
-    ∙ ap (λ x. (bytes_eq a.kind b.kind && x) && is_eq (option_cmp (slice_cmp nat_cmp) a.third b.third)) (is_eq-slice_cmp a.place b.place)
-    ∙ ap (λ x. (bytes_eq a.kind b.kind && bytes_eq a.place b.place) && x) (third_cmp a.third b.third)
 
 -- the key of the map that has another report's key
 abbrev pub with_key : NumberedKey → TextKey → NumberedKey
@@ -52,13 +29,13 @@ and_false false = refl
 same_number : (a b : ℕ) → a ≡ b → (a == b) ≡ true
 same_number a b e = grind (arith, nat_tests)
 
-pub key_at : (a : NumberedKey) (k : TextKey) → is_at (numbered.ghosts.cmp a) (with_key a k) ≡ same_text_key (report_key a) k
-key_at a k =
+pub key_at : KeyLaws → (a : NumberedKey) (k : TextKey) → is_at (numbered.ghosts.cmp a) (with_key a k) ≡ same_text_key (report_key a) k
+key_at keys a k =
     let first : Bool = is_eq (nat_cmp a.number (place_number k.place)) in
-    eq_then (nat_cmp a.number (place_number k.place)) _ ∙ ap (λ x. first && x) (key_cmp_eq (report_key a) k)
+    eq_then (nat_cmp a.number (place_number k.place)) _ ∙ ap (λ x. first && x) (keys.agrees (text_report (report_key a)) (text_report k))
     ∙ (elim (cases_Bool (same_text_key (report_key a) k)) [
       | inl t ↦ (
-          let same : report_key a ≡ k = text_key_is (report_key a) k t in
+          let same : report_key a ≡ k = text_key_is keys (report_key a) k t in
           let numbers : a.number ≡ place_number k.place = a.numbered ∙ ap (λ (x : TextKey). place_number x.place) same in
           rw t (and_true first ∙ eq_numbers a.number (place_number k.place) ∙ same_number a.number (place_number k.place) numbers))
       | inr f ↦ rw f (and_false first)
@@ -72,34 +49,34 @@ by_key P r f (radar_block k) = r k
 by_key P r f (text_report k) = f k
 
 -- what is put under a key is found under it alone
-pub put_latest : (a : NumberedKey) (own k : TextKey) (g : Given) (new old : Option Given) → report_key a ≡ own
+pub put_latest : KeyLaws → (a : NumberedKey) (own k : TextKey) (g : Given) (new old : Option Given) → report_key a ≡ own
     → new ≡ cond (is_at (numbered.ghosts.cmp a) (with_key a k)) (Some g) old
     → option_map given_view new ≡ (if same_text_key own k then Some (given_view g) else option_map given_view old)
-put_latest a own k g new old is e =
-    ap (option_map given_view) e ∙ ap (λ b. option_map given_view (cond b (Some g) old)) (key_at a k ∙ ap (λ x. same_text_key x k) is)
+put_latest keys a own k g new old is e =
+    ap (option_map given_view) e ∙ ap (λ b. option_map given_view (cond b (Some g) old)) (key_at keys a k ∙ ap (λ x. same_text_key x k) is)
     ∙ (elim (cases_Bool (same_text_key own k)) [ inl t ↦ rw t refl | inr f ↦ rw f refl ])
 
 -- what is over and is taken out under a key is found no more
-pub removed_latest : (a : NumberedKey) (k : TextKey) (moment : ℕ) (old : TextKey → Option Given) (new : Option Given)
+pub removed_latest : KeyLaws → (a : NumberedKey) (k : TextKey) (moment : ℕ) (old : TextKey → Option Given) (new : Option Given)
     → while_living moment (option_map given_view (old (report_key a))) ≡ None
     → new ≡ cond (is_at (numbered.ghosts.cmp a) (with_key a k)) None (old k)
     → option_map given_view new ≡ (if same_text_key (report_key a) k then while_living moment (option_map given_view (old k)) else option_map given_view (old k))
-removed_latest a k moment old new n e =
-    ap (option_map given_view) e ∙ ap (λ b. option_map given_view (cond b None (old k))) (key_at a k)
+removed_latest keys a k moment old new n e =
+    ap (option_map given_view) e ∙ ap (λ b. option_map given_view (cond b None (old k))) (key_at keys a k)
     ∙ (elim (cases_Bool (same_text_key (report_key a) k)) [
       | inl t ↦ (
-          let same : report_key a ≡ k = text_key_is (report_key a) k t in
+          let same : report_key a ≡ k = text_key_is keys (report_key a) k t in
           let over : while_living moment (option_map given_view (old k)) ≡ None = subst (λ x. while_living moment (option_map given_view (old x)) ≡ None) same n in
           rw t (sym over))
       | inr f ↦ rw f refl
     ])
 
 -- what lives stays
-pub living_latest : (own k : TextKey) (moment : ℕ) (old : TextKey → Option Latest) → while_living moment (old own) ≡ old own
+pub living_latest : KeyLaws → (own k : TextKey) (moment : ℕ) (old : TextKey → Option Latest) → while_living moment (old own) ≡ old own
     → old k ≡ (if same_text_key own k then while_living moment (old k) else old k)
-living_latest own k moment old lives = elim (cases_Bool (same_text_key own k)) [
+living_latest keys own k moment old lives = elim (cases_Bool (same_text_key own k)) [
   | inl t ↦ (
-      let here : while_living moment (old k) ≡ old k = subst (λ x. while_living moment (old x) ≡ old x) (text_key_is own k t) lives in
+      let here : while_living moment (old k) ≡ old k = subst (λ x. while_living moment (old x) ≡ old x) (text_key_is keys own k t) lives in
       rw t (sym here))
   | inr f ↦ rw f refl
 ]

@@ -8,9 +8,10 @@ use Rattle.std.proofs.lemmas.List.FromFn.{map-range_with_len_more}
 use Rattle.std.proofs.lemmas.List.Elements.{filter-append}
 use Rattle.life_table.specs.LifeTable.{LifeTable, TextRow, text_row, longest}
 use Rattle.uplink_frame.specs.declared.station.StationId.{StationId}
+use Rattle.apdu_core.specs.Apdu.{file_numbers}
 use Rattle.ground_core.specs.Item.{Weather, Item, is_segmented}
 use Rattle.ground_core.specs.Update.{text}
-use Rattle.ground_core.specs.History.{Event, accepted, fill, items, items_made, item_of, is_kept, is_rival, has_number, free_number, number_for, file_numbers}
+use Rattle.ground_core.specs.History.{Event, accepted, fill, items, items_made, item_of, is_kept, is_rival, has_number, free_number, number_for}
 use Rattle.ground_core.specs.Refusal.{no_file}
 use Rattle.ground_core.specs.Broadcast.{IsHistory}
 use Rattle.ground_core.specs.StandsFor.{is_filed}

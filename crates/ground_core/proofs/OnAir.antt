@@ -13,6 +13,7 @@ use Rattle.ground_core.specs.StandsFor.{StandsFor, clock_of}
 use Rattle.segment_core.specs.Store.{last_above}
 use Rattle.ground_core.specs.Views.{latest_at, pieces_in}
 use Rattle.ground_core.specs.declared.ground.Ground.{Ground}
+use Rattle.ground_core.proofs.KeyLemmas.{KeyLaws}
 use Rattle.ground_core.proofs.Segments.{SizesOfApdus, body_size}
 use Rattle.ground_core.proofs.Turns.{frame_of}
 use Rattle.ground_core.proofs.State.{filled_of, clock_below, lives_same}
@@ -20,15 +21,15 @@ use Rattle.ground_core.proofs.State.{filled_of, clock_below, lives_same}
 abbrev pub sent_of : LifeTable → StationId → List Event → ℕ → List Segment
 sent_of table station history moment = airing (items table station history) (log table station history) moment
 
-pub aired_pieces : (table : LifeTable) (station : StationId) (history : List Event) (moment slot : ℕ) (old : Ground) (new : List Piece) → StandsFor table station old history
+pub aired_pieces : KeyLaws → (table : LifeTable) (station : StationId) (history : List Event) (moment slot : ℕ) (old : Ground) (new : List Piece) → StandsFor table station old history
     → last_above (clock_of history) moment ≡ None
     → filter (live_by (latest_at old.newest) moment) new
     ≡ left_pieces 424 (filter (live_by (latest_at old.newest) moment) (pieces_in old.line))
     ++ fitting_pieces 424 (filter (live_by (latest_at old.newest) moment) (pieces_in old.line))
     → fitting_pieces 424 (filter (live_by (latest_at old.newest) moment) (pieces_in old.line)) ≡ map piece_of (sent_of table station history moment)
-aired_pieces table station history moment slot old new s e n =
+aired_pieces keys table station history moment slot old new s e n =
     ap (λ f. fitting_pieces 424 (filter f (pieces_in old.line))) (lives_same table station history moment old s (clock_below history moment e))
-    ∙ sym (filled_of table station history moment slot old new s e n).aired
+    ∙ sym (filled_of keys table station history moment slot old new s e n).aired
 
 pub frames_are : (ps : List Piece) (sent : List Segment) → ps ≡ map piece_of sent → map frame_of ps ≡ map (λ s. fisb_frame (body_of s)) sent
 frames_are ps sent e = ap (map frame_of) e ∙ each sent where

@@ -13,7 +13,7 @@ use Rattle.ground_core.specs.Putting.{IsPut}
 use Rattle.ground_core.specs.Views.{latest_at, pieces_in, piece_at}
 use Rattle.ground_core.specs.declared.item.SentItem.{SentItem}
 use Rattle.ground_core.specs.declared.ground.Ground.{Ground}
-use Rattle.ground_core.proofs.KeyLemmas.{text_key_is}
+use Rattle.ground_core.proofs.KeyLemmas.{KeyLaws, text_key_is}
 
 pub placed_among : (latest : Key → Option Latest) (old new : List Piece) → ((p : Piece) → IsIn p old → IsIn p new) → ArePlaced latest old → ArePlaced latest new
 placed_among latest old new f h key kept e =
@@ -81,14 +81,14 @@ first_number : (f : ℕ → Piece) (n : ℕ) → 1 ≤ n → IsIn (f 1) (map f (
 first_number f zero le = absurd (omega arith)
 first_number f (suc n) le = inl refl
 
-same_report : (a : TextKey) (key : Key) → same_key (text_report a) key ≡ true → text_report a ≡ key
-same_report a (radar_block b) h = cc
-same_report a (text_report b) h = ap text_report (text_key_is a b h)
+same_report : KeyLaws → (a : TextKey) (key : Key) → same_key (text_report a) key ≡ true → text_report a ≡ key
+same_report keys a (radar_block b) h = cc
+same_report keys a (text_report b) h = ap text_report (text_key_is keys a b h)
 
 -- an item that is put has a first segment
-pub placed_put : (old new : Ground) (moment : ℕ) (item : SentItem) → IsPut old moment item new → ArePlaced (latest_at old.newest) (pieces_in old.line)
+pub placed_put : KeyLaws → (old new : Ground) (moment : ℕ) (item : SentItem) → IsPut old moment item new → ArePlaced (latest_at old.newest) (pieces_in old.line)
     → ArePlaced (latest_at new.newest) (pieces_in new.line)
-placed_put old new moment item put h key kept e =
+placed_put keys old new moment item put h key kept e =
     let own : Key = text_report (report_key item.key) in
     elim (cases_Bool (same_key own key)) [
       | inl t ↦ (
@@ -100,7 +100,7 @@ placed_put old new moment item put h key kept e =
             piece = piece_at item 1;
             waits = subst (IsIn (piece_at item 1)) (sym put.line) (IsIn-after (piece_at item 1) (pieces_in old.line) _ (first_number (piece_at item) item.count item.some));
             serial = serial;
-            of_key = inl (sym (same_report (report_key item.key) key t));
+            of_key = inl (sym (same_report keys (report_key item.key) key t));
           })
       | inr f ↦ (
           let before : latest_at old.newest key ≡ Some kept

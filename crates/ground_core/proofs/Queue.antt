@@ -15,18 +15,19 @@ use Rattle.ground_core.specs.Update.{Update, weather_of}
 use Rattle.ground_core.specs.Airing.{log, airing, waiting, fitting, is_live, has_key}
 use Rattle.ground_core.specs.Piece.{Piece, Latest, piece_of, lives_as, live_by, fitting_pieces, left_pieces}
 use Rattle.ground_core.specs.StandsFor.{latest_of, latest_of_item}
+use Rattle.ground_core.proofs.KeyLemmas.{KeyLaws}
 use Rattle.ground_core.proofs.ListLemmas.{Each, Each-weaker, Each-in, Each-all, Each-map, filter_same, filter_all, filter_less, filter-map, list_any-weaker}
 use Rattle.ground_core.proofs.Order.{last_places, segments_in, stands_in, waiting_is, turned, Once, last_places-append, last_places_once}
 use Rattle.ground_core.proofs.Segments.{is_segment_of}
 use Rattle.ground_core.proofs.Serials.{Numbered, numbered_items, serial_in, IsLogged, logged, log_given, log_filled, Each-last_places, live_same, latest_push}
 
 -- the pieces of segments that were given are live where their items are
-pub pieces_live : (all : List Item) (moment : ℕ) (segments : List Segment) → Numbered 0 all → Each (IsLogged all) segments
+pub pieces_live : KeyLaws → (all : List Item) (moment : ℕ) (segments : List Segment) → Numbered 0 all → Each (IsLogged all) segments
     → filter (live_by (latest_of all) moment) (map piece_of segments) ≡ map piece_of (filter (λ s. is_live all moment s.item) segments)
-pieces_live all moment segments n h =
+pieces_live keys all moment segments n h =
     filter-map (live_by (latest_of all) moment) piece_of segments
     ∙ ap (map piece_of) (filter_same _ (λ s. is_live all moment s.item) segments
-    (Each-weaker _ _ (λ s k. live_same all moment s n k.item) segments h))
+    (Each-weaker _ _ (λ s k. live_same keys all moment s n k.item) segments h))
 
 abbrev pub places : LifeTable → StationId → List Event → List Segment
 places table station history = last_places (segments_in (log table station history))
@@ -35,12 +36,12 @@ pub logged_places : (table : LifeTable) (station : StationId) (history : List Ev
     → Each (IsLogged (items table station history)) (places table station history)
 logged_places table station history = Each-last_places _ _ (logged table station history)
 
-pub waits_are : (table : LifeTable) (station : StationId) (history : List Event) (moment : ℕ)
+pub waits_are : KeyLaws → (table : LifeTable) (station : StationId) (history : List Event) (moment : ℕ)
     → map piece_of (waiting (items table station history) (log table station history) moment)
     ≡ filter (live_by (latest_of (items table station history)) moment) (map piece_of (places table station history))
-waits_are table station history moment =
+waits_are keys table station history moment =
     ap (map piece_of) (waiting_is (items table station history) (log table station history) moment)
-    ∙ sym (pieces_live (items table station history) moment (places table station history) (numbered_items table station history) (logged_places table station history))
+    ∙ sym (pieces_live keys (items table station history) moment (places table station history) (numbered_items table station history) (logged_places table station history))
 
 -- a test that passes less
 pub less_same : (p q : Piece → Bool) (xs ys : List Piece) → Each (λ x. q x ≡ true → p x ≡ true) xs → Each (λ x. q x ≡ true → p x ≡ true) ys
@@ -59,15 +60,15 @@ later_lives latest clock moment p le h =
     (λ key k. lives_earlier clock moment p.serial (latest key) le k) p.keys h
 
 -- at a later moment
-pub line_later : (table : LifeTable) (station : StationId) (history : List Event) (clock moment : ℕ) (line : List Piece) → clock ≤ moment
+pub line_later : KeyLaws → (table : LifeTable) (station : StationId) (history : List Event) (clock moment : ℕ) (line : List Piece) → clock ≤ moment
     → filter (live_by (latest_of (items table station history)) clock) line ≡ map piece_of (waiting (items table station history) (log table station history) clock)
     → filter (live_by (latest_of (items table station history)) moment) line ≡ map piece_of (waiting (items table station history) (log table station history) moment)
-line_later table station history clock moment line le e =
+line_later keys table station history clock moment line le e =
     let latest : Key → Option Latest = latest_of (items table station history) in
     let less : (xs : List Piece) → Each (λ x. live_by latest moment x ≡ true → live_by latest clock x ≡ true) xs
     = λ (xs : List Piece). Each-all _ (λ x. later_lives latest clock moment x le) xs in
     less_same (live_by latest clock) (live_by latest moment) line (map piece_of (places table station history)) (less line) (less _)
-    (e ∙ waits_are table station history clock) ∙ sym (waits_are table station history moment)
+    (e ∙ waits_are keys table station history clock) ∙ sym (waits_are keys table station history moment)
 
 -- pieces fit as their segments do
 pub fitting_pieces_are : (room : ℕ) (xs : List Segment) → map piece_of (fitting room xs) ≡ fitting_pieces room (map piece_of xs)
@@ -119,16 +120,16 @@ waiting_filled table station past moment slot =
     ∙ ap (λ l. filter live (last_places l)) (log_filled table station past moment slot)
     ∙ turned live before front (left 424 now) cut
 
-pub filled : (table : LifeTable) (station : StationId) (past : List Event) (clock moment slot : ℕ) (old new : List Piece) → clock ≤ moment
+pub filled : KeyLaws → (table : LifeTable) (station : StationId) (past : List Event) (clock moment slot : ℕ) (old new : List Piece) → clock ≤ moment
     → filter (live_by (latest_of (items table station past)) clock) old ≡ map piece_of (waiting (items table station past) (log table station past) clock)
     → filter (live_by (latest_of (items table station past)) moment) new
     ≡ left_pieces 424 (filter (live_by (latest_of (items table station past)) moment) old)
     ++ fitting_pieces 424 (filter (live_by (latest_of (items table station past)) moment) old)
     → IsFilled table station past moment slot old new
-filled table station past clock moment slot old new le e n =
+filled keys table station past clock moment slot old new le e n =
     let all : List Item = items table station past in
     let now : List Segment = waiting all (log table station past) moment in
-    let live : filter (live_by (latest_of all) moment) old ≡ map piece_of now = line_later table station past clock moment old le e in
+    let live : filter (live_by (latest_of all) moment) old ≡ map piece_of now = line_later keys table station past clock moment old le e in
     record {
       aired = fitting_pieces_are 424 now ∙ ap (fitting_pieces 424) (sym live);
       line = n ∙ ap (λ l. left_pieces 424 l ++ fitting_pieces 424 l) live
@@ -198,14 +199,14 @@ older_lives all item clock moment p e le lt h =
     (λ key k. older_serial all item clock moment p.serial key e le lt k) p.keys h
 
 -- what waits behind an item that was given
-pub given_line : (table : LifeTable) (station : StationId) (past : List Event) (moment : ℕ) (update : Update) (w : Weather) (clock : ℕ) (old new : List Piece)
+pub given_line : KeyLaws → (table : LifeTable) (station : StationId) (past : List Event) (moment : ℕ) (update : Update) (w : Weather) (clock : ℕ) (old new : List Piece)
     → weather_of table update ≡ w ∷ [] → clock ≤ moment
     → Each (λ p. p.serial < length (items table station past)) old
     → filter (live_by (latest_of (items table station past)) clock) old ≡ map piece_of (waiting (items table station past) (log table station past) clock)
     → new ≡ old ++ map piece_of (segments_of (item_of table station moment (items table station past) w))
     → filter (live_by (latest_of (items table station (accepted moment update ∷ past))) moment) new
     ≡ map piece_of (waiting (items table station (accepted moment update ∷ past)) (log table station (accepted moment update ∷ past)) moment)
-given_line table station past moment update w clock old new we le low e n =
+given_line keys table station past moment update w clock old new we le low e n =
     let all : List Item = items table station past in
     let item : Item = item_of table station moment all w in
     let history : List Event = accepted moment update ∷ past in
@@ -223,11 +224,11 @@ given_line table station past moment update w clock old new we le low e n =
     (Each-weaker _ _ (λ p lt. older_lives all item clock moment p refl le lt) old low)
     (Each-map _ piece_of (places table station past) (Each-weaker _ _ (λ s k.
     older_lives all item clock moment (piece_of s) refl le (let b = serial_in 0 all s.item (numbered_items table station past) k.item in omega (arith, b.1))) (places table station past) (logged_places table station past)))
-    (e ∙ waits_are table station past clock) in
+    (e ∙ waits_are keys table station past clock) in
     ap (λ is. filter (live_by (latest_of is) moment) new) items_are
     ∙ ap (filter test) n ∙ filter-append test old (map piece_of segments)
     ∙ ap (λ l. l ++ filter test (map piece_of segments)) older
     ∙ sym (filter-append test (map piece_of (places table station past)) (map piece_of segments))
     ∙ ap (filter test) (sym (map-append piece_of (places table station past) segments) ∙ ap (map piece_of) (sym order))
     ∙ ap (λ is. filter (live_by (latest_of is) moment) (map piece_of (places table station history))) (sym items_are)
-    ∙ sym (waits_are table station history moment)
+    ∙ sym (waits_are keys table station history moment)

@@ -9,19 +9,16 @@ use Rattle.list_members.proofs.Members.{IsIn-before, IsIn-after}
 use Rattle.list_members.proofs.ListMembers.{in_flat_map, in_any}
 use Rattle.life_table.specs.LifeTable.{LifeTable}
 use Rattle.uplink_frame.specs.declared.station.StationId.{StationId}
-use Rattle.std.specs.Ordering.{nat_cmp}
-use Rattle.std.specs.declared.cmp.Ordering.TheVariants.{Equal}
-use Rattle.std.proofs.lemmas.Cmp.{nat_cmp_total, tied_itself}
-use Rattle.radar_core.specs.Keys.{bit}
-use Rattle.picture_core.specs.Key.{Key, radar_block, text_report, same_key}
+use Rattle.picture_core.specs.Key.{Key, same_key}
 use Rattle.picture_core.specs.Entry.{Entry}
+use Rattle.uplink_frame.specs.UplinkFrame.{frame_room}
 use Rattle.ground_core.specs.Item.{Weather, Item, Segment, segments_of, end_of, room_of}
 use Rattle.ground_core.specs.History.{Event, accepted, fill, items, new_items, items_made, item_of}
 use Rattle.ground_core.specs.Update.{Update, weather_of}
-use Rattle.ground_core.specs.Airing.{Touch, touch, log, airing, waiting, fitting, frame_room, has_key, is_newest_for, is_live}
+use Rattle.ground_core.specs.Airing.{Touch, touch, log, airing, waiting, fitting, has_key, is_newest_for, is_live}
 use Rattle.ground_core.specs.Piece.{Latest, piece_of, lives_as, live_by}
 use Rattle.ground_core.specs.StandsFor.{latest_after, latest_of, latest_of_item}
-use Rattle.ground_core.proofs.KeyLemmas.{text_key_itself}
+use Rattle.ground_core.proofs.KeyLemmas.{KeyLaws, same_key_itself}
 use Rattle.ground_core.proofs.ListLemmas.{Each, Each-append, Each-weaker, Each-filter, Each-in, list_any-map, list_any-same}
 use Rattle.ground_core.proofs.Segments.{is_segment_of}
 use Rattle.ground_core.proofs.Order.{last_places, segments_in, stands_in, waiting_is}
@@ -181,13 +178,6 @@ latest_is n key (o ∷ more) before item h i k = elim i [
       rw head (latest_is (n + 1) key more (if has_key key o then Some (latest_of_item o) else before) item h.1 j k))
 ]
 
-itself_cmp : (n : ℕ) → nat_cmp n n ≡ Equal
-itself_cmp n = tied_itself nat_cmp_total n
-
-pub same_key_itself : (key : Key) → same_key key key ≡ true
-same_key_itself (radar_block key) = rw (itself_cmp key.product, itself_cmp key.scale, itself_cmp (bit key.south), itself_cmp key.number) refl
-same_key_itself (text_report key) = text_key_itself key
-
 -- the item of a serial has one end
 abbrev EndsAs : ℕ → ℕ → Option Latest → Type 0
 EndsAs serial until None = Unit {0}
@@ -233,9 +223,9 @@ one_serial n (z ∷ zs) x y h i j e = elim i [
 ]
 
 -- so the last serials of its keys tell whether an item is live
-pub live_same : (all : List Item) (moment : ℕ) (s : Segment) → Numbered 0 all → IsIn s.item all
+pub live_same : KeyLaws → (all : List Item) (moment : ℕ) (s : Segment) → Numbered 0 all → IsIn s.item all
     → live_by (latest_of all) moment (piece_of s) ≡ is_live all moment s.item
-live_same all moment s h i =
+live_same keys all moment s h i =
     let until : ℕ = end_of s.item.weather in
     let ends = Each-in (λ o. o.serial ≡ s.item.serial → end_of o.weather ≡ until) all (λ o j e.
     ap (λ (x : Item). end_of x.weather) (one_serial 0 all o s.item h j i e)) in
@@ -244,7 +234,7 @@ live_same all moment s h i =
     (Each-in _ s.item.weather.entries (λ entry j.
     lives_split moment s.item.serial until (latest_of all entry.key) (ends_as s.item.serial until entry.key all None ends tt)
     ∙ ap (λ b. nat_lt moment until && b)
-    (latest_is 0 entry.key all None s.item h i (in_any (λ e. same_key entry.key e.key) entry s.item.weather.entries j (same_key_itself entry.key)))))
+    (latest_is 0 entry.key all None s.item h i (in_any (λ e. same_key entry.key e.key) entry s.item.weather.entries j (same_key_itself keys entry.key)))))
     ∙ any_and (nat_lt moment until) (λ entry. is_newest_for all s.item entry.key) s.item.weather.entries
 
 pub latest_push : (key : Key) (xs : List Item) (item : Item) (before : Option Latest)

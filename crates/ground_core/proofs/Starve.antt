@@ -14,6 +14,7 @@ use Rattle.ground_core.specs.History.{Event, accepted, fill, moment_of, items, i
 use Rattle.ground_core.specs.Airing.{log, fitting, is_live}
 use Rattle.ground_core.specs.Broadcast.{IsHistory, IsNotBefore}
 use Rattle.ground_core.specs.Starving.{bytes_of, waiting_after, fills, WaitsStill, AreFrom, NoStarvation}
+use Rattle.ground_core.proofs.KeyLemmas.{KeyLaws}
 use Rattle.ground_core.proofs.ListLemmas.{Each, Each-weaker, Each-all, Each-at, filter_less}
 use Rattle.ground_core.proofs.Order.{last_places, segments_in, waiting_is}
 use Rattle.ground_core.proofs.Serials.{Numbered, numbered_items, serial_in, IsLogged, logged, logged_more, log_given, Each-waiting, live_same}
@@ -197,19 +198,19 @@ waiting_later table station history clock moment le =
     ∙ ap (filter (λ s. is_live all moment s.item)) (sym (waiting_is all (log table station history) clock))
 
 -- an older item is live behind a new one only where it was live before
-live_before : (all : List Item) (item : Item) (moment : ℕ) (s : Segment) → item.serial ≡ length all → Numbered 0 all → Numbered 0 (all ++ item ∷ []) → IsLogged all s
+live_before : KeyLaws → (all : List Item) (item : Item) (moment : ℕ) (s : Segment) → item.serial ≡ length all → Numbered 0 all → Numbered 0 (all ++ item ∷ []) → IsLogged all s
     → is_live (all ++ item ∷ []) moment s.item ≡ true → is_live all moment s.item ≡ true
-live_before all item moment s e n m h t =
+live_before keys all item moment s e n m h t =
     let b = serial_in 0 all s.item n h.item in
-    sym (live_same all moment s n h.item)
-    ∙ older_lives all item moment moment (piece_of s) e (omega arith) (omega (arith, b.1)) (live_same (all ++ item ∷ []) moment s m (IsIn-before s.item all (item ∷ []) h.item) ∙ t)
+    sym (live_same keys all moment s n h.item)
+    ∙ older_lives all item moment moment (piece_of s) e (omega arith) (omega (arith, b.1)) (live_same keys (all ++ item ∷ []) moment s m (IsIn-before s.item all (item ∷ []) h.item) ∙ t)
 
 -- behind an update that gives one item
-waiting_given : (table : LifeTable) (station : StationId) (history : List Event) (given moment : ℕ) (update : Update) (w : Weather)
+waiting_given : KeyLaws → (table : LifeTable) (station : StationId) (history : List Event) (given moment : ℕ) (update : Update) (w : Weather)
     → weather_of table update ≡ w ∷ []
     → (more : List Segment) × (waiting_after table station (accepted given update ∷ history) moment
     ≡ filter (λ s. is_live (items table station (accepted given update ∷ history)) moment s.item) (waiting_after table station history moment) ++ more)
-waiting_given table station history given moment update w we =
+waiting_given keys table station history given moment update w we =
     let all : List Item = items table station history in
     let item : Item = item_of table station given all w in
     let after : List Event = accepted given update ∷ history in
@@ -226,7 +227,7 @@ waiting_given table station history given moment update w we =
     let live : Segment → Bool = λ s. is_live (all ++ item ∷ []) moment s.item in
     let less : filter live (filter (λ s. is_live all moment s.item) (last_places before)) ≡ filter live (last_places before)
     = filter_less (λ s. is_live all moment s.item) live (last_places before)
-    (Each-weaker _ _ (λ s h. live_before all item moment s refl numbered all_numbered h) (last_places before) (logged_places table station history)) in (
+    (Each-weaker _ _ (λ s h. live_before keys all item moment s refl numbered all_numbered h) (last_places before) (logged_places table station history)) in (
       filter live segments,
       waiting_is (items table station after) (log table station after) moment
           ∙ ap (λ is. filter (λ s. is_live is moment s.item) (last_places (segments_in (log table station after)))) items_are
@@ -251,15 +252,15 @@ logged_later : (table : LifeTable) (station : StationId) (past later : List Even
 logged_later table station past [] s h = h
 logged_later table station past (event ∷ later) s h = logged_more (items table station (later ++ past)) _ s (logged_later table station past later s h)
 
-placed : PartsFitFrames → (table : LifeTable) (station : StationId) (past later : List Event) (at : ℕ) (s : Segment) (before after : List Segment)
+placed : KeyLaws → PartsFitFrames → (table : LifeTable) (station : StationId) (past later : List Event) (at : ℕ) (s : Segment) (before after : List Segment)
     → IsHistory table station (later ++ past) → AreFrom at later → IsLogged (items table station past) s
     → waiting_after table station past at ≡ before ++ s ∷ after → WaitsStill table station past s later
     → (moment : ℕ) → IsLater at moment later → is_live (items table station (later ++ past)) moment s.item ≡ true
     → IsPlaced (fills later) (bytes_of before) s (waiting_after table station (later ++ past) moment)
-placed fit table station past [] at s before after h f l e w moment le t =
+placed keys fit table station past [] at s before after h f l e w moment le t =
     subst (IsPlaced 0 (bytes_of before) s) (sym (waiting_later table station past at moment le))
     (placed-filter 0 (bytes_of before) s _ (waiting_after table station past at) t (record { before = before; after = after; line_is = e; near = inl (omega arith) }))
-placed fit table station past (accepted given (text version chars) ∷ later) at s before after h f l e w moment le t =
+placed keys fit table station past (accepted given (text version chars) ∷ later) at s before after h f l e w moment le t =
     let history : List Event = later ++ past in
     let all : List Item = items table station history in
     let c = clear table all given version chars h.0.is_accepted.1 in
@@ -268,18 +269,18 @@ placed fit table station past (accepted given (text version chars) ∷ later) at
     let items_are : items table station (accepted given (text version chars) ∷ history) ≡ all ++ item ∷ [] = ap (λ ws. all ++ items_made table station given all ws) we in
     let m = subst (Numbered 0) items_are (numbered_items table station (accepted given (text version chars) ∷ history)) in
     let lived : is_live all moment s.item ≡ true
-    = live_before all item moment s refl (numbered_items table station history) m (logged_later table station past later s l)
+    = live_before keys all item moment s refl (numbered_items table station history) m (logged_later table station past later s l)
     (ap (λ is. is_live is moment s.item) (sym items_are) ∙ t) in
-    let g = waiting_given table station history given moment (text version chars) (text_weather c.key c.row version chars) we in
-    let old = placed fit table station past later at s before after h.1 f.1 l e w moment (later_more at given moment past later (accepted given (text version chars)) le h.0.not_before f.0) lived in
+    let g = waiting_given keys table station history given moment (text version chars) (text_weather c.key c.row version chars) we in
+    let old = placed keys fit table station past later at s before after h.1 f.1 l e w moment (later_more at given moment past later (accepted given (text version chars)) le h.0.not_before f.0) lived in
     subst (IsPlaced (fills later) (bytes_of before) s) (sym g.1) (placed-more (fills later) (bytes_of before) s _ g.0 (placed-filter (fills later) (bytes_of before) s _ _ t old))
-placed fit table station past (fill now slot ∷ later) at s before after h f l e w moment le t =
+placed keys fit table station past (fill now slot ∷ later) at s before after h f l e w moment le t =
     let history : List Event = later ++ past in
     let all : List Item = items table station history in
     let line : List Segment = waiting_after table station history now in
     let lived : is_live all now s.item ≡ true
     = (IsIn-from_filter (λ x. is_live all now x.item) s _ (subst (IsIn s) (waiting_is all (log table station history) now) w.0)).1 in
-    let old = placed fit table station past later at s before after h.1 f.1 l e w.2 now (later_now at past later (fill now slot) h.0.not_before f.0) lived in
+    let old = placed keys fit table station past later at s before after h.1 f.1 l e w.2 now (later_now at past later (fill now slot) h.0.not_before f.0) lived in
     let new = placed-filled (fills later) (bytes_of before) s line (rooms_fit fit table station history now) w.1 old in
     subst (IsPlaced (fills later + 1) (bytes_of before) s) (sym (waiting_later table station (fill now slot ∷ history) now moment le))
     (placed-filter (fills later + 1) (bytes_of before) s _ _ t
@@ -288,23 +289,23 @@ placed fit table station past (fill now slot ∷ later) at s before after h f l 
 few_left : (count bytes : ℕ) → 425 * count ≤ 2 * bytes → count + 1 < 2 * bytes / 425 + 2
 few_left count bytes h = omega arith
 
-run : PartsFitFrames → (table : LifeTable) (station : StationId) (past later : List Event) (at : ℕ) (s : Segment) (before after : List Segment)
+run : KeyLaws → PartsFitFrames → (table : LifeTable) (station : StationId) (past later : List Event) (at : ℕ) (s : Segment) (before after : List Segment)
     → IsHistory table station (later ++ past) → AreFrom at later → IsLogged (items table station past) s
     → waiting_after table station past at ≡ before ++ s ∷ after → WaitsStill table station past s later
     → fills later < 2 * bytes_of before / 425 + 2
-run fit table station past [] at s before after h f l e w = omega arith
-run fit table station past (accepted given update ∷ later) at s before after h f l e w = run fit table station past later at s before after h.1 f.1 l e w
-run fit table station past (fill now slot ∷ later) at s before after h f l e w =
+run keys fit table station past [] at s before after h f l e w = omega arith
+run keys fit table station past (accepted given update ∷ later) at s before after h f l e w = run keys fit table station past later at s before after h.1 f.1 l e w
+run keys fit table station past (fill now slot ∷ later) at s before after h f l e w =
     let history : List Event = later ++ past in
     let all : List Item = items table station history in
     let lived : is_live all now s.item ≡ true
     = (IsIn-from_filter (λ x. is_live all now x.item) s _ (subst (IsIn s) (waiting_is all (log table station history) now) w.0)).1 in
-    let old = placed fit table station past later at s before after h.1 f.1 l e w.2 now (later_now at past later (fill now slot) h.0.not_before f.0) lived in
+    let old = placed keys fit table station past later at s before after h.1 f.1 l e w.2 now (later_now at past later (fill now slot) h.0.not_before f.0) lived in
     let new = placed-filled (fills later) (bytes_of before) s (waiting_after table station history now) (rooms_fit fit table station history now) w.1 old in
     few_left (fills later) (bytes_of before) (few_fills (fills later) (bytes_of before) s _ new)
 
-pub no_starvation : PartsFitFrames → NoStarvation
-no_starvation fit table station past later at s before after h f e w =
+pub no_starvation : KeyLaws → PartsFitFrames → NoStarvation
+no_starvation keys fit table station past later at s before after h f e w =
     let here : IsIn s (waiting_after table station past at) = subst (IsIn s) (sym e) (IsIn-after s before (s ∷ after) (inl refl)) in
     let l = Each-at _ (waiting_after table station past at) s (Each-waiting _ (items table station past) (log table station past) at (logged table station past)) here in
-    run fit table station past later at s before after h f l e w
+    run keys fit table station past later at s before after h f l e w

@@ -16,7 +16,7 @@ use Rattle.text_reports.specs.TextKey.{TextKey}
 use Rattle.ground_core.specs.NumberedKeys.{report_key}
 use Rattle.segment_core.specs.File.{parts_of}
 use Rattle.segment_core.specs.File as of_file
-use Rattle.picture_core.specs.Key.{Key, radar_block, text_report, same_key}
+use Rattle.picture_core.specs.Key.{Key, text_report, same_key}
 use Rattle.ground_core.specs.Item.{Weather, Item, Segment, segments_of, segment_of, is_segmented, file_of}
 use Rattle.ground_core.specs.Update.{text}
 use Rattle.ground_core.specs.History.{Event, accepted, fill, moment_of, items, items_made, new_items, item_of, number_for}
@@ -31,7 +31,7 @@ use Rattle.segment_core.specs.Store.{last_above}
 use Rattle.ground_core.specs.Views.{latest_at, count_at, pieces_in, piece_at}
 use Rattle.ground_core.specs.declared.item.SentItem.{SentItem}
 use Rattle.ground_core.specs.declared.ground.Ground.{Ground}
-use Rattle.ground_core.proofs.KeyLemmas.{text_key_comm}
+use Rattle.ground_core.proofs.KeyLemmas.{KeyLaws, same_key_comm}
 use Rattle.ground_core.proofs.Kept.{kept_later, kept_then, live_kept}
 use Rattle.ground_core.proofs.ListLemmas.{Each-in, Each-at}
 use Rattle.ground_core.proofs.Order.{segments_in}
@@ -122,25 +122,25 @@ pub record IsTaken (old : Ground) (moment : ℕ) (new : Ground) : Type 0 where
   pub placed : ArePlaced (latest_at old.newest) (pieces_in old.line) → ArePlaced (latest_at new.newest) (pieces_in new.line)
   pub among : (p : Piece) → IsIn p (pieces_in new.line) → IsIn p (pieces_in old.line)
 
-pub filled_of : (table : LifeTable) (station : StationId) (history : List Event) (moment slot : ℕ) (old : Ground) (new : List Piece) → StandsFor table station old history
+pub filled_of : KeyLaws → (table : LifeTable) (station : StationId) (history : List Event) (moment slot : ℕ) (old : Ground) (new : List Piece) → StandsFor table station old history
     → last_above (clock_of history) moment ≡ None
     → filter (live_by (latest_at old.newest) moment) new
     ≡ left_pieces 424 (filter (live_by (latest_at old.newest) moment) (pieces_in old.line))
     ++ fitting_pieces 424 (filter (live_by (latest_at old.newest) moment) (pieces_in old.line))
     → IsFilled table station history moment slot (pieces_in old.line) new
-filled_of table station history moment slot old new s e n =
-    filled table station history (moment_now history) moment slot (pieces_in old.line) new (clock_below history moment e)
+filled_of keys table station history moment slot old new s e n =
+    filled keys table station history (moment_now history) moment slot (pieces_in old.line) new (clock_below history moment e)
     (line_of table station history old s)
     (subst (λ f. filter f new ≡ left_pieces 424 (filter f (pieces_in old.line)) ++ fitting_pieces 424 (filter f (pieces_in old.line)))
     (lives_same table station history moment old s (clock_below history moment e)) n)
 
-pub fill_stands : (table : LifeTable) (station : StationId) (history : List Event) (moment slot : ℕ) (old new : Ground) → StandsFor table station old history
+pub fill_stands : KeyLaws → (table : LifeTable) (station : StationId) (history : List Event) (moment slot : ℕ) (old new : Ground) → StandsFor table station old history
     → last_above (clock_of history) moment ≡ None → slot < 32 → IsMoment moment → IsTaken old moment new
     → StandsFor table station new (fill moment slot ∷ history)
-fill_stands table station history moment slot old new s e lt m t =
+fill_stands keys table station history moment slot old new s e lt m t =
     let all : List Item = items table station history in
     let same : items table station (fill moment slot ∷ history) ≡ all = append-nil all in
-    let f = filled_of table station history moment slot old (pieces_in new.line) s e t.line in
+    let f = filled_of keys table station history moment slot old (pieces_in new.line) s e t.line in
     let le : moment_now history ≤ moment = clock_below history moment e in
     let life : old.life ≡ greatest_life table = old.longest ∙ ap greatest_life s.table_is in
     record {
@@ -247,10 +247,6 @@ is_made table station history moment version chars old item law s le none i =
           ∙ sym (map_map (segment_of spec) (range_with_len 1 (length (parts_of (file_of spec)))));
     }
 
-same_key_comm : (a : TextKey) (key : Key) → same_key (text_report a) key ≡ same_key key (text_report a)
-same_key_comm a (radar_block b) = refl
-same_key_comm a (text_report b) = text_key_comm a b
-
 one_count : (b : Bool) (xs : List Item) (item : Item) → length (xs ++ cond b (item ∷ []) []) ≡ length xs + (if b then 1 else 0)
 one_count true xs item = length-append xs (item ∷ [])
 one_count false xs item = ap length (append-nil xs) ∙ zero_more (length xs) where
@@ -262,12 +258,12 @@ given_kept : (b : Bool) (moment : ℕ) (latest : Latest) (last kept : Option Lat
 given_kept true moment latest last kept h = inl refl
 given_kept false moment latest last kept h = h
 
-pub give_stands : (table : LifeTable) (station : StationId) (history : List Event) (moment version : ℕ) (chars : List ℕ) (old new : Ground) (item : SentItem)
+pub give_stands : KeyLaws → (table : LifeTable) (station : StationId) (history : List Event) (moment version : ℕ) (chars : List ℕ) (old new : Ground) (item : SentItem)
     → StandsFor table station old history → last_above (clock_of history) moment ≡ None → IsMoment moment → IsMoment version → IsUtf8 chars
     → give_refusal table (items table station history) moment (text version chars) ≡ None
     → IsMade table station history moment version chars item → IsPut old moment item new
     → StandsFor table station new (accepted moment (text version chars) ∷ history)
-give_stands table station history moment version chars old new item s e m v u none i p =
+give_stands keys table station history moment version chars old new item s e m v u none i p =
     let all : List Item = items table station history in
     let c = i.clear in
     let w : Weather = text_weather c.key c.row version chars in
@@ -281,7 +277,7 @@ give_stands table station history moment version chars old new item s e m v u no
     let put : (key : Key) → latest_at new.newest key ≡ (if has_key key spec then Some (latest_of_item spec) else latest_at old.newest key) = λ (key : Key).
     p.newest key
     ∙ ap (λ b. if b then Some (record { version = item.version; serial = item.serial; until = item.until }) else latest_at old.newest key)
-    (ap (λ k. same_key (text_report k) key) i.key ∙ same_key_comm c.key key ∙ sym (has_key_of_text table station moment version chars all c.key c.row key))
+    (ap (λ k. same_key (text_report k) key) i.key ∙ same_key_comm keys (text_report c.key) key ∙ sym (has_key_of_text table station moment version chars all c.key c.row key))
     ∙ ap (λ n. if has_key key spec then Some (record { version = n; serial = item.serial; until = item.until }) else latest_at old.newest key) i.version_is
     ∙ ap (λ n. if has_key key spec then Some (record { version = version; serial = n; until = item.until }) else latest_at old.newest key) i.serial
     ∙ ap (λ n. if has_key key spec then Some (record { version = version; serial = length all; until = n }) else latest_at old.newest key) i.until in
@@ -310,7 +306,7 @@ give_stands table station history moment version chars old new item s e m v u no
           ∙ ap (λ n. length (filed x y all) + (if is_segmented w && (version == x) && (n == y) then 1 else 0)) i.product
           ∙ sym (one_count (is_filed x y spec) (filed x y all) spec)
           ∙ ap length (sym (filter-append (is_filed x y) all (spec ∷ []))) ∙ ap (λ is. length (filed x y is)) (sym items_are));
-      placed = placed_put old new moment item p s.placed;
+      placed = placed_put keys old new moment item p s.placed;
       of_log = λ q k. elim (IsIn-either q (pieces_in old.line) (map piece_of (segments_of spec)) (subst (IsIn q) pieces k)) [
         | inl a ↦ (let o = s.of_log q a in record {
           segment = o.segment;
@@ -324,7 +320,7 @@ give_stands table station history moment version chars old new item s e m v u no
         })
       ];
       line_is = ap (λ f. filter f (pieces_in new.line)) (live_kept moment (latest_of (items table station after)) (latest_at new.newest) newest)
-          ∙ given_line table station history moment (text version chars) w (moment_now history) (pieces_in old.line) (pieces_in new.line)
+          ∙ given_line keys table station history moment (text version chars) w (moment_now history) (pieces_in old.line) (pieces_in new.line)
           weather le
           (Each-in _ (pieces_in old.line) (λ q k.
           let o = s.of_log q k in
@@ -336,14 +332,14 @@ give_stands table station history moment version chars old new item s e m v u no
     }
 
 -- what is kept tells the first reason
-pub refusal_same : (table : LifeTable) (station : StationId) (history : List Event) (moment version : ℕ) (chars : List ℕ) (sender : Ground) → LivesAreLongest
+pub refusal_same : KeyLaws → (table : LifeTable) (station : StationId) (history : List Event) (moment version : ℕ) (chars : List ℕ) (sender : Ground) → LivesAreLongest
     → StandsFor table station sender history → moment_now history ≤ moment
     → refusal_by sender.table (latest_at sender.newest) (count_at sender.files) moment (text version chars)
     ≡ give_refusal table (items table station history) moment (text version chars)
-refusal_same table station history moment version chars sender law s le =
+refusal_same keys table station history moment version chars sender law s le =
     ap (λ t. refusal_by t (latest_at sender.newest) (count_at sender.files) moment (text version chars)) s.table_is
-    ∙ refusal_alike table station history moment version chars (latest_at sender.newest) (count_at sender.files) law s.is_history (record {
+    ∙ refusal_alike keys table station history moment version chars (latest_at sender.newest) (count_at sender.files) law s.is_history (record {
       newest = kept_at table station history moment sender s le;
       files = λ v p lt. counts_now table station history moment v p sender s le lt;
-      one_life = λ key row e. one_life table station history key row e s.is_history;
+      one_life = λ key row e. one_life keys table station history key row e s.is_history;
     })

@@ -13,16 +13,17 @@ use Rattle.uplink_frame.specs.declared.station.StationId.{StationId}
 use Rattle.text_reports.specs.TextKey.{TextKey, KeyFault, text_key}
 use Rattle.picture_core.specs.Key.{Key, radar_block, text_report, same_key}
 use Rattle.picture_core.specs.Contents.{report_entries}
+use Rattle.apdu_core.specs.Apdu.{file_numbers}
 use Rattle.ground_core.specs.Item.{Weather, Item, is_segmented, end_of}
 use Rattle.ground_core.specs.Update.{text, weather_by_row}
-use Rattle.ground_core.specs.History.{Event, accepted, fill, items, items_made, item_of, file_numbers}
+use Rattle.ground_core.specs.History.{Event, accepted, fill, items, items_made, item_of}
 use Rattle.ground_core.specs.Airing.{has_key}
 use Rattle.ground_core.specs.Refusal.{GiveRefusal, coarse, ahead, expired, not_newer, no_file, give_refusal, age_refusal, version_refusal, file_refusal, given_version, text_fault_refusal, key_refusal, weather_refusal}
 use Rattle.ground_core.specs.Broadcast.{IsHistory}
 use Rattle.ground_core.specs.Piece.{Latest, IsKept}
 use Rattle.ground_core.specs.StandsFor.{latest_of, latest_of_item}
 use Rattle.ground_core.specs.Told.{latest_version, count_refusal, weather_refusal_by, key_refusal_by, refusal_by}
-use Rattle.ground_core.proofs.KeyLemmas.{text_key_is}
+use Rattle.ground_core.proofs.KeyLemmas.{KeyLaws, text_key_is}
 use Rattle.ground_core.proofs.Accepted.{clear, text_weather, weather_is, by_row_is}
 use Rattle.ground_core.proofs.Serials.{latest_push}
 use Rattle.ground_core.proofs.Numbers.{LivesAreLongest, AreCounted, filed, file_is_count, counted}
@@ -36,9 +37,9 @@ pub has_key_of_text : (table : LifeTable) (station : StationId) (moment version 
     → has_key other (item_of table station moment before (text_weather key row version chars)) ≡ same_key other (text_report key)
 has_key_of_text table station moment version chars before key row other = or-none (same_key other (text_report key))
 
-same_key_is : (other : Key) (key : TextKey) → same_key other (text_report key) ≡ true → other ≡ text_report key
-same_key_is (radar_block other) key h = absurd (cc)
-same_key_is (text_report other) key h = ap text_report (text_key_is other key h)
+same_key_is : KeyLaws → (other : Key) (key : TextKey) → same_key other (text_report key) ≡ true → other ≡ text_report key
+same_key_is keys (radar_block other) key h = absurd (cc)
+same_key_is keys (text_report other) key h = ap text_report (text_key_is keys other key h)
 
 older : (n k : ℕ) → age_refusal n (Some k) None ≡ None → k < n
 older n k h = elim (cases_Bool (nat_le n k)) [
@@ -77,12 +78,12 @@ greatest_push key all item newer before =
           ∙ sym (after ∙ ap (λ b. latest_version (if b then Some (latest_of_item item) else latest_of all key)) f))
     ]
 
-pub given_version_is : (table : LifeTable) (station : StationId) (history : List Event) (key : Key) → IsHistory table station history
+pub given_version_is : KeyLaws → (table : LifeTable) (station : StationId) (history : List Event) (key : Key) → IsHistory table station history
     → given_version key (items table station history) ≡ latest_version (latest_of (items table station history) key)
-given_version_is table station [] key h = refl
-given_version_is table station (fill moment slot ∷ past) key h =
-    subst (λ is. given_version key is ≡ latest_version (latest_of is key)) (sym (append-nil (items table station past))) (given_version_is table station past key h.1)
-given_version_is table station (accepted moment (text version chars) ∷ past) key h =
+given_version_is keys table station [] key h = refl
+given_version_is keys table station (fill moment slot ∷ past) key h =
+    subst (λ is. given_version key is ≡ latest_version (latest_of is key)) (sym (append-nil (items table station past))) (given_version_is keys table station past key h.1)
+given_version_is keys table station (accepted moment (text version chars) ∷ past) key h =
     let all : List Item = items table station past in
     let c = clear table all moment version chars h.0.is_accepted.1 in
     let item : Item = item_of table station moment all (text_weather c.key c.row version chars) in
@@ -90,9 +91,9 @@ given_version_is table station (accepted moment (text version chars) ∷ past) k
     = ap (λ ws. all ++ items_made table station moment all ws) (weather_is table version chars c.key c.row c.key_is c.row_is) in
     subst (λ is. given_version key is ≡ latest_version (latest_of is key)) (sym items_are)
     (greatest_push key all item (λ t.
-    let own : key ≡ text_report c.key = same_key_is key c.key (sym (has_key_of_text table station moment version chars all c.key c.row key) ∙ t) in
+    let own : key ≡ text_report c.key = same_key_is keys key c.key (sym (has_key_of_text table station moment version chars all c.key c.row key) ∙ t) in
     subst (λ k. age_refusal version (given_version k all) None ≡ None) (sym own) c.newer)
-    (given_version_is table station past key h.1))
+    (given_version_is keys table station past key h.1))
 
 if_alike : (b : Bool) (x y z : Option GiveRefusal) → (b ≡ false → y ≡ z) → (if b then x else y) ≡ (if b then x else z)
 if_alike true x y z f = refl
@@ -110,12 +111,12 @@ abbrev pub EndsBy : ℕ → Option Latest → Type 0
 EndsBy life None = Unit {0}
 EndsBy life (Some latest) = latest.until ≡ latest.version + life
 
-pub one_life : (table : LifeTable) (station : StationId) (history : List Event) (key : TextKey) (row : TextRow) → text_row table key.kind ≡ Some row
+pub one_life : KeyLaws → (table : LifeTable) (station : StationId) (history : List Event) (key : TextKey) (row : TextRow) → text_row table key.kind ≡ Some row
     → IsHistory table station history → EndsBy row.life (latest_of (items table station history) (text_report key))
-one_life table station [] key row e h = tt
-one_life table station (fill moment slot ∷ past) key row e h =
-    subst (λ is. EndsBy row.life (latest_of is (text_report key))) (sym (append-nil (items table station past))) (one_life table station past key row e h.1)
-one_life table station (accepted moment (text version chars) ∷ past) key row e h =
+one_life keys table station [] key row e h = tt
+one_life keys table station (fill moment slot ∷ past) key row e h =
+    subst (λ is. EndsBy row.life (latest_of is (text_report key))) (sym (append-nil (items table station past))) (one_life keys table station past key row e h.1)
+one_life keys table station (accepted moment (text version chars) ∷ past) key row e h =
     let all : List Item = items table station past in
     let c = clear table all moment version chars h.0.is_accepted.1 in
     let item : Item = item_of table station moment all (text_weather c.key c.row version chars) in
@@ -127,14 +128,14 @@ one_life table station (accepted moment (text version chars) ∷ past) key row e
     subst (EndsBy row.life) (sym pushed) (elim (cases_Bool (has_key (text_report key) item)) [
       | inl t ↦ (
           let own : text_report key ≡ text_report c.key
-          = same_key_is (text_report key) c.key (sym (has_key_of_text table station moment version chars all c.key c.row (text_report key)) ∙ t) in
+          = same_key_is keys (text_report key) c.key (sym (has_key_of_text table station moment version chars all c.key c.row (text_report key)) ∙ t) in
           let same : key ≡ c.key = cc in
           let rows : Some c.row ≡ Some row = sym c.row_is ∙ ap (λ (k : TextKey). text_row table k.kind) (sym same) ∙ e in
           let row_is : c.row ≡ row = cc in
           subst (λ b. EndsBy row.life (if b then Some (latest_of_item item) else latest_of all (text_report key))) (sym t)
           (ap (λ (r : TextRow). version + r.life) row_is))
       | inr f ↦ subst (λ b. EndsBy row.life (if b then Some (latest_of_item item) else latest_of all (text_report key))) (sym f)
-          (one_life table station past key row e h.1)
+          (one_life keys table station past key row e h.1)
     ])
 
 above_ended : (version life : ℕ) (latest : Latest) (moment : ℕ) → latest.until ≤ moment → latest.until ≡ latest.version + life → moment < version + life
@@ -215,11 +216,11 @@ key_alike table before moment version chars (Ok key) latest count law k h ek e =
     listed_alike table before moment version chars key (text_row table key.kind) latest count law k h ek refl (e (text_report key))
 
 -- what is kept tells the first reason against a text
-pub refusal_alike : (table : LifeTable) (station : StationId) (history : List Event) (moment version : ℕ) (text_chars : List ℕ) (latest : Key → Option Latest) (count : ℕ → ℕ → ℕ)
+pub refusal_alike : KeyLaws → (table : LifeTable) (station : StationId) (history : List Event) (moment version : ℕ) (text_chars : List ℕ) (latest : Key → Option Latest) (count : ℕ → ℕ → ℕ)
     → LivesAreLongest → IsHistory table station history → Keeps table (items table station history) moment latest count
     → refusal_by table latest count moment (text version text_chars) ≡ give_refusal table (items table station history) moment (text version text_chars)
 unfolding give_refusal
-refusal_alike table station history moment version text_chars latest count law h k =
+refusal_alike keys table station history moment version text_chars latest count law h k =
     ap (text_fault_refusal (text_refusal (chars text_chars)))
     (key_alike table (items table station history) moment version text_chars (text_key table text_chars) latest count law k (counted table station history law h) refl
-    (λ other. given_version_is table station history other h))
+    (λ other. given_version_is keys table station history other h))

@@ -6,6 +6,7 @@ use Rattle.uplink_frame.specs.declared.station.StationId.{StationId}
 use Rattle.uplink_frame.specs.Station.{header_of}
 use Rattle.uplink_frame.specs.UplinkFrame.{fisb_frame, payload_of}
 use Rattle.picture_core.specs.Key.{Key, same_key}
+use Rattle.uplink_frame.specs.UplinkFrame.{frame_room}
 use Rattle.ground_core.specs.Item.{Item, Segment, segments_of, same_segment, room_of, body_of, end_of}
 use Rattle.ground_core.specs.History.{Event, accepted, fill, items, new_items}
 
@@ -44,10 +45,6 @@ waiting all log moment = map (λ t. t.segment) (filter (λ t. is_live all moment
 abbrev pub fitting : ℕ → List Segment → List Segment
 fitting room [] = []
 fitting room (s ∷ more) = if nat_le (room_of s) room then s ∷ fitting (room - room_of s) more else []
-
--- how many bytes a frame has for information frames
-abbrev pub frame_room : ℕ
-frame_room = 424
 
 -- what a frame airs at a moment, by the items and by the log of all givings and airings so far
 abbrev pub airing : List Item → List Touch → ℕ → List Segment

@@ -2,6 +2,7 @@
 -- of it has its oldest member first.
 use Rattle.std.specs.Prelude.{ℕ, ◌+◌, Bool, false, not, ◌&&◌, ◌==◌, nat_lt, if◌then◌else◌, List, [], ◌∷◌, ◌++◌, length, filter, find, Option, Some, None}
 use Rattle.std.specs.List.{list_any, range_with_len}
+use Rattle.apdu_core.specs.Apdu.{file_numbers}
 use Rattle.life_table.specs.LifeTable.{LifeTable, longest_life}
 use Rattle.uplink_frame.specs.declared.station.StationId.{StationId}
 use Rattle.ground_core.specs.Item.{Weather, Item, is_segmented}
@@ -28,10 +29,6 @@ is_rival table moment w other = is_segmented other.weather && is_kept table mome
 abbrev pub has_number : ℕ → Option ℕ → Bool
 has_number n None = false
 has_number n (Some m) = n == m
-
--- how many file numbers there are
-abbrev pub file_numbers : ℕ
-file_numbers = 1024
 
 -- the least number that no rival has, where there is one
 unfoldable pub free_number : List Item → Option ℕ

@@ -2,6 +2,7 @@
 use Rattle.std.specs.Prelude.{◌≡◌, ℕ, ◌+◌, ◌<◌, true, ◌&&◌, ◌==◌, nat_lt, if◌then◌else◌, List, ◌++◌, map, Option, Some, Ok}
 use Rattle.std.specs.List.{range_with_len}
 use Rattle.dlac_text.specs.Payload.{text_payload}
+use Rattle.apdu_core.specs.Apdu.{file_numbers}
 use Rattle.life_table.specs.LifeTable.{LifeTable, TextRow, text_row}
 use Rattle.text_reports.specs.TextKey.{text_key}
 use Rattle.ground_core.specs.NumberedKeys.{report_key}
@@ -50,5 +51,5 @@ pub record IsItemOf (table : LifeTable) (latest : Key → Option Latest) (count 
   pub product : item.product ≡ text_product
   pub form : item.form ≡ row.form
   pub payload : item.payload ≡ text_payload chars
-  pub few : of_file.is_segmented item.form item.payload ≡ true → count version text_product < 1024
+  pub few : of_file.is_segmented item.form item.payload ≡ true → count version text_product < file_numbers
   pub file : item.file ≡ (if of_file.is_segmented item.form item.payload then count version text_product else 0)

@@ -7,11 +7,11 @@ use Rattle.life_table.specs.LifeTable.{LifeTable}
 use Rattle.life_table.specs.Rules.{IsTable}
 use Rattle.uplink_frame.specs.declared.station.StationId.{StationId}
 use Rattle.uplink_frame.specs.Station.{header_of, FitsStation}
-use Rattle.uplink_frame.specs.UplinkFrame.{InformationFrame, fisb_frame, spelled_frames, header_in, information_frames}
+use Rattle.uplink_frame.specs.UplinkFrame.{InformationFrame, frame_room, payload_length, fisb_frame, spelled_frames, header_in, information_frames}
 use Rattle.segment_core.specs.File.{parts_of}
 use Rattle.ground_core.specs.Item.{Item, Segment, segments_of, file_of, body_of, end_of}
 use Rattle.ground_core.specs.History.{items}
-use Rattle.ground_core.specs.Airing.{Frame, used_room, frame_payload, frame_room}
+use Rattle.ground_core.specs.Airing.{Frame, used_room, frame_payload}
 use Rattle.ground_core.specs.Broadcast.{StationEvent, IsBroadcast, IsHistory, history_of, frames, all_items}
 
 -- each station has a history, and the items of all stations are those of each
@@ -53,7 +53,7 @@ pub record IsFrame (all : List Item) (frame : Frame) : Type 0 where
   pub aired : (s : Segment) → IsIn s frame.segments → IsAired all frame s
   pub fits : used_room frame ≤ frame_room
   pub spelled : used_room frame ≡ length (spelled_frames (fisb_frames_of frame))
-  pub size : length (frame_payload frame) ≡ 432
+  pub size : length (frame_payload frame) ≡ payload_length
   pub bytes : AreBytes (frame_payload frame)
   pub header_back : header_in (frame_payload frame) ≡ header_of frame.station frame.slot
   pub frames_back : information_frames (frame_payload frame) ≡ fisb_frames_of frame

@@ -8,13 +8,14 @@ use Rattle.fisb_time.specs.TimeForm.{shows}
 use Rattle.life_table.specs.LifeTable.{LifeTable, longest}
 use Rattle.life_table.specs.Rules.{IsTable, IsWithinForm}
 use Rattle.uplink_frame.specs.declared.station.StationId.{StationId}
-use Rattle.segment_core.specs.File.{parts}
+use Rattle.segment_core.specs.File.{most_segments, parts}
 use Rattle.life_table.specs.Products.{is_read_product}
 use Rattle.picture_core.specs.Entry.{Entry}
 use Rattle.picture_core.specs.Contents.{payload_entries}
+use Rattle.apdu_core.specs.Apdu.{file_numbers}
 use Rattle.ground_core.specs.Item.{Weather, Item, is_segmented, end_of}
 use Rattle.ground_core.specs.Update.{Update, weather_of}
-use Rattle.ground_core.specs.History.{Event, accepted, item_of, number_for, items, file_numbers}
+use Rattle.ground_core.specs.History.{Event, accepted, item_of, number_for, items}
 use Rattle.ground_core.specs.Airing.{has_key}
 use Rattle.ground_core.specs.Broadcast.{IsAccepted, IsHistory}
 
@@ -37,7 +38,7 @@ pub record IsSound (table : LifeTable) (w : Weather) : Type 0 where
   pub ends : (e : Entry) → IsIn e w.entries → e.until ≡ end_of w
   pub apart : (e f : Entry) → IsIn e w.entries → IsIn f w.entries → e.key ≡ f.key → e ≡ f
   -- that each part fits a frame with its header is a law of all payloads, `PartsFitFrames` of `segment_core`
-  pub few_segments : length (parts w.form w.payload) ≤ 64
+  pub few_segments : length (parts w.form w.payload) ≤ most_segments
 
 -- sound weather that is given in time, has a file number where it needs one, and is newer than all of its keys before
 pub record IsGiven (table : LifeTable) (before : List Item) (moment : ℕ) (w : Weather) : Type 0 where

@@ -8,9 +8,9 @@ use Rattle.life_table.specs.LifeTable.{LifeTable, text_row}
 use Rattle.text_reports.specs.TextKey.{TextKey, KeyFault, few_words, unlisted, text_key}
 use Rattle.picture_core.specs.Key.{Key, text_report}
 use Rattle.picture_core.specs.Contents.{report_entries}
+use Rattle.apdu_core.specs.Apdu.{file_numbers}
 use Rattle.ground_core.specs.Item.{Weather, is_segmented}
 use Rattle.ground_core.specs.Update.{Update, text, weather_by_row}
-use Rattle.ground_core.specs.History.{file_numbers}
 use Rattle.ground_core.specs.Refusal.{GiveRefusal, bad_text, no_key, coarse, ahead, expired, not_newer, no_file, version_refusal, text_fault_refusal}
 use Rattle.ground_core.specs.Piece.{Latest}
 use Rattle.ground_core.specs.declared.fault.FillFault.{FillFault}

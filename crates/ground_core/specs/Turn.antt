@@ -1,12 +1,12 @@
 -- What a look at the front of the queue does.
 use Rattle.std.specs.Prelude.{◌≡◌, ◌+◌, ◌-◌, Bool, true, false, nat_le, List, [], ◌∷◌, ◌++◌, length, ◌⊎◌}
-use Rattle.uplink_frame.specs.UplinkFrame.{InformationFrame, fisb_frame, spelled_frames}
+use Rattle.uplink_frame.specs.UplinkFrame.{InformationFrame, frame_room, fisb_frame, spelled_frames}
 use Rattle.ground_core.specs.Piece.{Piece, room_of_piece, body_of_piece}
 use Rattle.ground_core.specs.declared.line.Turn.{Turn}
 use Rattle.ground_core.specs.declared.line.Turn.TheVariants.{Dropped, Aired, Stopped}
 
 abbrev pub fits_in : List InformationFrame → Piece → Bool
-fits_in frames p = nat_le (room_of_piece p) (424 - length (spelled_frames frames))
+fits_in frames p = nat_le (room_of_piece p) (frame_room - length (spelled_frames frames))
 
 -- the front of the queue, and what stands behind it
 pub record HasFront (line : List Piece) : Type 0 where

@@ -21,6 +21,7 @@ use apdu_core::apdu_reads_back;
 use dlac_text::payload_size;
 use fisb_time::Moment;
 use life_table::{LifeTable, longest_is_greatest};
+use picture_core::laws::keys_are_ordered;
 use segment_core::{is_segmented, part_count};
 use std::alloc::Global;
 use std::rc::Rc;
@@ -113,6 +114,7 @@ impl Ground {
             → OnErr result (StandsFor table station self.new history) }
     {
         longest_is_greatest();
+        keys_are_ordered();
         if let Some(kept) = self.later_clock(moment) {
             return Err(GiveFault::Clock { kept });
         }
@@ -148,6 +150,7 @@ impl Ground {
         ensures room { IfOk result (λ frame. frame.used ≤ 424) }
     {
         apdu_reads_back();
+        keys_are_ordered();
         if let Some(kept) = self.later_clock(moment) {
             return Err(FillFault::Clock { kept });
         }

@@ -11,6 +11,7 @@ use crate::item::SentItem;
 use crate::newest::Newest;
 use crate::place::Place;
 use fisb_time::Moment;
+use picture_core::laws::keys_are_ordered;
 use std::alloc::{AllocError, Global};
 use std::collections::VecDeque;
 use std::rc::Rc;
@@ -146,6 +147,7 @@ impl Line {
         ensures turn { IsTurn (live_by (latest_at newest.old) moment)
             (pieces_in self.old) frames.old (pieces_in self.new) frames.new result }
     {
+        keys_are_ordered();
         let Some(front) = self.places.front() else {
             return Turn::Stopped;
         };

@@ -5,6 +5,7 @@ ghost use Rattle.ground_core.specs.NumberedKeys.{report_key};
 
 use crate::numbered_key::NumberedKey;
 use fisb_time::Moment;
+use picture_core::laws::keys_are_ordered;
 use std::alloc::{AllocError, Global};
 use std::collections::BTreeMap;
 
@@ -66,6 +67,7 @@ impl Newest {
         ensures err { OnErr result ((other : Key)
             → latest_at self.new other ≡ latest_at self.old other) }
     {
+        keys_are_ordered();
         let key = key.copy()?;
         let Ok(_) = self.versions.insert(key, given) else {
             return Err(AllocError);
@@ -80,6 +82,7 @@ impl Newest {
             then while_living moment (latest_at self.old other)
             else latest_at self.old other) }
     {
+        keys_are_ordered();
         if let Some(given) = self.of(key) {
             if given.until <= moment.seconds() {
                 let _ = self.versions.remove(key);

@@ -1,7 +1,8 @@
 //! A law of what waits, for the crates above: the contract of a function that does nothing but call
-//! a law of a lower crate.
+//! laws of lower crates.
 ghost use Rattle.ground_core.specs.Starving.{NoStarvation};
 
+use picture_core::laws::keys_are_ordered;
 use segment_core::laws::parts_fit_frames;
 
 /// The law that no segment waits for ever: while it stays live, it is aired at the latest by the n-th next fill, n being
@@ -10,5 +11,6 @@ use segment_core::laws::parts_fit_frames;
 pub fn no_starvation()
     ensures { NoStarvation }
 {
+    keys_are_ordered();
     parts_fit_frames();
 }

@@ -10,7 +10,8 @@ use Rattle.std.specs.declared.cmp.Ordering.TheVariants.{Less, Equal, Greater}
 use Rattle.std.proofs.lemmas.Cmp.{nat_cmp_total, nat_list_cmp_total, then_total, on_total, tied_itself}
 use Rattle.std.proofs.lemmas.Bool.{cases_Bool, eqb-true, and_parts, and_from}
 use Rattle.std.proofs.lemmas.Map.Text.{is_eq-slice_cmp}
-use Rattle.radar_core.specs.Keys.{bit, block_key_cmp}
+use Rattle.bit_fields.specs.Bits.{bit}
+use Rattle.radar_core.specs.Keys.{block_key_cmp}
 use Rattle.radar_core.specs.declared.key.BlockKey.{BlockKey}
 use Rattle.text_reports.specs.TextKey.{TextKey, same_third, same_text_key, text_key_cmp}
 use Rattle.picture_core.specs.Key.{Key, radar_block, text_report, same_key, key_cmp}

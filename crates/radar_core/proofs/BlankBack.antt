@@ -10,13 +10,15 @@ use Rattle.std.proofs.lemmas.List.Kept.{AllPairs-from_increasing}
 use Rattle.std.proofs.Math.Nat.{zero-div}
 use Rattle.bit_fields.specs.Bits.{field_at}
 use Rattle.radar_core.specs.declared.key.BlockKey.{BlockKey}
-use Rattle.radar_core.specs.Keys.{bit, front_bytes}
+use Rattle.bit_fields.specs.Bits.{bit}
+use Rattle.bit_fields.proofs.BitsBack.{bit_below, bit_back}
+use Rattle.radar_core.specs.Keys.{front_bytes}
 use Rattle.radar_core.specs.Cells.{blank_cells}
 use Rattle.radar_core.specs.Blanks.{IsGroup, block_in_ring, bitmap_length, is_named, named_offsets, key_beside, length_for, first_bitmap_byte, bitmap_byte, bitmap_of, blank_record}
 use Rattle.radar_core.specs.Radar.{Block, radar_blocks, named_blocks, blank_block, blank_blocks}
 use Rattle.radar_core.proofs.MarkLemmas.{above_base, near_base, last-of_group}
 use Rattle.radar_core.proofs.RankLemmas.{below_eight, named_by, or_skip}
-use Rattle.radar_core.proofs.ReadBack.{bit_below, bit_back, bitmap_record_read}
+use Rattle.radar_core.proofs.ReadBack.{bitmap_record_read}
 
 -- lists that agree place by place
 filter_same : (p q : ℕ → Bool) (xs : List ℕ) → ((k : ℕ) → k < length xs → p (get_or xs k 0) ≡ q (get_or xs k 0)) → filter p xs ≡ filter q xs

@@ -6,7 +6,7 @@ use Rattle.std.proofs.lemmas.List.{take_more, take_more_set, length-set, length-
 use Rattle.std.proofs.lemmas.List.Folds.{list_any-append}
 use Rattle.std.proofs.lemmas.List.Kept.{AllPairs-from_increasing}
 use Rattle.std.proofs.lemmas.List.FromFn.{map-range_with_len_more}
-use Rattle.radar_core.specs.Keys.{bit}
+use Rattle.bit_fields.specs.Bits.{bit}
 use Rattle.radar_core.specs.Blanks.{IsGroup, bitmap_byte, first_bitmap_byte, length_for, bitmap_of}
 use Rattle.radar_core.specs.Marks.{is_marked, four_bits, bit_of}
 

@@ -9,7 +9,7 @@ use lib.Count.{ones, ones_in}
 use Rattle.std.proofs.Math.Nat.{pow-suc, div-div-eq-div-mul}
 use Rattle.std.specs.Int.RustNames.{count_ones}
 use Rattle.std.proofs.lemmas.Nat.{ones_cat, ones-le}
-use Rattle.radar_core.specs.Keys.{bit as one_if}
+use Rattle.bit_fields.specs.Bits.{bit as one_if}
 use Rattle.radar_core.specs.Blanks.{is_named, named_offsets}
 use Rattle.radar_core.specs.Ranks.{names_at, ones_below, rank_of}
 

@@ -8,7 +8,9 @@ use Rattle.std.proofs.Math.Seq.{drop-append-add}
 use Rattle.bit_fields.specs.Bits.{field_at}
 use Rattle.radar_core.specs.declared.key.BlockKey.{BlockKey}
 use Rattle.radar_core.specs.declared.run.Run.{Run}
-use Rattle.radar_core.specs.Keys.{FitsKey, bit, front_bytes, is_run_in, scale_in, key_in}
+use Rattle.bit_fields.specs.Bits.{bit}
+use Rattle.bit_fields.proofs.BitsBack.{bit_below, bit_back}
+use Rattle.radar_core.specs.Keys.{FitsKey, front_bytes, is_run_in, scale_in, key_in}
 use Rattle.radar_core.specs.Cells.{IsCells}
 use Rattle.radar_core.specs.Runs.{FitsRun, run_byte, run_cells, run_in, cells_in, runs_from, longest_runs, run_record}
 use Rattle.radar_core.specs.Radar.{radar_blocks, read_runs, read_bitmap, run_blocks}
@@ -32,14 +34,6 @@ has_fields flag south scale number p q r s = record { flag_is = omega arith; sou
 
 front_is : (is_run : Bool) (key : BlockKey) → front_bytes is_run key ≡ three_bytes (front_number (bit is_run) (bit key.south) key.scale key.number)
 front_is is_run key = refl
-
-pub bit_below : (b : Bool) → bit b < 2
-bit_below true = omega arith
-bit_below false = omega arith
-
-pub bit_back : (b : Bool) (n : ℕ) → n ≡ bit b → (n == 1) ≡ b
-bit_back true n e = ap (λ m. m == 1) e
-bit_back false n e = ap (λ m. m == 1) e
 
 -- the front of what is written, and what stands behind it
 pub record ReadsFront (is_run : Bool) (key : BlockKey) (body : List ℕ) : Type 0 where

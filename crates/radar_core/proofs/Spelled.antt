@@ -14,7 +14,8 @@ use Rattle.bit_fields.specs.Bits.{AreBytes, field_at}
 use Rattle.radar_core.specs.declared.key.BlockKey.{BlockKey}
 use Rattle.radar_core.specs.declared.run.Run.{Run}
 use Rattle.radar_core.specs.declared.fault.RadarFault.TheVariants.{RunsNot128, HighEmpty, BadBitmap}
-use Rattle.radar_core.specs.Keys.{FitsKey, bit, front_bytes, is_run_in, scale_in, key_in}
+use Rattle.bit_fields.specs.Bits.{bit}
+use Rattle.radar_core.specs.Keys.{FitsKey, front_bytes, is_run_in, scale_in, key_in}
 use Rattle.radar_core.specs.Runs.{FitsRun, run_byte, run_cells, run_in, cells_in}
 use Rattle.radar_core.specs.Blanks.{bitmap_length, is_named, named_offsets}
 use Rattle.radar_core.specs.Radar.{Block, radar_blocks, read_runs, read_bitmap, run_blocks, named_blocks, blank_block}

@@ -5,7 +5,8 @@ use Rattle.std.specs.List.{list_any, range_with_len}
 use Rattle.std.specs.List.Sorted.{IsStrictlyIncreasing}
 use Rattle.bit_fields.specs.Bits.{Field, joined, field_at}
 use Rattle.radar_core.specs.declared.key.BlockKey.{BlockKey}
-use Rattle.radar_core.specs.Keys.{bit, front_bytes}
+use Rattle.bit_fields.specs.Bits.{bit}
+use Rattle.radar_core.specs.Keys.{front_bytes}
 
 -- rings have 450 blocks each; the block at this offset from a base, in the base's ring
 abbrev pub block_in_ring : ℕ → ℕ → ℕ

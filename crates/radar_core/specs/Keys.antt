@@ -1,13 +1,10 @@
 -- The keys of radar blocks, and the three bytes before a record (RTCA DO-358): run flag, hemisphere, scale, block number.
-use Rattle.std.specs.Prelude.{ℕ, ◌^◌, ◌<◌, ◌≤◌, Bool, ◌==◌, if◌then◌else◌, List, [], ◌∷◌, take}
+use Rattle.std.specs.Prelude.{ℕ, ◌^◌, ◌<◌, ◌≤◌, Bool, ◌==◌, List, [], ◌∷◌, take}
 use Rattle.std.specs.Int.{bytes_high_first}
 use Rattle.std.specs.Ordering.{nat_cmp, ordering_then}
 use Rattle.std.specs.declared.cmp.Ordering.{Ordering}
-use Rattle.bit_fields.specs.Bits.{joined, field_at}
+use Rattle.bit_fields.specs.Bits.{bit, joined, field_at}
 use Rattle.radar_core.specs.declared.key.BlockKey.{BlockKey}
-
-abbrev pub bit : Bool → ℕ
-bit b = if b then 1 else 0
 
 -- keys stand in the order of product, scale, north before south, number
 abbrev pub block_key_cmp : BlockKey → BlockKey → Ordering

@@ -1,7 +1,7 @@
 -- The bits of a bitmap while it is written.
 use Rattle.std.specs.Prelude.{ℕ, ◌+◌, ◌*◌, Bool, false, ◌==◌, List}
 use Rattle.std.specs.List.{list_any, slice_index_or}
-use Rattle.radar_core.specs.Keys.{bit}
+use Rattle.bit_fields.specs.Bits.{bit}
 
 -- whether a bit names one of these numbers beside a base: bit o + 3 is offset o
 abbrev pub is_marked : ℕ → List ℕ → ℕ → Bool

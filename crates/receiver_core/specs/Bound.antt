@@ -1,6 +1,7 @@
 -- How much a receiver holds: no more than what can still live may have brought. A version lies at most a minute after the
 -- reception that names it, and lives as long as the table says.
 use Rattle.std.specs.Prelude.{◌≡◌, ℕ, ◌+◌, ◌*◌, ◌≤◌, Bool, nat_lt, List, length, filter}
+use Rattle.uplink_frame.specs.UplinkFrame.{frame_room}
 use Rattle.life_table.specs.LifeTable.{LifeTable, greatest_life}
 use Rattle.segment_core.specs.Bound.{IsPurged, pieces_size}
 use Rattle.picture_core.specs.Kept.{live_entries}
@@ -18,7 +19,7 @@ number_alive table moment heard = length (filter (may_live table moment) heard)
 -- For so many receptions, the bytes of all pieces, all segment numbers and all entries that are stored: a payload has 424
 -- bytes of frames, a frame with segment fields takes nine of them at least, and a byte says five entries at most.
 pub record IsFewFor (held : Held) (number : ℕ) : Type 0 where
-  pub bytes : pieces_size held.joiner.store.pieces ≤ 424 * number
+  pub bytes : pieces_size held.joiner.store.pieces ≤ frame_room * number
   pub numbers : length held.joiner.store.pieces ≤ 47 * number
   pub entries : length held.picture.entries ≤ 2120 * number
   -- no mark stands, for which anything else would be stored

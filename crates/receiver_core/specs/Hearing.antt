@@ -4,6 +4,7 @@ use Rattle.std.specs.Prelude.{◌≡◌, ⊤, ℕ, Bool, true, if◌then◌else�
 use Rattle.std.specs.Option.{option_or, option_and_then, option_map}
 use Rattle.bit_fields.specs.Bits.{AreBytes}
 use Rattle.fisb_time.specs.Moment.{IsMoment}
+use Rattle.uplink_frame.specs.UplinkFrame.{payload_length}
 use Rattle.uplink_frame.specs.UplinkFrame.{header_in}
 use Rattle.uplink_weave.specs.Functions.{payload_in, lost_block_in}
 use Rattle.life_table.specs.LifeTable.{LifeTable}
@@ -31,7 +32,7 @@ is_valid payload = (header_in payload).app_valid
 pub record IsNext (past : List Reception) (heard : Reception) : Type 0 where
   pub moment_is : IsMoment heard.moment
   pub in_time : last_above (clock_of past) heard.moment ≡ None
-  pub size : length heard.payload ≡ 432
+  pub size : length heard.payload ≡ payload_length
   pub bytes : AreBytes heard.payload
   pub valid : is_valid heard.payload ≡ true
 

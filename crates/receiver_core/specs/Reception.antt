@@ -12,6 +12,7 @@ use Rattle.apdu_core.specs.declared.fault.ApduFault.TheVariants as faults
 use Rattle.apdu_core.specs.Apdu.{Apdu, apdu_of}
 use Rattle.life_table.specs.Products.{is_read_product}
 use Rattle.life_table.specs.LifeTable.{LifeTable, longest}
+use Rattle.segment_core.specs.File.{most_segments}
 use Rattle.segment_core.specs.Arrival.{Arrival, Whole, completed}
 use Rattle.picture_core.specs.Contents.{payload_entries}
 use Rattle.picture_core.specs.Entry.{Entry}
@@ -28,10 +29,6 @@ abbrev pub fault_reason : ApduFault → UnreadReason
 fault_reason faults.Short = Short
 fault_reason faults.Flagged = Flagged
 fault_reason faults.BadSegment = Segment
-
--- the most segments of a file
-abbrev pub most_segments : ℕ
-most_segments = 64
 
 abbrev pub is_large : Option Seg → Bool
 is_large None = false

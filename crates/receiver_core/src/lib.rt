@@ -12,6 +12,3 @@ mod unread;
 pub use heard::{HearFault, Heard, ShowFault};
 pub use receiver::Receiver;
 pub use unread::{Unread, UnreadList, UnreadReason};
-
-#[cfg(test)]
-mod tests;

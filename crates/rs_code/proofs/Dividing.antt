@@ -1,15 +1,16 @@
 -- A multiple of a generator is taken away from a word: the power sums at its roots stay.
-use Rattle.std.proofs.Common.{◌≡◌, ℕ, zero, suc, ◌+◌, ◌-◌, ◌*◌, ◌<◌, ◌≤◌, List, [], ◌∷◌, ◌++◌, length, get_or, take, drop, replicate, refl, sym, ◌∙◌, ap, ap₂, arith, drop-cons, add-one, length-append, length-drop}
+use Rattle.std.proofs.Common.{◌≡◌, ℕ, zero, suc, ◌+◌, ◌-◌, ◌*◌, ◌<◌, ◌≤◌, List, [], ◌∷◌, ◌++◌, length, get_or, take, drop, replicate, refl, sym, ◌∙◌, ap, ap₂, arith, drop-cons, add-one, length-append, length-drop, inl, inr}
 use Rattle.std.specs.Int.Bits.{bit_xor, xor_zero_r, xor_self}
-use Rattle.std.proofs.lemmas.List.{drop_at, length-take-le, length-replicate}
+use Rattle.std.proofs.lemmas.List.{drop_at, length-take-le, length-replicate, ext_get_or, get_or_past}
+use Rattle.std.proofs.lemmas.Bool.{cases_lt}
 use Rattle.gf256_core.specs.Field.{IsField}
-use Rattle.poly256.specs.Polynomial.{element_product, element_power, sum_of, scaled, raised}
+use Rattle.poly256.specs.Polynomial.{element_product, element_power, sum_of, scaled, shifted, raised}
 use Rattle.rs_code.specs.CodeWord.{power_sum}
 use Rattle.rs_code.proofs.Xors.{product-zero_right}
 use Rattle.rs_code.proofs.Places.{get_or-zeros}
 use Rattle.rs_code.proofs.PowerSums.{power_sum-cons_zero, power_sum-zeros, power_sum-sum, power_sum-append}
 use Rattle.rs_code.proofs.Kernels.{IsRow, IsRow-multiple, length-scaled, get_or-scaled}
-use Rattle.rs_code.proofs.Pairing.{get_or-sum}
+use Rattle.rs_code.proofs.Pairing.{get_or-sum, get_or-raised}
 
 pub raised-zero : (xs : List ℕ) → raised 0 xs ≡ xs
 unfolding raised
@@ -21,6 +22,68 @@ length-sum [] [] h = refl
 length-sum [] (y ∷ ys) h = absurd (omega arith)
 length-sum (x ∷ xs) [] h = refl
 length-sum (x ∷ xs) (y ∷ ys) h = ap suc (length-sum xs ys (omega arith))
+
+first_shifted : (us : List ℕ) → get_or (shifted us) 0 0 ≡ 0
+unfolding shifted
+first_shifted [] = refl
+first_shifted (u ∷ us) = refl
+
+behind_shifted : (us : List ℕ) (k : ℕ) → get_or (shifted us) (suc k) 0 ≡ get_or us k 0
+unfolding shifted
+behind_shifted [] k = refl
+behind_shifted (u ∷ us) k = refl
+
+length-shifted : (us : List ℕ) → length (shifted us) ≤ suc (length us)
+unfolding shifted
+length-shifted [] = omega arith
+length-shifted (u ∷ us) = omega arith
+
+get_or-raised_low : (n : ℕ) (us : List ℕ) (k : ℕ) → k < n → get_or (raised n us) k 0 ≡ 0
+unfolding raised
+get_or-raised_low zero us k h = absurd (omega arith)
+get_or-raised_low (suc n) us zero h = first_shifted (raised n us)
+get_or-raised_low (suc n) us (suc k) h = behind_shifted (raised n us) k ∙ get_or-raised_low n us k (omega arith)
+
+length-raised : (n : ℕ) (us : List ℕ) → length (raised n us) ≤ n + length us
+unfolding raised
+length-raised zero us = omega arith
+length-raised (suc n) us = let l = length-shifted (raised n us) in let m = length-raised n us in omega arith
+
+-- a list to whose members from a place on a multiple of a polynomial is added
+pub same_as_multiple :
+    (F : IsField 391) (old new list : List ℕ) (place f : ℕ) → length new ≡ length old → place + length list ≤ length old
+    → ((k : ℕ) → k < length list → get_or new (place + k) 0 ≡ bit_xor (get_or old (place + k) 0) (element_product f (get_or list k 0)))
+    → ((k : ℕ) → k < place → get_or new k 0 ≡ get_or old k 0)
+    → ((k : ℕ) → place + length list ≤ k → get_or new k 0 ≡ get_or old k 0)
+    → new ≡ sum_of old (raised place (scaled f list))
+same_as_multiple F old new list place f long room written before left =
+    let r = length-raised place (scaled f list) in
+    let s = length-scaled f list in
+    let l : length (sum_of old (raised place (scaled f list))) ≡ length old = length-sum old (raised place (scaled f list)) (omega arith) in
+    ext_get_or 0 new (sum_of old (raised place (scaled f list))) (long ∙ sym l)
+    (λ k h. elim (cases_lt k place) [
+      | inl low ↦
+          before k low
+          ∙ sym (get_or-sum old (raised place (scaled f list)) k
+          ∙ ap (bit_xor (get_or old k 0)) (get_or-raised_low place (scaled f list) k low) ∙ xor_zero_r (get_or old k 0))
+      | inr high ↦
+          let there : place + (k - place) ≡ k = omega arith in
+          let term : get_or (sum_of old (raised place (scaled f list))) k 0 ≡ bit_xor (get_or old k 0) (element_product f (get_or list (k - place) 0)) =
+          get_or-sum old (raised place (scaled f list)) k
+          ∙ ap (bit_xor (get_or old k 0))
+          (ap (λ (n : ℕ). get_or (raised place (scaled f list)) n 0) (sym there)
+          ∙ get_or-raised place (scaled f list) (k - place) ∙ get_or-scaled F f list (k - place)) in
+          elim (cases_lt (k - place) (length list)) [
+            | inl inside ↦
+                ap (λ (n : ℕ). get_or new n 0) (sym there) ∙ written (k - place) inside
+                ∙ ap (λ (n : ℕ). bit_xor (get_or old n 0) (element_product f (get_or list (k - place) 0))) there ∙ sym term
+            | inr past ↦
+                left k (omega arith)
+                ∙ sym (term
+                ∙ ap (bit_xor (get_or old k 0)) (ap (element_product f) (get_or_past list (k - place) 0 past) ∙ product-zero_right F f)
+                ∙ xor_zero_r (get_or old k 0))
+          ]
+    ])
 
 get_or-zeros_behind : (xs : List ℕ) (n k : ℕ) → get_or (xs ++ replicate n 0) k 0 ≡ get_or xs k 0
 get_or-zeros_behind [] n k = get_or-zeros n k

@@ -124,7 +124,7 @@ unfolding shifted
 get_or-shifted [] k = refl
 get_or-shifted (x ∷ xs) k = refl
 
-get_or-raised : (n : ℕ) (us : List ℕ) (j : ℕ) → get_or (raised n us) (n + j) 0 ≡ get_or us j 0
+pub get_or-raised : (n : ℕ) (us : List ℕ) (j : ℕ) → get_or (raised n us) (n + j) 0 ≡ get_or us j 0
 unfolding raised
 get_or-raised zero us j = ap (λ (k : ℕ). get_or us k 0) (let e : 0 + j ≡ j = omega arith in e)
 get_or-raised (suc n) us j =

@@ -3,9 +3,8 @@ ghost use Rattle.std.specs.Prelude.{◌≡◌, ◌+◌, ◌-◌, ◌/◌, ◌<�
 ghost use Rattle.poly256.specs.Polynomial.{element_product};
 ghost use Rattle.rs_code.specs.Mending.{paired, IsLocator, IsEarlier};
 
-use crate::product::times;
+use crate::product::{add_product, times};
 use gf256_core::{Uat, UatTables, field_laws};
-use poly256::add_multiple;
 
 // The coefficients of a polynomial, each times the sum as far behind `from` as its power, added.
 #[inline]
@@ -46,16 +45,16 @@ fn lengthen<const N: usize>(
 {
     field_laws::<UatTables>();
     let mut next = [0; N];
-    add_multiple(
+    add_product(
         &mut next,
         at + 1 - degree,
         Uat::of(1),
         &locator[..degree + 1],
     );
-    add_multiple(&mut next, 0, off.div(last), &earlier[..degree]);
+    add_product(&mut next, 0, off.div(last), &earlier[..degree]);
     for place in degree..at + 1 {
         let rest = discrepancy(&next[..at + 2], sums, place);
-        add_multiple(&mut next, at - place, rest.div(off), &locator[..degree + 1]);
+        add_product(&mut next, at - place, rest.div(off), &locator[..degree + 1]);
     }
     *earlier = *locator;
     *locator = next;

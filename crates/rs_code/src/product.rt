@@ -1,6 +1,6 @@
 //! Products of elements without a branch: by the powers of 2, which come round once, with zeros behind them.
-ghost use Rattle.std.specs.Prelude.{◌≡◌, ◌<◌, slice_index};
-ghost use Rattle.poly256.specs.Polynomial.{element_product};
+ghost use Rattle.std.specs.Prelude.{◌≡◌, ◌+◌, ◌<◌, ◌≤◌, length, slice_index};
+ghost use Rattle.poly256.specs.Polynomial.{element_product, raised, scaled, sum_of};
 ghost use Rattle.rs_code.specs.declared.product.TheConstants.{POWERS, LOGARITHMS};
 
 use gf256_core::{Uat, UatTables, field_laws};
@@ -120,4 +120,16 @@ pub(crate) fn times(first: Uat, second: Uat) -> Uat
     let first_power = logarithm_row(first.byte()) as usize;
     let second_power = logarithm_row(second.byte()) as usize;
     Uat::of(power_row(first_power + second_power))
+}
+
+// Adds `factor` times x^place times a polynomial to the one in a room.
+#[inline]
+pub(crate) fn add_product(room: &mut [u8], place: usize, factor: Uat, polynomial: &[u8])
+    requires { place + length polynomial.now ≤ length room.old }
+    ensures { room.new ≡ sum_of room.old (raised place (scaled factor polynomial.now)) }
+{
+    field_laws::<UatTables>();
+    for (i, coefficient) in polynomial.iter().enumerate() {
+        room[place + i] ^= times(factor, Uat::of(*coefficient)).byte();
+    }
 }

@@ -4,9 +4,9 @@ ghost use Rattle.rs_code.specs.CodeWord.{IsCodeWord, IsInstance, power_sum};
 
 use crate::generator::generator;
 use crate::locator::byte_law;
+use crate::product::add_product;
 use crate::uplink_rows::add_row;
 use gf256_core::{Uat, UatTables, field_laws};
-use poly256::add_multiple;
 
 // Takes from a word, byte by byte, the multiple of the uplink's generator that begins with the byte. What is left stands in
 // its last 20 bytes, and has the power sums of the word.
@@ -29,7 +29,7 @@ fn divide_by(word: &mut [u8], generator: &[u8])
     field_laws::<UatTables>();
     for place in 0..word.len() - generator.len() {
         let (front, back) = word.split_at_mut(place + 1);
-        add_multiple(back, 0, Uat::of(front[place]), generator);
+        add_product(back, 0, Uat::of(front[place]), generator);
     }
 }
 

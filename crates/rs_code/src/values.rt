@@ -4,6 +4,7 @@ ghost use Rattle.poly256.specs.Laws.{AreDifferent};
 ghost use Rattle.poly256.specs.Polynomial.{element_power, element_product};
 ghost use Rattle.rs_code.specs.Mending.{points_sum, total_of, with_errors};
 
+use crate::product::times;
 use gf256_core::{Uat, UatTables, field_laws};
 
 // Adds to each sum the one before it times `point`. Behind the first these are the sums of the values, each times its point
@@ -15,7 +16,7 @@ fn weigh(sums: &mut [u8], point: Uat)
     let mut before = Uat::of(0);
     for i in 0..sums.len() {
         let here = Uat::of(sums[i]);
-        sums[i] = here.add(point.mul(before)).byte();
+        sums[i] = here.add(times(point, before)).byte();
         before = here;
     }
 }

@@ -7,7 +7,8 @@ use run_core::{Actor, Stop};
 use script_core::{Reason, print_refused};
 use std::alloc::{AllocError, Global};
 
-/// Gives back each line that begins with a plus sign, acts on an empty one, and refuses every other.
+/// Gives back each line that begins with a plus sign, gives nothing for an empty line and for one
+/// that begins with `#`, and refuses every other.
 #[derive(Drop)]
 pub struct Echo;
 
@@ -39,7 +40,7 @@ fn echo_line(alloc: Global, line: &[u8]) -> Result<Option<Bytes>, AllocError>
 {
     let mut text = Vec::new(alloc);
     match line {
-        [] => {}
+        [] | [b'#', ..] => {}
         [b'+', ..] => {
             text.extend_from_slice(line)?;
             text.push(b'\n')?;

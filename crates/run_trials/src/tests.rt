@@ -1,10 +1,15 @@
-ghost use Rattle.std.specs.Prelude.{◌<◌};
+ghost use Rattle.std.specs.Prelude.{◌<◌, None};
+ghost use Rattle.fisb_wire.specs.Faults.{counted, counted-bound};
 
-use crate::Echo;
-use fisb_wire::{Bytes, FaithfulSource, MemorySink, MemorySource, Numbers, PieceSource, Source};
+use crate::{Echo, run_in_memory};
+use fisb_wire::{
+    Bytes, Failed, FaithfulSource, MemorySink, MemorySource, Numbers, PieceSource, Source, StdSink,
+};
 use run_core::{Status, run};
 use script_core::Reason;
 use std::alloc::{AllocError, Global};
+use std::io;
+use std::io::Write;
 use std::test::Fail;
 
 const SCRIPT: &[u8] = b"---\n+one\n\n+two and three\n+four";
@@ -130,18 +135,28 @@ fn a_script_may_be_cut_after_each_byte(rt: HostRuntime) -> Result<(), Fail> {
     Ok(())
 }
 
+// What a run answers and writes over reads of this size, and after so many of them as the room
+// takes.
+fn in_reads_of(alloc: Global, size: u32, count: usize) -> Result<(Status, Vec<u8>), AllocError>
+    requires { 0 < size }
+{
+    let mut source = in_pieces(alloc, bytes(alloc, SCRIPT)?, size, count)?;
+    run_over(alloc, &mut source)
+}
+
 #[test]
 fn the_sizes_of_the_reads_change_nothing(rt: HostRuntime) -> Result<(), Fail> {
-    let mut by_one = in_pieces(rt.alloc(), bytes(rt.alloc(), SCRIPT)?, 1, 31)?;
-    let ran = run_over(rt.alloc(), &mut by_one)?;
-    assert_eq!(rt; ran.0, Status::Done);
-    assert_eq!(rt; ran.1.as_slice(), OUTPUT);
-    let mut by_seven = in_pieces(rt.alloc(), bytes(rt.alloc(), SCRIPT)?, 7, 31)?;
-    let ran = run_over(rt.alloc(), &mut by_seven)?;
-    assert_eq!(rt; ran.0, Status::Done);
-    assert_eq!(rt; ran.1.as_slice(), OUTPUT);
-    let mut at_once = in_pieces(rt.alloc(), bytes(rt.alloc(), SCRIPT)?, 1000, 0)?;
-    let ran = run_over(rt.alloc(), &mut at_once)?;
+    for size in [1, 7] {
+        let ran = in_reads_of(rt.alloc(), size, 31)?;
+        assert_eq!(rt; ran.0, Status::Done);
+        assert_eq!(rt; ran.1.as_slice(), OUTPUT);
+    }
+    Ok(())
+}
+
+#[test]
+fn an_input_may_be_read_at_once(rt: HostRuntime) -> Result<(), Fail> {
+    let ran = in_reads_of(rt.alloc(), 1000, 0)?;
     assert_eq!(rt; ran.0, Status::Done);
     assert_eq!(rt; ran.1.as_slice(), OUTPUT);
     Ok(())
@@ -229,5 +244,139 @@ fn lines_and_tables_have_a_greatest_length(rt: HostRuntime) -> Result<(), Fail> 
         let input = filled(rt.alloc(), before, byte, count, after)?;
         assert_eq!(rt; status_of(rt.alloc(), input)?, status);
     }
+    Ok(())
+}
+
+// What a run answers and writes where the read of this number fails, of reads of 4,096 bytes.
+fn without_read(alloc: Global, input: Bytes, number: u32) -> Result<(Status, Vec<u8>), AllocError> {
+    let mut source = MemorySource::new(input, numbers(alloc, &[number])?, 4096);
+    run_over(alloc, &mut source)
+}
+
+#[test]
+fn a_part_line_that_is_too_long_is_refused_before_a_failed_read(
+    rt: HostRuntime,
+) -> Result<(), Fail> {
+    let input = filled(rt.alloc(), b"---\n", b'a', 32_769, b"")?;
+    let ran = without_read(rt.alloc(), input, 9)?;
+    assert_eq!(rt; ran.0, refused(2, Reason::LineLong));
+    let input = filled(rt.alloc(), b"---\n", b'a', 32_768, b"")?;
+    let ran = without_read(rt.alloc(), input, 9)?;
+    assert_eq!(rt; ran.0, Status::ReadFault);
+    Ok(())
+}
+
+#[test]
+fn a_table_that_is_too_long_is_refused_before_a_failed_read(rt: HostRuntime) -> Result<(), Fail> {
+    let input = filled(rt.alloc(), b"", b'#', 65_541, b"")?;
+    let ran = without_read(rt.alloc(), input, 17)?;
+    assert_eq!(rt; ran.0, refused(1, Reason::TableLong));
+    let input = filled(rt.alloc(), b"", b'#', 65_540, b"")?;
+    let ran = without_read(rt.alloc(), input, 17)?;
+    assert_eq!(rt; ran.0, Status::ReadFault);
+    Ok(())
+}
+
+#[test]
+fn a_line_is_refused_before_a_failed_read(rt: HostRuntime) -> Result<(), Fail> {
+    let input = bytes(rt.alloc(), b"---\n+one\nbad\n+tw")?;
+    let ran = without_read(rt.alloc(), input, 1)?;
+    assert_eq!(rt; ran.0, refused(3, Reason::Syntax));
+    assert_eq!(rt; ran.1.as_slice(), b"+one\nrefused 3 syntax\n".as_slice());
+    Ok(())
+}
+
+#[test]
+fn a_sink_may_be_full_in_the_middle_of_a_line(rt: HostRuntime) -> Result<(), Fail> {
+    let mut source = FaithfulSource::new(bytes(rt.alloc(), SCRIPT)?);
+    let mut sink = MemorySink::new(rt.alloc(), 8, numbers(rt.alloc(), &[])?)?;
+    let ran = run::<Echo, FaithfulSource, MemorySink>(rt.alloc(), &mut source, &mut sink);
+    assert_eq!(rt; ran, Status::WriteFault);
+    assert_eq!(rt; sink.taken(), b"+one\n+tw".as_slice());
+    Ok(())
+}
+
+/// A writer that takes one byte a call.
+#[derive(Drop)]
+struct OneByte {
+    held: Vec<u8>,
+}
+
+impl Write for OneByte {
+    fn write(&mut self, buf: &[u8]) -> io::Result<usize> {
+        let size = buf.len().min(1);
+        self.held.write(&buf[..size])
+    }
+
+    fn flush(&mut self) -> io::Result<()> {
+        Ok(())
+    }
+}
+
+#[test]
+fn a_sink_may_take_one_byte_a_call(rt: HostRuntime) -> Result<(), Fail> {
+    let mut source = FaithfulSource::new(bytes(rt.alloc(), SCRIPT)?);
+    let mut writer = OneByte {
+        held: Vec::new(rt.alloc()),
+    };
+    let mut sink = StdSink::new(&mut writer);
+    let ran = run::<Echo, FaithfulSource, StdSink<&mut OneByte>>(
+        rt.alloc(),
+        &mut source,
+        &mut sink,
+    );
+    assert_eq!(rt; ran, Status::Done);
+    assert_eq!(rt; writer.held.as_slice(), OUTPUT);
+    Ok(())
+}
+
+/// A source of a script without a table, each of whose lines begins with `#`. It has no end.
+#[derive(Drop)]
+struct Endless {
+    has_begun: bool,
+}
+
+impl Source for Endless {
+    ghost left = { λ _. None };
+
+    ghost faults = { λ _. counted 0 };
+
+    ghost bounded = { λ _. counted-bound 0 };
+
+    fn read(&mut self, room: &mut [u8]) -> Result<usize, Failed> {
+        let size = room.len();
+        let piece: &[u8] = if self.has_begun { b"###\n" } else { b"---\n" };
+        room.fill(b'#');
+        if size >= 8 {
+            room[..4].copy_from_slice(piece);
+        }
+        if let Some(last) = room.last_mut() {
+            *last = b'\n';
+        }
+        self.has_begun = true;
+        Ok(size)
+    }
+}
+
+#[test]
+fn an_input_has_at_most_67108864_bytes(rt: HostRuntime) -> Result<(), Fail> {
+    let ran = run_over(rt.alloc(), &mut Endless { has_begun: false })?;
+    assert_eq!(rt; ran.0, Status::TooLong);
+    assert_eq!(rt; ran.1.as_slice(), b"".as_slice());
+    Ok(())
+}
+
+// The number of the status of the small command's run in memory.
+fn code_in_memory(alloc: Global, room: usize) -> Result<u8, AllocError> {
+    let input = bytes(alloc, SCRIPT)?;
+    match run_in_memory::<Echo>(alloc, input, room) {
+        Ok(status) => Ok(status.code()),
+        Err(AllocError) => Err(AllocError),
+    }
+}
+
+#[test]
+fn a_run_in_memory_is_done(rt: HostRuntime) -> Result<(), Fail> {
+    assert_eq!(rt; code_in_memory(rt.alloc(), 100)?, Status::Done.code());
     Ok(())
 }

@@ -1,19 +1,22 @@
 -- What a line says is within its ranges.
-use Rattle.std.proofs.Common.{◌≡◌, ℕ, ◌<◌, ◌≤◌, ◌^◌, Bool, true, false, ◌&&◌, nat_le, cond, List, [], ◌∷◌, Option, Some, None, length, length-append, codes, refl, ap, subst, arith, inl, inr, lit<}
+use Rattle.std.proofs.Common.{◌≡◌, ℕ, ◌+◌, ◌*◌, ◌<◌, ◌≤◌, ◌^◌, ◌==◌, Bool, true, false, ◌&&◌, nat_le, nat_lt, cond, if◌then◌else◌, All, List, [], ◌∷◌, Option, Some, None, option_and_then, length, length-append, codes, refl, ap, subst, arith, inl, inr, lit<}
 use Rattle.std.proofs.lemmas.Bool.{cases_Bool, cond_both}
 use Rattle.std.proofs.lemmas.Bool.Decides.{nat_tests}
 use Rattle.std.proofs.lemmas.List.Splits.{join_with_byte-slice_split}
 use Rattle.std.proofs.lemmas.Str.{IsUtf8-from_is_utf8}
-use Rattle.std.specs.List.{join_with_byte}
+use Rattle.std.proofs.lemmas.List.Elements.{All-append, All-push}
+use Rattle.std.specs.Char.{digit_value, is_digit}
+use Rattle.std.specs.List.{before_first, after_first, join_with_byte}
 use Rattle.std.specs.Option.{IfSome}
 use Rattle.std.specs.Str.{is_utf8, IsUtf8}
 use Rattle.fisb_time.specs.Moment.{IsMoment, first_moment, last_moment}
 use Rattle.dlac_text.specs.Plain.{unplained}
-use Rattle.script_core.specs.Fields.{◌>>=◌, fields, is_word, is_number, digits_value, number_within, moment_in, report_in, unbuilt_where, are_places, is_radar, is_blank, is_rx, station_line, text_line, turn_line, heard_line, hear_line, show_line, other_line, line_of_fields, line_of}
+use Rattle.script_core.specs.Fields.{◌>>=◌, fields, is_word, is_number, digits_value, number_within, moment_in, report_in, unbuilt_where, hex_digit, byte_in, wrong_byte_in, wrong_from, is_radar, is_blank, is_rx, station_line, text_line, turn_line, hear_line, show_line, other_line, line_of_fields, line_of}
 use Rattle.script_core.specs.Laws.{LinesHaveRanges}
 use Rattle.script_core.specs.LineView.{HasRanges}
-use Rattle.script_core.specs.Script.{Line, station, text, turn, show}
+use Rattle.script_core.specs.Script.{Line, station, text, turn, hear, show}
 use Rattle.script_core.proofs.ReportTexts.{report_size}
+use Rattle.script_core.proofs.WrongBytes.{IsWrongByte}
 
 -- what a plain text shows is UTF-8, as the plain text is
 abbrev ShowsUtf8 : Type 0
@@ -89,27 +92,80 @@ turn_ranged size (moment ∷ slot ∷ []) =
     turn_by_ranged size (moment_in moment) (number_within 0 31 slot) (moment_range moment) (number_below 31 32 slot (lit< tt))
 turn_ranged size (moment ∷ slot ∷ more ∷ others) = tt
 
-heard_ranged : (size moment frame : ℕ) (places : List (List ℕ)) → IsMoment moment → frame < 2 ^ 32 → IsRanged size (heard_line moment frame places)
-heard_ranged size moment frame [] m f = (m, f)
-heard_ranged size moment frame (place ∷ others) m f = unbuilt_ranged size (are_places (place ∷ others))
+digit_where : (small : Bool) (value : ℕ) → nat_lt value 16 ≡ small → IfSome (if small then Some value else None) (λ digit. digit < 16)
+digit_where true value is = grind (arith, nat_tests)
+digit_where false value is = tt
 
-abbrev hear_by : Option ℕ → Option ℕ → List (List ℕ) → Option Line
-hear_by moment frame places = do
+digit_range : (digit : ℕ) → IfSome (hex_digit digit) (λ value. value < 16)
+digit_range digit = digit_where (is_digit digit 16) (digit_value digit) refl
+
+abbrev byte_by : Option ℕ → Option ℕ → Option ℕ
+byte_by high low = do
+  h ← high
+  l ← low
+  Some (16 * h + l)
+
+byte_by_range : (high low : Option ℕ) → IfSome high (λ value. value < 16) → IfSome low (λ value. value < 16) → IfSome (byte_by high low) (λ byte. byte < 256)
+byte_by_range None low h l = tt
+byte_by_range (Some high) None h l = tt
+byte_by_range (Some high) (Some low) h l = omega (arith, h, l)
+
+byte_range : (field : List ℕ) → IfSome (byte_in field) (λ byte. byte < 256)
+byte_range [] = tt
+byte_range (high ∷ []) = tt
+byte_range (high ∷ low ∷ []) = byte_by_range (hex_digit high) (hex_digit low) (digit_range high) (digit_range low)
+byte_range (high ∷ low ∷ more ∷ others) = tt
+
+abbrev wrong_by : Option ℕ → Option ℕ → Option (ℕ × ℕ)
+wrong_by place byte = do
+  p ← place
+  b ← byte
+  Some (p, b)
+
+wrong_by_range : (least : ℕ) (place byte : Option ℕ) → IfSome place (λ p. (least ≤ p) × (p ≤ 551)) → IfSome byte (λ b. b < 256) → IfSome (wrong_by place byte) IsWrongByte
+wrong_by_range least None byte p b = tt
+wrong_by_range least (Some place) None p b = tt
+wrong_by_range least (Some place) (Some byte) p b = let most : place ≤ 551 = p.1 in (omega (arith, most), b)
+
+wrong_byte_range : (least : ℕ) (field : List ℕ) → IfSome (wrong_byte_in least field) IsWrongByte
+wrong_byte_range least field =
+    let place = before_first (λ b. b == 61) field in
+    let byte = after_first (λ b. b == 61) field in
+    wrong_by_range least (number_within least 551 place) (byte_in byte) (number_bounds least 551 place) (byte_range byte)
+
+more_wrong : (one : ℕ × ℕ) (rest : Option (List (ℕ × ℕ))) → IsWrongByte one → IfSome rest (All IsWrongByte) → IfSome (option_and_then (λ more. Some (one ∷ more)) rest) (All IsWrongByte)
+more_wrong one None o r = tt
+more_wrong one (Some more) o r = All-append IsWrongByte (one ∷ []) more (All-push IsWrongByte [] one (λ k d within. absurd (omega (arith, within))) o) r
+
+wrong_where : (one : Option (ℕ × ℕ)) (rest : ℕ → Option (List (ℕ × ℕ))) → IfSome one IsWrongByte → ((least : ℕ) → IfSome (rest least) (All IsWrongByte))
+    → IfSome (option_and_then (λ (o : ℕ × ℕ). option_and_then (λ more. Some (o ∷ more)) (rest (o.0 + 1))) one) (All IsWrongByte)
+wrong_where None rest o r = tt
+wrong_where (Some one) rest o r = more_wrong one (rest (one.0 + 1)) o (r (one.0 + 1))
+
+wrong_range : (least : ℕ) (places : List (List ℕ)) → IfSome (wrong_from least places) (All IsWrongByte)
+wrong_range least [] = λ k d within. absurd (omega (arith, within))
+wrong_range least (field ∷ others) = wrong_where (wrong_byte_in least field) (λ next. wrong_from next others) (wrong_byte_range least field) (λ next. wrong_range next others)
+
+abbrev hear_by : Option ℕ → Option ℕ → Option (List (ℕ × ℕ)) → Option Line
+hear_by moment frame wrong = do
   m ← moment
   f ← frame
-  heard_line m f places
+  w ← wrong
+  Some (hear m f w)
 
-hear_by_ranged : (size : ℕ) (moment frame : Option ℕ) (places : List (List ℕ)) → IfSome moment IsMoment → IfSome frame (λ n. n < 2 ^ 32)
-    → IsRanged size (hear_by moment frame places)
-hear_by_ranged size None frame places m f = tt
-hear_by_ranged size (Some moment) None places m f = tt
-hear_by_ranged size (Some moment) (Some frame) places m f = heard_ranged size moment frame places m f
+hear_by_ranged : (size : ℕ) (moment frame : Option ℕ) (wrong : Option (List (ℕ × ℕ))) → IfSome moment IsMoment → IfSome frame (λ n. n < 2 ^ 32) → IfSome wrong (All IsWrongByte)
+    → IsRanged size (hear_by moment frame wrong)
+hear_by_ranged size None frame wrong m f w = tt
+hear_by_ranged size (Some moment) None wrong m f w = tt
+hear_by_ranged size (Some moment) (Some frame) None m f w = tt
+hear_by_ranged size (Some moment) (Some frame) (Some wrong) m f w = (m, f, w)
 
 hear_ranged : (size : ℕ) (rest : List (List ℕ)) → IsRanged size (hear_line rest)
 hear_ranged size [] = tt
 hear_ranged size (moment ∷ []) = tt
 hear_ranged size (moment ∷ frame ∷ places) =
-    hear_by_ranged size (moment_in moment) (number_within 0 4294967295 frame) places (moment_range moment) (number_below 4294967295 (2 ^ 32) frame (lit< tt))
+    hear_by_ranged size (moment_in moment) (number_within 0 4294967295 frame) (wrong_from 0 places) (moment_range moment)
+    (number_below 4294967295 (2 ^ 32) frame (lit< tt)) (wrong_range 0 places)
 
 abbrev show_by : Option ℕ → Option Line
 show_by moment = do
@@ -185,15 +241,15 @@ other_ranged size word rest =
     (either_ranged size (is_word word (codes "radar")) (unbuilt_where (is_radar rest)) _ (unbuilt_ranged size (is_radar rest))
     (either_ranged size (is_word word (codes "blank")) (unbuilt_where (is_blank rest)) _ (unbuilt_ranged size (is_blank rest))
     (either_ranged size (is_word word (codes "turn")) (turn_line rest) _ (turn_ranged size rest)
-    (either_ranged size (is_word word (codes "hear")) (hear_line rest) _ (hear_ranged size rest)
     (either_ranged size (is_word word (codes "rx")) (unbuilt_where (is_rx rest)) _ (unbuilt_ranged size (is_rx rest))
-    (either_ranged size (is_word word (codes "show")) (show_line rest) None (show_ranged size rest) tt))))))
+    (either_ranged size (is_word word (codes "show")) (show_line rest) None (show_ranged size rest) tt)))))
 
 fields_ranged : ShowsUtf8 → (size : ℕ) (parts : List (List ℕ)) → length (join_with_byte 32 parts) ≤ size → IsRanged size (line_of_fields parts)
 fields_ranged law size [] fits = tt
 fields_ranged law size (word ∷ rest) fits =
     let behind = joined_behind word rest in
-    either_ranged size (is_word word (codes "text")) (text_line rest) (other_line word rest) (text_ranged law size rest (omega (arith, behind, fits))) (other_ranged size word rest)
+    either_ranged size (is_word word (codes "text")) (text_line rest) _ (text_ranged law size rest (omega (arith, behind, fits)))
+    (either_ranged size (is_word word (codes "hear")) (hear_line rest) (other_line word rest) (hear_ranged size rest) (other_ranged size word rest))
 
 line_ranged : ShowsUtf8 → (bytes : List ℕ) → IsRanged (length bytes) (line_of bytes)
 line_ranged law [] = tt

@@ -1,9 +1,8 @@
 -- The forms of the lines of a script: a word, and fields with exactly one space between them.
 use Rattle.std.specs.Prelude.{ℕ, ◌+◌, ◌-◌, ◌*◌, Bool, true, false, not, ◌&&◌, ◌||◌, ◌==◌, nat_lt, nat_le, if◌then◌else◌, List, [], ◌∷◌, length, fold, Option, Some, None, option_and_then, is_some, codes}
-use Rattle.std.specs.Char.{is_ascii_digit, is_ascii_hexdigit}
+use Rattle.std.specs.Char.{digit_value, is_ascii_digit, is_ascii_hexdigit, is_digit}
 use Rattle.std.specs.Int.{is_in_range}
 use Rattle.std.specs.List.{slice_split, join_with_byte, list_all, before_first, after_first}
-use Rattle.std.specs.Option.{option_map_or}
 use Rattle.std.specs.Str.{bytes_eq, is_utf8}
 use Rattle.fisb_time.specs.Moment.{first_moment, last_moment}
 use Rattle.dlac_text.specs.Plain.{unplained}
@@ -67,27 +66,34 @@ is_numbers field = list_all is_block_number (slice_split (λ b. b == 44) field)
 abbrev pub is_hex : ℕ → List ℕ → Bool
 is_hex digits field = (length field == digits) && list_all is_ascii_hexdigit field
 
--- PLACE=XX: the place of a frame, where one stands before the first equals sign and a byte behind it
-abbrev pub place_in : List ℕ → Option ℕ
-place_in field = if is_hex 2 (after_first (λ b. b == 61) field) then number_within 0 551 (before_first (λ b. b == 61) field) else None
+-- the value of a hexadecimal digit, of either case
+abbrev pub hex_digit : ℕ → Option ℕ
+hex_digit digit = if is_digit digit 16 then Some (digit_value digit) else None
 
--- the places of fields that are all of that form
-abbrev pub places_in : List (List ℕ) → Option (List ℕ)
-places_in [] = Some []
-places_in (field ∷ others) = do
-  place ← place_in field
-  places ← places_in others
-  Some (place ∷ places)
+-- XX: the byte of two of them
+abbrev pub byte_in : List ℕ → Option ℕ
+byte_in [] = None
+byte_in (high ∷ []) = None
+byte_in (high ∷ low ∷ []) = do
+  h ← hex_digit high
+  l ← hex_digit low
+  Some (16 * h + l)
+byte_in (high ∷ low ∷ more ∷ others) = None
 
--- each number is below the next one
-abbrev pub rises : List ℕ → Bool
-rises [] = true
-rises (number ∷ []) = true
-rises (number ∷ next ∷ more) = nat_lt number next && rises (next ∷ more)
+-- PLACE=XX: a place of a frame from `least` on, before the first equals sign, and the byte behind it
+abbrev pub wrong_byte_in : ℕ → List ℕ → Option (ℕ × ℕ)
+wrong_byte_in least field = do
+  place ← number_within least 551 (before_first (λ b. b == 61) field)
+  byte ← byte_in (after_first (λ b. b == 61) field)
+  Some (place, byte)
 
--- any number of PLACE=XX, whose places rise
-abbrev pub are_places : List (List ℕ) → Bool
-are_places others = option_map_or rises (places_in others) false
+-- any number of PLACE=XX: the first place is from `least` on, and each other one above the place before it
+abbrev pub wrong_from : ℕ → List (List ℕ) → Option (List (ℕ × ℕ))
+wrong_from least [] = Some []
+wrong_from least (field ∷ others) = do
+  one ← wrong_byte_in least field
+  more ← wrong_from (one.0 + 1) others
+  Some (one ∷ more)
 
 -- as many fields as forms, and each of its form
 abbrev pub have_forms : List (List ℕ → Bool) → List (List ℕ) → Bool
@@ -145,17 +151,14 @@ turn_line (moment ∷ slot ∷ []) = do
 turn_line (moment ∷ slot ∷ more ∷ others) = None
 
 -- `hear MOMENT FRAME`, and any number of ` PLACE=XX` with rising places
-abbrev pub heard_line : ℕ → ℕ → List (List ℕ) → Option Line
-heard_line moment frame [] = Some (hear moment frame)
-heard_line moment frame (place ∷ others) = unbuilt_where (are_places (place ∷ others))
-
 abbrev pub hear_line : List (List ℕ) → Option Line
 hear_line [] = None
 hear_line (moment ∷ []) = None
 hear_line (moment ∷ frame ∷ places) = do
   m ← moment_in moment
   f ← number_within 0 4294967295 frame
-  heard_line m f places
+  wrong ← wrong_from 0 places
+  Some (hear m f wrong)
 
 -- `rx MOMENT HEX`, with the 552 bytes of a frame
 abbrev pub is_rx : List (List ℕ) → Bool
@@ -169,30 +172,31 @@ show_line (moment ∷ []) = do
   Some (show m)
 show_line (moment ∷ more ∷ others) = None
 
--- the line of a word other than `text`
+-- the line of a word other than `text` and `hear`
 abbrev pub other_line : List ℕ → List (List ℕ) → Option Line
 other_line word rest = if is_word word (codes "station") then station_line rest
     else (if is_word word (codes "radar") then unbuilt_where (is_radar rest)
     else (if is_word word (codes "blank") then unbuilt_where (is_blank rest)
     else (if is_word word (codes "turn") then turn_line rest
-    else (if is_word word (codes "hear") then hear_line rest
     else (if is_word word (codes "rx") then unbuilt_where (is_rx rest)
-    else (if is_word word (codes "show") then show_line rest else None))))))
+    else (if is_word word (codes "show") then show_line rest else None)))))
 
 -- the line that its fields spell
 abbrev pub line_of_fields : List (List ℕ) → Option Line
 line_of_fields [] = None
-line_of_fields (word ∷ rest) = if is_word word (codes "text") then text_line rest else other_line word rest
+line_of_fields (word ∷ rest) = if is_word word (codes "text") then text_line rest
+    else (if is_word word (codes "hear") then hear_line rest else other_line word rest)
 
 -- the line that some bytes without a newline are; None where they are of no line's form
 abbrev pub line_of : List ℕ → Option Line
 line_of [] = Some empty
 line_of (b ∷ bytes) = line_of_fields (fields (b ∷ bytes))
 
--- whether the first field is `text`: the only word whose line takes memory
-abbrev pub begins_with_text : List (List ℕ) → Bool
-begins_with_text [] = false
-begins_with_text (word ∷ rest) = is_word word (codes "text")
+-- whether the line of some fields takes memory: a `text` line for its report, and a `hear` line for its wrong bytes
+abbrev pub takes_memory : List (List ℕ) → Bool
+takes_memory [] = false
+takes_memory (word ∷ rest) =
+    is_word word (codes "text") || (is_word word (codes "hear") && nat_lt 2 (length rest))
 
 -- the parts between a separator's places in what is left of some bytes, and how many bytes are left; None where none is
 abbrev pub parts_left : ℕ → Option (List ℕ) → List (List ℕ)

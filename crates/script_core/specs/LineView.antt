@@ -1,5 +1,5 @@
 -- A line as the program reads it, for the definitions.
-use Rattle.std.specs.Prelude.{ℕ, ◌<◌, ◌≤◌, ◌^◌, length}
+use Rattle.std.specs.Prelude.{ℕ, ◌<◌, ◌≤◌, ◌^◌, All, length}
 use Rattle.std.specs.Str.{IsUtf8}
 use Rattle.std.specs.String.{string_bytes}
 use Rattle.fisb_time.specs.Moment.{IsMoment}
@@ -12,7 +12,7 @@ line_view lines.Nothing = empty
 line_view (lines.Station latitude longitude site) = station latitude longitude site
 line_view (lines.Text moment version report) = text moment version (string_bytes report)
 line_view (lines.Turn moment slot) = turn moment slot
-line_view (lines.Hear moment frame) = hear moment frame
+line_view (lines.Hear moment frame wrong) = hear moment frame wrong
 line_view (lines.Show moment) = show moment
 line_view lines.Unbuilt = unbuilt
 
@@ -22,6 +22,6 @@ HasRanges size empty = Unit {0}
 HasRanges size (station latitude longitude site) = (latitude < 2 ^ 23) × (longitude < 2 ^ 24) × (site < 16)
 HasRanges size (text moment version report) = IsMoment moment × IsMoment version × IsUtf8 report × (length report ≤ size)
 HasRanges size (turn moment slot) = IsMoment moment × (slot < 32)
-HasRanges size (hear moment frame) = IsMoment moment × (frame < 2 ^ 32)
+HasRanges size (hear moment frame wrong) = IsMoment moment × (frame < 2 ^ 32) × All (λ one. (one.0 < 552) × (one.1 < 256)) wrong
 HasRanges size (show moment) = IsMoment moment
 HasRanges size unbuilt = Unit {0}

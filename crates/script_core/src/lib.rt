@@ -4,19 +4,21 @@
 mod field_form;
 mod fields;
 mod forms;
+mod hearing;
 mod kinds;
 mod laws;
-mod places;
 mod printing;
 mod reading;
 mod reason;
 mod script_line;
+mod wrong;
 
 pub use laws::ranges_of_lines;
 pub use printing::print_refused;
 pub use reading::read_line;
 pub use reason::Reason;
 pub use script_line::{Line, LineFault};
+pub use wrong::Wrong;
 
 #[cfg(test)]
 mod tests;

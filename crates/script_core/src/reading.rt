@@ -1,12 +1,13 @@
 //! Reads one line of a script.
 ghost use Rattle.std.specs.Prelude.{◌≡◌, ℕ, ◌≤◌, IfOk, IfSome, IsTrue, None, Some, length, option_copied, option_map};
 ghost use Rattle.std.specs.String.{string_bytes};
-ghost use Rattle.script_core.specs.Fields.{fields, fields_left, bytes_left, line_of, text_line, report_in, other_line, unbuilt_where, begins_with_text};
+ghost use Rattle.script_core.specs.Fields.{fields, fields_left, bytes_left, line_of, text_line, report_in, other_line, unbuilt_where, takes_memory};
 ghost use Rattle.script_core.specs.LineView.{line_view, HasRanges};
 
 use crate::fields::{is_word, next_field, read_moment};
 use crate::forms::{is_blank, is_radar, is_rx};
-use crate::kinds::{read_hear, read_show, read_station, read_turn};
+use crate::hearing::read_hear;
+use crate::kinds::{read_show, read_station, read_turn};
 use crate::script_line::{Line, LineFault};
 use dlac_text::unplain;
 use std::alloc::Global;
@@ -16,11 +17,11 @@ use std::alloc::Global;
 /// # Errors
 ///
 /// `Syntax` where the bytes are of no line's form; `NoMemory` where memory runs out, which only the report of a
-/// `text` line takes.
+/// `text` line and the wrong bytes of a `hear` line take.
 pub fn read_line(alloc: Global, line: &[u8]) -> Result<Line, LineFault>
     ensures line { IfOk result (λ read. line_of line.now ≡ Some (line_view read)) }
     ensures syntax { result ≡ Err LineFault.Syntax → line_of line.now ≡ None }
-    ensures no_memory { result ≡ Err LineFault.NoMemory → IsTrue (begins_with_text (fields line.now)) }
+    ensures no_memory { result ≡ Err LineFault.NoMemory → IsTrue (takes_memory (fields line.now)) }
     ensures ranges { IfOk result (λ read. HasRanges (length line.now) (line_view read)) }
 {
     if line.is_empty() {
@@ -31,6 +32,9 @@ pub fn read_line(alloc: Global, line: &[u8]) -> Result<Line, LineFault>
     };
     if is_word(word, "text") {
         return read_text(alloc, rest);
+    }
+    if is_word(word, "hear") {
+        return read_hear(alloc, rest);
     }
     match read_other(word, rest) {
         Some(read) => Ok(read),
@@ -85,7 +89,7 @@ fn read_report(alloc: Global, bytes: &[u8]) -> Result<String, LineFault>
     }
 }
 
-/// A line of another word than `text`.
+/// A line of another word than `text` and `hear`.
 fn read_other(word: &[u8], rest: Option<&[u8]>) -> Option<Line>
     ensures line { option_map line_view result ≡ other_line word.now (fields_left (option_copied rest.entry)) }
     ensures ranges { (size : ℕ) → IfSome result (λ read. HasRanges size (line_view read)) }
@@ -98,8 +102,6 @@ fn read_other(word: &[u8], rest: Option<&[u8]>) -> Option<Line>
         unbuilt_where(is_blank(rest))
     } else if is_word(word, "turn") {
         read_turn(rest)
-    } else if is_word(word, "hear") {
-        read_hear(rest)
     } else if is_word(word, "rx") {
         unbuilt_where(is_rx(rest))
     } else if is_word(word, "show") {

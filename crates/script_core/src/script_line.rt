@@ -1,5 +1,6 @@
 //! What a line says, and why one is not read.
 
+use crate::wrong::Wrong;
 use fisb_time::Moment;
 use thiserror::Error;
 
@@ -25,16 +26,17 @@ pub enum Line {
         moment: Moment,
         slot: u8,
     },
-    /// A frame is heard: the number of the frame, counted from 0 in the order of sending.
+    /// A frame is heard: the number of the frame, counted from 0 in the order of sending, and what is heard wrong of it.
     Hear {
         moment: Moment,
         frame: u32,
+        wrong: Wrong,
     },
     /// The picture is asked for.
     Show {
         moment: Moment,
     },
-    /// A line of its form that nothing acts on: `radar`, `blank`, `rx`, or `hear` with changed bytes.
+    /// A line of its form that nothing acts on: `radar`, `blank` or `rx`.
     Unbuilt,
 }
 

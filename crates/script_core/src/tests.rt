@@ -44,9 +44,14 @@ fn moments_and_numbers_are_read(rt: HostRuntime) -> Result<(), Fail> {
         _ => assert!(rt; false, "turn"),
     }
     match read_line(rt.alloc(), b"hear 1700000002 4294967295")? {
-        Line::Hear { moment, frame } => {
+        Line::Hear {
+            moment,
+            frame,
+            wrong,
+        } => {
             assert_eq!(rt; moment.seconds(), 1_700_000_002);
             assert_eq!(rt; frame, 4_294_967_295);
+            assert_eq!(rt; wrong.len(), 0);
         }
         _ => assert!(rt; false, "hear"),
     }
@@ -169,14 +174,20 @@ fn wrong_forms_are_refused(rt: HostRuntime) {
 }
 
 #[test]
-fn bytes_that_are_changed_are_places_that_rise(rt: HostRuntime) {
-    for line in [
-        "hear 1700000002 0 0=5A 48=ff",
-        "hear 1700000002 0 551=Ff",
-        "hear 1700000002 0 0=00 1=11 2=22 551=99",
-    ] {
-        check_unbuilt(&rt, rt.alloc(), line);
+fn wrong_bytes_are_read_with_their_places(rt: HostRuntime) -> Result<(), Fail> {
+    match read_line(rt.alloc(), b"hear 1700000002 0 0=5A 48=ff 551=0b")? {
+        Line::Hear { wrong, .. } => {
+            assert_eq!(rt; wrong.len(), 3);
+            assert_eq!(rt; wrong.at(0), (0, 0x5A));
+            assert_eq!(rt; wrong.at(1), (48, 0xFF));
+            assert_eq!(rt;
+                wrong.all(),
+                [(0, 0x5A), (48, 0xFF), (551, 0x0B)].as_slice()
+            );
+        }
+        _ => assert!(rt; false, "hear"),
     }
+    Ok(())
 }
 
 #[test]

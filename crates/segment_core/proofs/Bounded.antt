@@ -38,13 +38,13 @@ once-sorted (e ∷ es) sorted = (
   once-sorted es (sorted_tail order.ghosts.cmp e.0 (keys_of es) sorted),
 )
 
-same-turned : (a b : PieceName) → same_piece a b ≡ same_piece b a
+pub same-turned : (a b : PieceName) → same_piece a b ≡ same_piece b a
 same-turned a b = bool_same (same_piece a b) (same_piece b a)
     (λ (e : same_piece a b ≡ true). subst (λ (x : PieceName). same_piece x a ≡ true) (same-is a b e) (same-self a))
     (λ (e : same_piece b a ≡ true). subst (λ (x : PieceName). same_piece x b ≡ true) (same-is b a e) (same-self b))
 
 -- without a name, the others are held came before
-held-without : (k q : PieceName) (es : Pieces) → AreNamedOnce es → kept_under (remove_entry (same_piece k) es) q
+pub held-without : (k q : PieceName) (es : Pieces) → AreNamedOnce es → kept_under (remove_entry (same_piece k) es) q
     ≡ cond (same_piece k q) None (kept_under es q)
 held-without k q [] once = elim (cases_Bool (same_piece k q)) [ inl t ↦ rw t refl | inr f ↦ rw f refl ]
 held-without k q (e ∷ es) once = elim (cases_Bool (same_piece k e.0)) [

@@ -6,5 +6,5 @@ pub mod Scenes
 pub mod PieceNames
 pub mod Stands
 pub mod StoreSteps
-pub mod LiveUntil
+pub mod Places
 pub mod Bounded

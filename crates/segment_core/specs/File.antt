@@ -26,6 +26,10 @@ whole_limit form = body_limit - header_length form false
 abbrev pub segment_limit : TimeForm → ℕ
 segment_limit form = body_limit - header_length form true
 
+-- the most segments of a file that is read
+abbrev pub most_segments : ℕ
+most_segments = 64
+
 -- so many pieces of this length, the last of which may be shorter
 abbrev pub pieces : ℕ → ℕ → List ℕ → List (List ℕ)
 pieces zero limit bytes = []

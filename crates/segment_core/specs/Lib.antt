@@ -7,3 +7,4 @@ pub mod Kept
 pub mod HeldPieces
 pub mod Store
 pub mod Bound
+pub mod Ends

@@ -4,7 +4,7 @@ use Rattle.std.specs.Prelude.{filter, Option, Some, None, is_some}
 use Rattle.std.specs.List.{list_all}
 use Rattle.apdu_core.specs.declared.unit.Seg.{Seg}
 use Rattle.life_table.specs.Products.{regional_radar, conus_radar}
-use Rattle.undo_map.specs.Marked.{Marked}
+use Rattle.segment_core.specs.File.{most_segments}
 use Rattle.segment_core.specs.Arrival.{Arrival, has_piece, other_numbers, joined_payload}
 use Rattle.segment_core.specs.Kept.{Pieces, IsNumbered, kept_under, kept_of}
 use Rattle.segment_core.specs.declared.piece_name.PieceName.{PieceName}
@@ -51,10 +51,10 @@ abbrev pub IsNotBefore : Option ℕ → ℕ → Type 0
 IsNotBefore None moment = Unit {0}
 IsNotBefore (Some kept) moment = kept ≤ moment
 
--- a segment's count is at most 64, and its number from 1 to the count
+-- a segment's count is not too large, and its number is from 1 to the count
 abbrev pub FitsFile : Option Seg → Type 0
 FitsFile None = Unit {0}
-FitsFile (Some s) = (1 ≤ s.number) × (s.number ≤ s.count) × (s.count ≤ 64)
+FitsFile (Some s) = (1 ≤ s.number) × (s.number ≤ s.count) × (s.count ≤ most_segments)
 
 -- what an arrival that is not stale brings
 abbrev pub live_answer : List Arrival → Arrival → Option Seg → Taken
@@ -73,13 +73,3 @@ taken_with longest moment taken a = if is_live longest moment a.product a.versio
 -- the pieces of files that are not stale
 abbrev pub live_pieces : Longest → ℕ → Pieces → Pieces
 live_pieces longest moment pieces = filter (λ e. is_live longest moment e.0.product e.0.version) pieces
-
--- no piece is of a file that is stale before this second
-abbrev pub AreLiveUntil : Longest → ℕ → Pieces → Type 0
-AreLiveUntil longest due pieces = (name : PieceName) → is_some (kept_under pieces name) ≡ true
-    → due ≤ name.version + longest_of longest name.product
-
--- the same at the mark too
-abbrev pub AreMarkedLiveUntil : Longest → ℕ → Marked PieceName (Option (List ℕ)) → Type 0
-AreMarkedLiveUntil longest due marked = AreLiveUntil longest due marked.entries
-    × ((mark : Pieces) → marked.mark ≡ Some mark → AreLiveUntil longest due mark)

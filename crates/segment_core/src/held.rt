@@ -1,5 +1,6 @@
 //! The pieces that are held, and what a segment brings among them.
-ghost use Rattle.std.specs.Prelude.{◌≡◌, ◌+◌, ◌≤◌, IfOk, OnErr, None, map, is_some};
+ghost use Rattle.std.specs.Prelude.{◌≡◌, ℕ, ◌+◌, ◌-◌, ◌^◌, ◌<◌, ◌≤◌, List, IfOk, OnErr, None, map, is_some};
+ghost use Rattle.undo_map.specs.Ends.{HasLeft, KeepsPlaces, due_places};
 ghost use Rattle.std.specs.List.{range_with_len};
 ghost use Rattle.std.specs.Option.{option_copied};
 ghost use Rattle.segment_core.specs.Bound.{AreNamedOnce};
@@ -7,7 +8,8 @@ ghost use Rattle.segment_core.specs.HeldPieces.{arrival_answer, bytes_at, held_a
 ghost use Rattle.segment_core.specs.HeldPieces.{held_bytes, held_with};
 ghost use Rattle.segment_core.specs.HeldPieces.{joined_held, others_held};
 ghost use Rattle.segment_core.specs.Kept.{IsNumbered, kept_under, with_number};
-ghost use Rattle.segment_core.specs.Store.{AreMarkedLiveUntil, FitsFile, is_live};
+ghost use Rattle.segment_core.specs.Ends.{HavePlaces};
+ghost use Rattle.segment_core.specs.Store.{FitsFile, is_live};
 ghost use Rattle.segment_core.specs.Store.{live_pieces, longest_of};
 ghost use Rattle.segment_core.specs.Views.{arrival_view};
 ghost use Rattle.segment_core.specs.declared.piece_name.PieceName.{PieceName};
@@ -17,12 +19,14 @@ use crate::piece_name::PieceName;
 use fisb_time::Moment;
 use fisb_wire::Bytes;
 use std::alloc::{AllocError, Global};
-use undo_map::UndoMap;
+use undo_map::{EndQueue, UndoMap};
 
 /// Takes an arrival that is not stale: what it brings, and what is held then.
 pub(crate) fn take_live(
     alloc: Global,
+    longest: &Longest,
     pieces: &mut UndoMap<PieceName, Option<Bytes>>,
+    ends: &mut EndQueue<PieceName>,
     arrived: &Arrived<'_>,
 ) -> Result<Taken, AllocError>
     requires { FitsFile arrived.now.seg }
@@ -33,6 +37,9 @@ pub(crate) fn take_live(
         arrived.now.seg other) }
     ensures mark { pieces.new.mark ≡ pieces.old.mark }
     ensures err { OnErr result (pieces.new ≡ pieces.old) }
+    ensures kept { KeepsPlaces ends.old.places ends.new.places }
+    ensures placed { HavePlaces longest.now ends.old.places pieces.old.entries
+        → HavePlaces longest.now ends.new.places pieces.new.entries }
 {
     match arrived.seg {
         None => {
@@ -41,7 +48,7 @@ pub(crate) fn take_live(
         }
         Some(seg) => {
             let name = PieceName::of(arrived, seg);
-            let taken = take_piece(alloc, pieces, name, arrived.payload)?;
+            let taken = take_piece(alloc, longest, pieces, ends, name, arrived.payload)?;
             Ok(taken)
         }
     }
@@ -50,7 +57,9 @@ pub(crate) fn take_live(
 /// Takes a segment among the pieces: what it brings, and what is held then.
 fn take_piece(
     alloc: Global,
+    longest: &Longest,
     pieces: &mut UndoMap<PieceName, Option<Bytes>>,
+    ends: &mut EndQueue<PieceName>,
     name: PieceName,
     payload: &[u8],
 ) -> Result<Taken, AllocError>
@@ -62,10 +71,14 @@ fn take_piece(
         kept_under pieces.new.entries other ≡ held_with pieces.old.entries name payload.now other) }
     ensures mark { pieces.new.mark ≡ pieces.old.mark }
     ensures err { OnErr result (pieces.new ≡ pieces.old) }
+    ensures kept { KeepsPlaces ends.old.places ends.new.places }
+    ensures placed { HavePlaces longest.now ends.old.places pieces.old.entries
+        → HavePlaces longest.now ends.new.places pieces.new.entries }
 {
     if is_held(pieces, &name) {
         return Ok(Taken::Again);
     }
+    ends.add(end_of(longest, name.product, name.version), name)?;
     if are_others_held(pieces, &name) {
         let whole = join_pieces(alloc, pieces, &name, payload)?;
         pieces.write_all(numbers_alone(alloc, &name)?)?;
@@ -194,46 +207,64 @@ pub(crate) fn is_live(longest: &Longest, moment: Moment, product: u16, version: 
     moment < version || moment.seconds() - version.seconds() < life
 }
 
-/// A second before which a file of this version is not stale.
-pub(crate) fn end_of(longest: &Longest, product: u16, version: Moment) -> u64
-    ensures { result ≤ version + longest_of longest.now product }
+/// A second before which a file of this version is not stale; it is from then on, but where the
+/// second is the last of all.
+fn end_of(longest: &Longest, product: u16, version: Moment) -> u64
+    ensures before { result ≤ version + longest_of longest.now product }
+    ensures later { (moment : ℕ) → moment < version + longest_of longest.now product
+        → moment < 2 ^ 64 - 1 → moment < result }
 {
-    version.seconds().saturating_add(longest_of(longest, product))
+    version
+        .seconds()
+        .saturating_add(longest_of(longest, product))
 }
 
-/// Drops the pieces of files whose product's longest life has passed, where none is stale before
-/// the second `due`, and answers such a second for those that stay.
-pub(crate) fn drop_due(
+/// Drops the pieces of files whose product's longest life has passed, and looks at no others.
+pub(crate) fn drop_stale(
     pieces: &mut UndoMap<PieceName, Option<Bytes>>,
+    ends: &mut EndQueue<PieceName>,
     longest: &Longest,
-    due: u64,
     moment: Moment,
-) -> u64
+)
     requires unmarked { pieces.old.mark ≡ None }
-    requires due { AreMarkedLiveUntil longest.now due pieces.old }
+    requires placed { HavePlaces longest.now ends.old.places pieces.old.entries }
     ensures pieces { pieces.new.entries ≡ live_pieces longest.now moment pieces.old.entries }
     ensures once { AreNamedOnce pieces.new.entries }
     ensures mark { pieces.new.mark ≡ None }
-    ensures due { AreMarkedLiveUntil longest.now result pieces.new }
+    ensures placed { HavePlaces longest.now ends.new.places pieces.new.entries }
 {
-    if moment.seconds() < due {
-        names_stand_once(pieces);
-        return due;
+    let now = moment.seconds();
+    while let Some((_, name)) = ends.take_ended(now) {
+        drop_name(pieces, ends, longest, name, moment);
     }
-    drop_stale(pieces, longest, moment);
-    least_end(pieces, longest)
+    names_stand_once(pieces);
 }
 
-/// A second before which no piece is stale.
-fn least_end(pieces: &UndoMap<PieceName, Option<Bytes>>, longest: &Longest) -> u64
-    requires { pieces.now.mark ≡ None }
-    ensures { AreMarkedLiveUntil longest.now result pieces.now }
+/// Drops a name where its file is stale, and gives it a place again where it is not.
+fn drop_name(
+    pieces: &mut UndoMap<PieceName, Option<Bytes>>,
+    ends: &mut EndQueue<PieceName>,
+    longest: &Longest,
+    name: PieceName,
+    moment: Moment,
+)
+    requires unmarked { pieces.old.mark ≡ None }
+    requires room { 0 < ends.old.spare }
+    requires moment { moment < 2 ^ 64 - 1 }
+    ensures pieces { live_pieces longest.now moment pieces.new.entries
+        ≡ live_pieces longest.now moment pieces.old.entries }
+    ensures mark { pieces.new.mark ≡ None }
+    ensures placed { (before : List (ℕ × PieceName)) (end : ℕ)
+        → HasLeft (end, name) before ends.old.places
+        → HavePlaces longest.now before pieces.old.entries
+        → HavePlaces longest.now ends.new.places pieces.new.entries }
+    ensures due { due_places moment ends.new.places ≡ due_places moment ends.old.places }
 {
-    let mut least = u64::MAX;
-    for (name, _) in pieces.iter() {
-        least = least.min(end_of(longest, name.product, name.version));
+    if is_live(longest, moment, name.product, name.version) {
+        ends.add_again(end_of(longest, name.product, name.version), name);
+        return;
     }
-    least
+    pieces.remove(&name);
 }
 
 /// No name stands twice, since the names are in order.
@@ -241,14 +272,4 @@ fn names_stand_once(pieces: &UndoMap<PieceName, Option<Bytes>>)
     ensures { AreNamedOnce pieces.now.entries }
 {
     let _ = pieces.len();
-}
-
-/// Drops the pieces of files whose product's longest life has passed.
-fn drop_stale(pieces: &mut UndoMap<PieceName, Option<Bytes>>, longest: &Longest, moment: Moment)
-    requires { pieces.old.mark ≡ None }
-    ensures pieces { pieces.new.entries ≡ live_pieces longest.now moment pieces.old.entries }
-    ensures once { AreNamedOnce pieces.new.entries }
-    ensures mark { pieces.new.mark ≡ None }
-{
-    pieces.retain(|name, _| is_live(longest, moment, name.product, name.version));
 }

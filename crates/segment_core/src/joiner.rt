@@ -8,13 +8,13 @@ ghost use Rattle.segment_core.specs.Store.{live_pieces, taken_with};
 ghost use Rattle.segment_core.specs.Views.{arrival_view};
 
 use crate::arrived::{Arrived, Longest, Taken};
-use crate::held::{drop_due, end_of, is_live, take_live};
+use crate::held::{drop_stale, is_live, take_live};
 use crate::piece_name::PieceName;
 use fisb_time::Moment;
 use fisb_wire::Bytes;
 use std::alloc::{AllocError, Global};
 use std::marker::Model;
-use undo_map::UndoMap;
+use undo_map::{EndQueue, UndoMap};
 
 /// Joins the segments of files as they arrive. Of each file that is not stale it keeps the first
 /// piece of each number, and the numbers alone once the file was whole.
@@ -25,9 +25,9 @@ pub struct Joiner {
     clock: Option<Moment>,
     marked_clock: Option<Moment>,
     pieces: UndoMap<PieceName, Option<Bytes>>,
-    /// No held piece is stale before this second, and none at the mark: until then nothing is to
-    /// be forgotten, and no purge has to look.
-    due: u64,
+    /// Each name that is held, now or at the mark, stands here by the second from which on its file
+    /// is stale; so a purge finds what is stale and looks at nothing else.
+    ends: EndQueue<PieceName>,
 }
 
 impl Model for Joiner {
@@ -45,9 +45,9 @@ impl Model for Joiner {
       }) j.pieces.mark;
     } };
 
-    ghost use Rattle.segment_core.specs.Store.{AreMarkedLiveUntil};
+    ghost use Rattle.segment_core.specs.Ends.{HaveMarkedPlaces};
 
-    ghost invariant = { λ j. AreMarkedLiveUntil j.longest j.due j.pieces };
+    ghost invariant = { λ j. HaveMarkedPlaces j.longest j.ends.places j.pieces };
 }
 
 impl Joiner {
@@ -65,7 +65,7 @@ impl Joiner {
             clock: None,
             marked_clock: None,
             pieces: UndoMap::new(alloc),
-            due: u64::MAX,
+            ends: EndQueue::new(alloc),
         }
     }
 
@@ -100,10 +100,13 @@ impl Joiner {
             self.clock = Some(moment);
             return Ok(Taken::Stale);
         }
-        self.due = self
-            .due
-            .min(end_of(&self.longest, arrived.product, arrived.version));
-        let taken = take_live(self.alloc, &mut self.pieces, arrived)?;
+        let taken = take_live(
+            self.alloc,
+            &self.longest,
+            &mut self.pieces,
+            &mut self.ends,
+            arrived,
+        )?;
         self.clock = Some(moment);
         Ok(taken)
     }
@@ -121,7 +124,7 @@ impl Joiner {
         ensures stands { (taken : List Arrival) → StandsFor self.old.store taken
             → StandsFor self.new.store taken }
     {
-        self.due = drop_due(&mut self.pieces, &self.longest, self.due, moment);
+        drop_stale(&mut self.pieces, &mut self.ends, &self.longest, moment);
         self.clock = Some(moment);
     }
 

@@ -1,6 +1,6 @@
 -- Queues of places, and the entries that have a place.
 use Rattle.std.proofs.Common.{◌≡◌, ℕ, ◌≤◌, ◌&&◌, ◌++◌, true, false, Bool, List, [], ◌∷◌, refl, sym, ap, ◌∙◌}
-use Rattle.std.proofs.Common.{Result, Ok, Err, OnOk, OnErr, IsOk, nat_le, nat_lt, cond, arith, inl, inr, IsPermutation, subst}
+use Rattle.std.proofs.Common.{Result, Ok, Err, OnOk, OnErr, nat_le, nat_lt, cond, arith, inl, inr, IsPermutation, subst}
 use Rattle.std.specs.Prelude.{Some, None}
 use Rattle.std.specs.BTreeMap.{insert_entry, is_at}
 use Rattle.std.specs.Cmp.{IsTotalOrder}
@@ -21,10 +21,6 @@ use Rattle.undo_map.specs.Ends.{HavePlaces, KeepsPlaces, has_place, has_place_by
 use Rattle.undo_map.specs.Steps.{before_all}
 use Rattle.undo_map.specs.declared.step.Step.{Step}
 use Rattle.undo_map.proofs.StepLemmas.{before_all-append}
-
-pub at-ok : {A B P : Type 0} (r : Result A B) → IsOk r → OnOk r P → P
-at-ok (Ok x) is p = p
-at-ok (Err e) is p = absurd (cc)
 
 -- what holds after success and after failure holds
 pub either : {A B P Q Z : Type 0} (r : Result A B) → OnOk r P → OnErr r Q → (P → Z) → (Q → Z) → Z
@@ -53,10 +49,6 @@ map-err P Q (Err e) f p = f p
 
 module _ {K : Type 0} where
   -- a place that is added
-  pub keeps-added : (added : ℕ × K) (old new : List (ℕ × K)) → IsPermutation (added ∷ old) new → KeepsPlaces old new
-  keeps-added added old new moves test some =
-      sym (list_any-IsPermutation test (added ∷ old) new moves) ∙ or_right (test added) (list_any test old) some
-
   pub has-added :
       (R : K → K → Ordering) (end : ℕ) (key q : K) (by : ℕ) (old new : List (ℕ × K)) → IsPermutation ((end, key) ∷ old) new
       → is_eq (R key q) ≡ true → end ≤ by → has_place_by R new q by ≡ true

@@ -1,6 +1,6 @@
 -- Entries that are over, and those that have a place once they are dropped.
-use Rattle.std.proofs.Common.{◌≡◌, ℕ, ◌+◌, ◌<◌, ◌≤◌, ◌&&◌, true, false, Bool, List, [], ◌∷◌, refl, sym, ap, ◌∙◌, not}
-use Rattle.std.proofs.Common.{nat_le, nat_lt, cond, arith, inl, inr, filter, IsPermutation}
+use Rattle.std.proofs.Common.{◌≡◌, ℕ, ◌<◌, ◌≤◌, ◌&&◌, true, false, Bool, List, [], ◌∷◌, refl, sym, ap, ◌∙◌, not}
+use Rattle.std.proofs.Common.{nat_le, nat_lt, arith, inl, inr, filter, IsPermutation}
 use Rattle.std.specs.Prelude.{Option, Some, None}
 use Rattle.std.specs.BTreeMap.{is_at}
 use Rattle.std.specs.Cmp.{IsTotalOrder}
@@ -16,31 +16,9 @@ use Rattle.std.proofs.lemmas.Bool.Decides.{nat_tests}
 use Rattle.std.proofs.lemmas.Map.{lookup-none}
 use Rattle.std.proofs.lemmas.Map.Entries.{none_below_head}
 use Rattle.std.proofs.lemmas.Map.Keys.{sorted_head, sorted_tail}
-use Rattle.std.proofs.lemmas.List.Sorted.{sum_by_popped, sum_by_pushed}
-use Rattle.undo_map.specs.Ends.{HavePlaces, due_places, has_place, has_place_by}
-use Rattle.undo_map.proofs.EndLemmas.{has-added, keeps-added, places-kept}
-
--- how many places have come, where one is added that has not, and where one is taken that has
-pub due-added :
-    {K : Type 0} (now end : ℕ) (key : K) (old new : List (ℕ × K)) → now < end → IsPermutation ((end, key) ∷ old) new
-    → due_places now new ≡ due_places now old
-due-added {K} now end key old new later moves =
-    let test : nat_le end now ≡ false = grind (arith, nat_tests) in
-    let come : ℕ × K → ℕ = λ place. cond (nat_le place.0 now) 1 0 in
-    let pushed : due_places now new ≡ come (end, key) + due_places now old = sum_by_pushed come (end, key) old new moves in
-    let zero : come (end, key) ≡ 0 = rw test refl in
-    pushed ∙ ap (λ (n : ℕ). n + due_places now old) zero ∙ omega arith
-
-pub due-taken :
-    {K : Type 0} (now : ℕ) (place : ℕ × K) (old new : List (ℕ × K)) → place.0 ≤ now → IsPermutation old (place ∷ new)
-    → due_places now new < due_places now old
-due-taken {K} now place old new come moves =
-    let test : nat_le place.0 now ≡ true = le-leb place.0 now come in
-    let weight : ℕ × K → ℕ = λ p. cond (nat_le p.0 now) 1 0 in
-    let popped : due_places now new + weight place ≡ due_places now old = sum_by_popped weight place old new moves in
-    let one : weight place ≡ 1 = rw test refl in
-    let more : due_places now new + 1 ≡ due_places now old = ap (λ (n : ℕ). due_places now new + n) (sym one) ∙ popped in
-    omega arith
+use Rattle.undo_map.specs.Ends.{HavePlaces, has_place, has_place_by}
+use Rattle.undo_map.proofs.EndLemmas.{has-added, places-kept}
+use Rattle.undo_map.proofs.PlaceLemmas.{keeps-added}
 
 -- a place by a second, where all places come after another
 later-place :

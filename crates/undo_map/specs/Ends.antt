@@ -1,5 +1,5 @@
 -- Keys in a queue by the second at which they are to be looked at, and the entries that have a place in it.
-use Rattle.std.specs.Prelude.{◌≡◌, ℕ, Bool, true, ◌&&◌, nat_le, nat_lt, List, Option, Some, None, if◌then◌else◌}
+use Rattle.std.specs.Prelude.{◌≡◌, ℕ, Bool, true, false, ◌&&◌, nat_le, nat_lt, List, Option, Some, None, if◌then◌else◌}
 use Rattle.std.specs.BTreeMap.{insert_entry, is_at}
 use Rattle.std.specs.List.{AllByRecursion, list_any, sum_by}
 use Rattle.std.specs.Map.{lookup}
@@ -20,6 +20,15 @@ is_newer version_of (Some kept) version = nat_lt (version_of kept) version
 -- a test that holds of one of the places still holds of one
 abbrev pub KeepsPlaces : {K : Type 0} → List (ℕ × K) → List (ℕ × K) → Type 0
 KeepsPlaces {K} old new = (test : ℕ × K → Bool) → list_any test old ≡ true → list_any test new ≡ true
+
+-- a test that holds of the added place holds of one
+abbrev pub HasAdded : {K : Type 0} → ℕ × K → List (ℕ × K) → Type 0
+HasAdded {K} place new = (test : ℕ × K → Bool) → test place ≡ true → list_any test new ≡ true
+
+-- a test that does not hold of the place that was taken out still holds of one
+abbrev pub HasLeft : {K : Type 0} → ℕ × K → List (ℕ × K) → List (ℕ × K) → Type 0
+HasLeft {K} place old new = (test : ℕ × K → Bool) → test place ≡ false → list_any test old ≡ true
+    → list_any test new ≡ true
 
 -- the key has a place at a second that is no later than this one
 abbrev pub has_place_by : {K : Type 0} → (K → K → Ordering) → List (ℕ × K) → K → ℕ → Bool

@@ -1,11 +1,12 @@
 //! Keys by the second at which they are to be looked at.
-ghost use Rattle.std.specs.Prelude.{◌≡◌, ◌<◌, ◌≤◌, ◌∷◌, [], All, IfNone, IfSome, OnErr, OnOk, OnSome};
+ghost use Rattle.std.specs.Prelude.{◌≡◌, ℕ, ◌<◌, ◌≤◌, ◌∷◌, [], All, IfNone, IfSome, IsSomeAnd, OnErr, OnOk, OnSome};
 ghost use Rattle.std.specs.Prelude.{IsPermutation, nat_eq, slice_get, true, false};
-ghost use Rattle.std.specs.BinaryHeap.{IsHeap, heap_items, heap_len};
+ghost use Rattle.std.specs.BinaryHeap.{IsHeap, heap_items};
 ghost use Rattle.std.specs.Cmp.{partial_order_from_own_ties};
 ghost use Rattle.std.specs.Cmp.Rules.{comparing};
 ghost use Rattle.std.specs.Ordering.{as_partial_cmp, nat_cmp};
 ghost use Rattle.std.proofs.Common.{rules};
+ghost use Rattle.undo_map.specs.Ends.{HasAdded, HasLeft, KeepsPlaces, due_places};
 
 use std::alloc::{AllocError, Global};
 use std::cmp::Ordering;
@@ -97,6 +98,8 @@ impl<K: Drop> EndQueue<K> {
     pub fn add(&mut self, end: u64, key: K) -> Result<(), AllocError>
         ensures ok { OnOk result (IsPermutation ((end, key) ∷ self.old.places) self.new.places) }
         ensures err { OnErr result (self.new.places ≡ self.old.places) }
+        ensures kept { KeepsPlaces self.old.places self.new.places }
+        ensures added { OnOk result (HasAdded (end, key) self.new.places) }
     {
         self.places.push(Place { end, key })?;
         Ok(())
@@ -105,7 +108,11 @@ impl<K: Drop> EndQueue<K> {
     /// Adds a place, for which there is room.
     pub fn add_again(&mut self, end: u64, key: K)
         requires { 0 < self.old.spare }
-        ensures { IsPermutation ((end, key) ∷ self.old.places) self.new.places }
+        ensures places { IsPermutation ((end, key) ∷ self.old.places) self.new.places }
+        ensures kept { KeepsPlaces self.old.places self.new.places }
+        ensures added { HasAdded (end, key) self.new.places }
+        ensures due { (now : ℕ) → now < end
+            → due_places now self.new.places ≡ due_places now self.old.places }
     {
         let _ = self.places.push(Place { end, key });
     }
@@ -116,6 +123,9 @@ impl<K: Drop> EndQueue<K> {
         ensures taken { IfSome result (λ place.
             IsPermutation self.old.places (place ∷ self.new.places)) }
         ensures room { OnSome result (0 < self.new.spare) }
+        ensures left { IfSome result (λ place. HasLeft place self.old.places self.new.places) }
+        ensures due { OnSome result
+            (due_places now self.new.places < due_places now self.old.places) }
         ensures none { IfNone result (All (λ place. now < place.0) self.new.places) }
         ensures unchanged { IfNone result (self.new.places ≡ self.old.places) }
     {
@@ -133,8 +143,7 @@ impl<K: Drop> EndQueue<K> {
 fn is_ended<K>(places: &BinaryHeap<Place<K>>, now: u64) -> bool
     requires { IsHeap (λ a b. nat_cmp b.end a.end) (heap_items places.now) }
     ensures ended { result ≡ true
-        → IfSome (slice_get (heap_items places.now) 0) (λ place. place.end ≤ now) }
-    ensures some { result ≡ true → 0 < heap_len places.now }
+        → IsSomeAnd (slice_get (heap_items places.now) 0) (λ place. place.end ≤ now) }
     ensures none { result ≡ false
         → All (λ place. now < place.end) (heap_items places.now) }
 {

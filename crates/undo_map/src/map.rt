@@ -135,6 +135,7 @@ impl<K: Duplicate, V: Drop> UndoMap<K, V> {
             ≡ remove_entry (is_at (K.cmp key.now)) self.old.entries }
         ensures mark { self.new.mark ≡ None }
         ensures ordered { IsStrictlySortedBy K.cmp (keys_of self.new.entries) }
+        ensures was_ordered { IsStrictlySortedBy K.cmp (keys_of self.old.entries) }
     {
         let _ = self.entries.remove(key);
     }

@@ -1,13 +1,14 @@
 -- The bits of a header: the fields that its bytes spell, and that they read back.
-use Rattle.std.proofs.Common.{◌≡◌, ℕ, zero, suc, ◌+◌, ◌-◌, ◌*◌, ◌/◌, ◌%◌, ◌^◌, ◌<◌, ◌≤◌, Bool, true, false, ◌==◌, List, [], ◌∷◌, length, take, get_or, refl, sym, ap, ◌∙◌, arith}
+use Rattle.std.proofs.Common.{◌≡◌, ℕ, zero, suc, ◌+◌, ◌-◌, ◌*◌, ◌/◌, ◌%◌, ◌^◌, ◌<◌, ◌≤◌, ◌==◌, List, [], ◌∷◌, length, take, get_or, refl, sym, ap, ◌∙◌, arith}
 use Rattle.std.specs.List.{All}
 use Rattle.std.specs.Int.{w64, byte_at, bytes_high_first, from_be_bytes, to_be_bytes}
 use Rattle.std.proofs.lemmas.List.{length-take, length-take-le}
 use Rattle.std.proofs.lemmas.List.Elements.{All-nil, All-cons}
 use Rattle.std.proofs.lemmas.Nat.{from_be_bytes-to_be_bytes_8}
-use Rattle.bit_fields.specs.Bits.{number_of}
+use Rattle.bit_fields.specs.Bits.{bit, number_of}
+use Rattle.bit_fields.proofs.BitsBack.{bit_below, bit_back}
 use Rattle.uplink_frame.specs.declared.header.UplinkHeader.{UplinkHeader}
-use Rattle.uplink_frame.specs.UplinkFrame.{FitsHeader, bit, header_bytes, header_in}
+use Rattle.uplink_frame.specs.UplinkFrame.{FitsHeader, header_bytes, header_in}
 
 -- the first eight bytes, one by one
 pub first_eight :
@@ -53,14 +54,6 @@ has_fields lat lon p u a slot site lat_fits lon_fits p_fits u_fits a_fits slot_f
   slot_is = omega arith;
   site_is = omega arith;
 }
-
-bit_below : (b : Bool) → bit b < 2
-bit_below true = omega arith
-bit_below false = omega arith
-
-bit_back : (b : Bool) (n : ℕ) → n ≡ bit b → (n == 1) ≡ b
-bit_back true n e = rw e refl
-bit_back false n e = rw e refl
 
 -- the header whose fields are these bits
 pub header_of_bits : ℕ → UplinkHeader

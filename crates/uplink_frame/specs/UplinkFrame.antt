@@ -1,17 +1,26 @@
--- The payload of a ground uplink message (RTCA DO-282B): a header of 8 bytes, and 424 bytes of information frames.
-use Rattle.std.specs.Prelude.{ℕ, zero, suc, ◌+◌, ◌-◌, ◌^◌, ◌<◌, Bool, ◌&&◌, ◌||◌, ◌==◌, ◌≡◌, nat_lt, if◌then◌else◌, List, [], ◌∷◌, ◌++◌, length, take, drop, flat_map, replicate}
+-- The payload of a ground uplink message (RTCA DO-282B): a header of 8 bytes, and 424 bytes of
+-- information frames.
+use Rattle.std.specs.Prelude.{ℕ, zero, suc, ◌+◌, ◌-◌, ◌^◌, ◌<◌, Bool, ◌&&◌, ◌||◌, ◌==◌, ◌≡◌}
+use Rattle.std.specs.Prelude.{nat_lt, if◌then◌else◌, List, [], ◌∷◌, ◌++◌, length, take, drop}
+use Rattle.std.specs.Prelude.{flat_map, replicate}
 use Rattle.std.specs.Int.{bytes_high_first}
-use Rattle.bit_fields.specs.Bits.{joined, field_at}
+use Rattle.bit_fields.specs.Bits.{bit, joined, field_at}
 use Rattle.uplink_frame.specs.declared.header.UplinkHeader.{UplinkHeader}
 
-abbrev pub bit : Bool → ℕ
-bit b = if b then 1 else 0
+-- how many bytes a payload has, and how many of them are for information frames
+abbrev pub payload_length : ℕ
+payload_length = 432
+
+abbrev pub frame_room : ℕ
+frame_room = 424
 
 -- the 8 bytes of a header; the two reserved fields are 0
 abbrev pub header_bytes : UplinkHeader → List ℕ
-header_bytes h = bytes_high_first 8 (joined 0 (record { width = 23; number = h.lat } ∷ record { width = 24; number = h.lon }
-    ∷ record { width = 1; number = bit h.position_valid } ∷ record { width = 1; number = bit h.utc } ∷ record { width = 1; number = 0 }
-    ∷ record { width = 1; number = bit h.app_valid } ∷ record { width = 5; number = h.slot } ∷ record { width = 4; number = h.site }
+header_bytes h = bytes_high_first 8 (joined 0 (
+    record { width = 23; number = h.lat } ∷ record { width = 24; number = h.lon }
+    ∷ record { width = 1; number = bit h.position_valid } ∷ record { width = 1; number = bit h.utc }
+    ∷ record { width = 1; number = 0 } ∷ record { width = 1; number = bit h.app_valid }
+    ∷ record { width = 5; number = h.slot } ∷ record { width = 4; number = h.site }
     ∷ record { width = 4; number = 0 } ∷ []))
 
 -- the header that the bits of a payload spell; reserved bits are not looked at
@@ -41,7 +50,8 @@ pub record InformationFrame : Type 0 where
 -- the two bytes before a body: 9 bits of length, 3 reserved bits, 4 bits of type
 abbrev pub frame_front : ℕ → ℕ → ℕ → List ℕ
 frame_front size reserved kind = bytes_high_first 2
-    (joined 0 (record { width = 9; number = size } ∷ record { width = 3; number = reserved } ∷ record { width = 4; number = kind } ∷ []))
+    (joined 0 (record { width = 9; number = size } ∷ record { width = 3; number = reserved }
+    ∷ record { width = 4; number = kind } ∷ []))
 
 -- the bytes of a frame; its reserved bits are 0
 abbrev pub information_frame : InformationFrame → List ℕ
@@ -54,12 +64,18 @@ length_at_front bytes = field_at (take 2 bytes) 0 9
 abbrev pub kind_at_front : List ℕ → ℕ
 kind_at_front bytes = field_at (take 2 bytes) 12 4
 
--- the list ends where fewer than two bytes are left, where length and type are 0, and where the length is more than what is left
+-- the list ends where fewer than two bytes are left, where length and type are 0, and where the
+-- length is more than what is left
 abbrev pub ends_here : List ℕ → Bool
-ends_here bytes = nat_lt (length bytes) 2 || ((length_at_front bytes == 0) && (kind_at_front bytes == 0)) || nat_lt (length bytes) (2 + length_at_front bytes)
+ends_here bytes = nat_lt (length bytes) 2
+    || ((length_at_front bytes == 0) && (kind_at_front bytes == 0))
+    || nat_lt (length bytes) (2 + length_at_front bytes)
 
 abbrev pub frame_at_front : List ℕ → InformationFrame
-frame_at_front bytes = record { kind = kind_at_front bytes; body = take (length_at_front bytes) (drop 2 bytes) }
+frame_at_front bytes = record {
+  kind = kind_at_front bytes;
+  body = take (length_at_front bytes) (drop 2 bytes);
+}
 
 abbrev pub behind_frame : List ℕ → List ℕ
 behind_frame bytes = drop (length_at_front bytes) (drop 2 bytes)
@@ -67,14 +83,15 @@ behind_frame bytes = drop (length_at_front bytes) (drop 2 bytes)
 -- at most so many information frames, from the front of the bytes on
 abbrev pub frames_at_front : ℕ → List ℕ → List InformationFrame
 frames_at_front zero bytes = []
-frames_at_front (suc most) bytes = if ends_here bytes then [] else frame_at_front bytes ∷ frames_at_front most (behind_frame bytes)
+frames_at_front (suc most) bytes = if ends_here bytes then []
+    else frame_at_front bytes ∷ frames_at_front most (behind_frame bytes)
 
 -- the information frames that some bytes begin with
 unfoldable pub frames_in : List ℕ → List InformationFrame
 frames_in bytes = frames_at_front (length bytes) bytes
 
--- the information frames of a payload, of which each takes two bytes or more. This walks over them; `Spelling` says which
--- they are with no walk, and a law that they are the same
+-- the information frames of a payload, of which each takes two bytes or more. This walks over them;
+-- `Spelling` says which they are with no walk, and a law that they are the same
 unfoldable pub information_frames : List ℕ → List InformationFrame
 information_frames payload = frames_at_front 212 (drop 8 payload)
 
@@ -86,9 +103,9 @@ fisb_frame body = record { kind = 0; body = body }
 abbrev pub spelled_frames : List InformationFrame → List ℕ
 spelled_frames frames = flat_map information_frame frames
 
--- the application data of information frames: what they leave of the 424 bytes is zeros
+-- the application data of information frames: what they leave of the room is zeros
 abbrev pub application_data : List InformationFrame → List ℕ
-application_data frames = spelled_frames frames ++ replicate (424 - length (spelled_frames frames)) 0
+application_data frames = spelled_frames frames ++ replicate (frame_room - length (spelled_frames frames)) 0
 
 -- the payload of a header and of information frames
 unfoldable pub payload_of : UplinkHeader → List InformationFrame → List ℕ

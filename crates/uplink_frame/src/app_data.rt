@@ -1,7 +1,10 @@
 //! Application data of a payload, made of information frames.
-ghost use Rattle.std.specs.Prelude.{◌≡◌, ◌+◌, ◌-◌, ◌<◌, ◌≤◌, ◌↔◌, ◌≢◌, [], ◌∷◌, ◌++◌, length, take, drop, replicate, All, IsErr, OnOk, OnErr};
+ghost use Rattle.std.specs.Prelude.{◌≡◌, ◌+◌, ◌-◌, ◌<◌, ◌≤◌, ◌↔◌, ◌≢◌, [], ◌∷◌, ◌++◌, length};
+ghost use Rattle.std.specs.Prelude.{take, drop, replicate, All, IsErr, OnOk, OnErr};
 ghost use Rattle.uplink_frame.specs.declared.header.UplinkHeader.{UplinkHeader};
-ghost use Rattle.uplink_frame.specs.UplinkFrame.{FitsFrame, header_bytes, information_frames, spelled_frames, application_data, payload_of};
+ghost use Rattle.uplink_frame.specs.UplinkFrame.{FitsFrame, frame_room, header_bytes};
+ghost use Rattle.uplink_frame.specs.UplinkFrame.{information_frames, spelled_frames};
+ghost use Rattle.uplink_frame.specs.UplinkFrame.{application_data, payload_of};
 
 use crate::walk::HEADER_LENGTH;
 use std::marker::Model;
@@ -13,7 +16,8 @@ const ROOM: usize = 424;
 #[derive(Clone, Copy, Debug, PartialEq, Eq)]
 pub struct NoRoom;
 
-/// The information frames of a payload that is made: at most 424 bytes of them. A contract sees the list of the frames.
+/// The information frames of a payload that is made: at most 424 bytes of them. A contract sees the
+/// list of the frames.
 #[derive(Debug, Drop)]
 pub struct AppData {
     bytes: [u8; 424],
@@ -46,23 +50,26 @@ impl AppData {
     /// The bytes that the information frames take: two for each, and its body.
     pub fn used(&self) -> u16
         ensures used { result ≡ length (spelled_frames self.now) }
-        ensures room { result ≤ 424 }
+        ensures room { result ≤ frame_room }
     {
         self.used as u16
     }
 
-    /// Puts an information frame of this type behind the others: a type of at most 15, and a body of at most 511 bytes.
+    /// Puts an information frame of this type behind the others: a type of at most 15, and a body of
+    /// at most 511 bytes.
     ///
     /// # Errors
     ///
-    /// `NoRoom` exactly where the body and two bytes more are above what the frames leave of the 424 bytes; nothing is
-    /// changed then.
+    /// `NoRoom` exactly where the body and two bytes more are above what the frames leave of the 424
+    /// bytes; nothing is changed then.
     pub fn push(&mut self, kind: u8, body: &[u8]) -> Result<(), NoRoom>
         requires kind { kind ≤ 15 }
         requires body { length body.now ≤ 511 }
         requires goes_on { length body.now ≡ 0 → kind ≢ 0 }
-        ensures no_room { IsErr result ↔ (424 - length (spelled_frames self.old) < 2 + length body.now) }
-        ensures ok { OnOk result (self.new ≡ self.old ++ record { kind = kind; body = body.now } ∷ []) }
+        ensures no_room { IsErr result
+            ↔ (frame_room - length (spelled_frames self.old) < 2 + length body.now) }
+        ensures ok { OnOk result (self.new
+            ≡ self.old ++ record { kind = kind; body = body.now } ∷ []) }
         ensures err { OnErr result (self.new ≡ self.old) }
     {
         let length = body.len();
@@ -76,12 +83,14 @@ impl AppData {
         Ok(())
     }
 
-    /// Writes the information frames into a payload from byte 8 on, and zeros behind them. The header stays.
+    /// Writes the information frames into a payload from byte 8 on, and zeros behind them. The header
+    /// stays.
     pub fn finish(&self, payload: &mut [u8; 432])
         ensures bytes { payload.new ≡ take 8 payload.old ++ application_data self.now }
         ensures reads_back { information_frames payload.new ≡ self.now }
         ensures frames { All FitsFrame self.now }
-        ensures payload { (h : UplinkHeader) → take 8 payload.old ≡ header_bytes h → payload.new ≡ payload_of h self.now }
+        ensures payload { (h : UplinkHeader) → take 8 payload.old ≡ header_bytes h
+            → payload.new ≡ payload_of h self.now }
     {
         put(payload, HEADER_LENGTH, &self.bytes);
     }
@@ -89,7 +98,7 @@ impl AppData {
 
 /// Bytes without a frame.
 fn zeros() -> [u8; 424]
-    ensures { result ≡ replicate 424 0 }
+    ensures { result ≡ replicate frame_room 0 }
 {
     [0; 424]
 }
@@ -97,7 +106,8 @@ fn zeros() -> [u8; 424]
 /// Writes some bytes over those from a place on.
 fn put(bytes: &mut [u8], place: usize, piece: &[u8])
     requires { place + length piece.now ≤ length bytes.old }
-    ensures { bytes.new ≡ take place bytes.old ++ (piece.now ++ drop (place + length piece.now) bytes.old) }
+    ensures { bytes.new ≡ take place bytes.old
+        ++ (piece.now ++ drop (place + length piece.now) bytes.old) }
 {
     bytes[place..place + piece.len()].copy_from_slice(piece);
 }

@@ -5,7 +5,7 @@ pub returns : goal.returns
 returns c = promised
     (record {
       told = c.stations_are_told.ensures;
-      woven = c.frame_gives_payload.ensures;
+      near = c.near_frame_gives_payload.ensures;
       frames_back = c.frames_read_back.ensures;
       stay = c.hearings_stay.ensures;
       agree = c.pictures_agree.ensures;

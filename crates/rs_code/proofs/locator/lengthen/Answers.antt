@@ -15,12 +15,12 @@ loop-place-init g c =
     let room : c.args.degree < length c.args.locator.now =
     let l = c.told-locator in let r = c.requires.room in let h = c.requires.degree in omega arith in
     record {
-      long = c.add_multiple-2.auto.room ∙ c.add_multiple.auto.room ∙ length-replicate g.row.N 0;
+      long = c.add_product-2.auto.room ∙ c.add_product.auto.room ∙ length-replicate g.row.N 0;
       locator =
           subst (λ (w : List ℕ). IsLocator w c.args.sums.now (c.args.at + 1) c.args.degree)
-          (sym (c.add_multiple-2.ensures
+          (sym (c.add_product-2.ensures
           ∙ ap (λ (w : List ℕ). sum_of w (raised 0 (scaled c.div.result (take c.args.degree c.args.earlier.now))))
-          (c.add_multiple.ensures
+          (c.add_product.ensures
           ∙ ap (λ (a : ℕ). sum_of (replicate g.row.N 0) (raised (c.args.at + 1 - c.args.degree) (scaled a (take (c.args.degree + 1) c.args.locator.now))))
           c.of.ensures.value)))
           (IsLocator-begin F (replicate g.row.N 0) c.args.locator.now c.args.earlier.now c.args.sums.now c.args.degree c.args.at c.args.last
@@ -30,10 +30,10 @@ loop-place-init g c =
 
 pub loop-place-preserved : goal.loop-place-preserved
 loop-place-preserved g c = record {
-  long = c.add_multiple-in-loop-place.auto.room ∙ c.loop-place.invariant.long;
+  long = c.add_product-in-loop-place.auto.room ∙ c.loop-place.invariant.long;
   locator =
       subst (λ (w : List ℕ). IsLocator w c.args.sums.now (c.args.at + 1) (c.loop-place.place + 1))
-      (sym c.add_multiple-in-loop-place.ensures)
+      (sym c.add_product-in-loop-place.ensures)
       (IsLocator-step c.field_laws.ensures c.loop-place.next c.args.locator.now c.args.sums.now c.args.degree c.args.at
       c.loop-place.place c.args.off c.discrepancy-rest.result c.div-in-loop-place.result c.loop-place.invariant.locator
       c.requires.locator c.loop-place.auto.place (omega arith) c.requires.off c.discrepancy-rest.ensures.value

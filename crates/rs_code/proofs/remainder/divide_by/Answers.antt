@@ -15,12 +15,12 @@ loop-place-preserved c =
     ∙ get_or-take (c.loop-place.place + 1) c.loop-place.word c.loop-place.place 0 (omega arith) in
     record {
       long =
-          length-append c.split_at_mut-front.result.0.now c.add_multiple.new.room
+          length-append c.split_at_mut-front.result.0.now c.add_product.new.room
           ∙ (let a = c.split_at_mut-front.ensures.front_len in let b = c.split_at_mut-front.ensures.back_len in
-          let d = c.add_multiple.auto.room in omega arith);
+          let d = c.add_product.auto.room in omega arith);
       sums = λ j root.
           ap (λ (w : List ℕ). power_sum (drop (c.loop-place.place + 1) (c.split_at_mut-front.result.0.now ++ w)) j)
-          (c.add_multiple.ensures ∙ ap (sum_of c.split_at_mut-front.result.1.now) (raised-zero (scaled c.of.result c.args.generator.now)) ∙ ap₂ (λ (xs : List ℕ) (b : ℕ). sum_of xs (scaled b c.args.generator.now)) c.split_at_mut-front.ensures.back (c.of.ensures.value ∙ byte))
+          (c.add_product.ensures ∙ ap (sum_of c.split_at_mut-front.result.1.now) (raised-zero (scaled c.of.result c.args.generator.now)) ∙ ap₂ (λ (xs : List ℕ) (b : ℕ). sum_of xs (scaled b c.args.generator.now)) c.split_at_mut-front.ensures.back (c.of.ensures.value ∙ byte))
           ∙ division-step c.field_laws.ensures c.loop-place.word c.split_at_mut-front.result.0.now
           (scaled (get_or c.loop-place.word c.loop-place.place 0) c.args.generator.now) c.loop-place.place j
           (let l = length-scaled (get_or c.loop-place.word c.loop-place.place 0) c.args.generator.now in omega arith) c.split_at_mut-front.ensures.front

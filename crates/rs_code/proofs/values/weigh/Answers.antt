@@ -11,7 +11,7 @@ loop-i-preserved c =
       written = set_grows (λ (k : ℕ). bit_xor (get_or c.args.sums.now k 0) (element_product c.args.point (get_or (0 ∷ c.args.sums.now) k 0)))
           c.loop-i.sums c.loop-i.i _ (omega arith)
           (c.byte.ensures ∙ c.add.ensures.value
-          ∙ ap₂ bit_xor here (c.mul.ensures.value ∙ ap (element_product c.args.point) c.loop-i.invariant.before))
+          ∙ ap₂ bit_xor here (c.times.ensures.value ∙ ap (element_product c.args.point) c.loop-i.invariant.before))
           c.loop-i.invariant.written;
       left = λ k h. set_keeps c.loop-i.sums c.loop-i.i k _ (omega arith) ∙ c.loop-i.invariant.left k (omega arith);
       before = here ∙ ap (λ (k : ℕ). get_or (0 ∷ c.args.sums.now) k 0) (let e : suc c.loop-i.i ≡ c.loop-i.i + 1 = omega arith in e);

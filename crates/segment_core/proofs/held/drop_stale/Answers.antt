@@ -1,20 +1,35 @@
--- What the test keeps is a filter.
-use Rattle.std.proofs.Common.{◌≡◌, rules}
-use Rattle.std.proofs.lemmas.Map.Entries.{filter_from_retain_pairs}
-use Rattle.segment_core.specs.Store.{is_live}
-use Rattle.segment_core.proofs.Bounded.{once-sorted}
+-- Each turn takes a place out that has come; at the end none has come, and so no file is stale.
+use Rattle.std.proofs.Common.{All, ℕ, ◌∙◌, ◌<◌, sym, subst}
+use Rattle.std.proofs.lemmas.List.Elements.{recursion_from_All}
+use Rattle.undo_map.specs.Ends.{due_places}
+use Rattle.segment_core.specs.declared.piece_name.PieceName.{PieceName}
+use Rattle.segment_core.proofs.Places.{none-stale}
 use Rattle.segment_core.proofs.held.drop_stale.Goals as goal
+
+pub loop-name-smaller : goal.loop-name-smaller
+loop-name-smaller c =
+    let old = c.loop-name.ends.places in
+    let taken = c.take_ended.new.self.places in
+    let fewer : due_places c.args.moment taken < due_places c.args.moment old =
+    subst (λ (m : ℕ). due_places m taken < due_places m old) c.seconds-now.ensures.value c.in-Some.ensures.due in
+    subst (λ (n : ℕ). n < due_places c.args.moment old) (sym c.drop_name.ensures.due) fewer
+
+pub loop-name-preserved : goal.loop-name-preserved
+loop-name-preserved c = record {
+  pieces = c.drop_name.ensures.pieces ∙ c.loop-name.invariant.pieces;
+  mark = c.drop_name.ensures.mark;
+  placed =
+      c.drop_name.ensures.placed c.loop-name.ends.places c.in-Some.field-0-0 c.in-Some.ensures.left
+      c.loop-name.invariant.placed;
+}
 
 pub returns-clause-pieces : goal.returns-clause-pieces
 returns-clause-pieces c =
-    filter_from_retain_pairs _ (λ g. (g.0.now ≡ c.args.longest.now) × (g.1.now ≡ c.args.moment))
-    (λ e. is_live c.args.longest.now c.args.moment e.0.product e.0.version)
-    (λ g k v b w g' i t. (
-      rw (← i.0, ← i.1) (search rules),
-      search rules,
-      search rules,
-    )) _ c.args.pieces.now.entries c.retain.new.self.entries
-    (search rules) c.retain.ensures.filtered
-
-pub returns-clause-once : goal.returns-clause-once
-returns-clause-once c = once-sorted c.retain.new.self.entries c.retain.ensures.ordered
+    let places = c.loop-name.ends.places in
+    let none : All (λ (place : ℕ × PieceName). c.args.moment < place.0) places =
+    subst (λ (m : ℕ). All (λ (place : ℕ × PieceName). m < place.0) places) c.seconds-now.ensures.value
+    (subst (All (λ (place : ℕ × PieceName). c.seconds-now.result < place.0)) c.in_default.ensures.unchanged
+    c.in_default.ensures.none) in
+    sym (none-stale c.args.longest.now c.args.moment places c.loop-name.pieces.entries
+    (recursion_from_All (λ (place : ℕ × PieceName). c.args.moment < place.0) places none) c.loop-name.invariant.placed)
+    ∙ c.loop-name.invariant.pieces

@@ -2,7 +2,7 @@
 use Rattle.std.proofs.Common.{◌∙◌, ◌<◌, ◌≤◌, sym, arith}
 use Rattle.std.specs.BTreeMap.{is_at}
 use Rattle.std.specs.Map.{lookup}
-use Rattle.undo_map.proofs.OverLemmas.{absent-kept, absent-placed, due-added, end-absent, end-found, live-kept, live-placed, over-dropped, over-placed}
+use Rattle.undo_map.proofs.OverLemmas.{absent-kept, absent-placed, end-absent, end-found, live-kept, live-placed, over-dropped, over-placed}
 use Rattle.undo_map.proofs.lasting.drop_key.Goals as goal
 
 pub returns-in_default-clause-entries : goal.returns-in_default-clause-entries
@@ -31,12 +31,10 @@ returns-then-now-end-clause-placed g c = λ at placed.
     let value = end-found g.V.Lasting.end found c.in-Some.end (sym c.end_under.ensures.end ∙ c.in-Some.is) in
     live-placed g.K.Ord.cmp g.met.K.Ord.total g.V.Lasting.end at c.args.key value.0 c.args.ends.now.places
     c.add_again.new.self.places c.args.map.now.entries c.end_under.ensures.ordered value.1
-    (rw value.2 c.add_again.ensures) placed
+    (rw value.2 c.add_again.ensures.places) placed
 
 pub returns-then-now-end-clause-due : goal.returns-then-now-end-clause-due
-returns-then-now-end-clause-due g c =
-    due-added c.args.now c.in-Some.end c.args.key c.args.ends.now.places c.add_again.new.self.places (omega arith)
-    c.add_again.ensures
+returns-then-now-end-clause-due g c = c.add_again.ensures.due c.args.now (omega arith)
 
 pub returns-clause-entries : goal.returns-clause-entries
 returns-clause-entries g c =

@@ -3,13 +3,12 @@ use Rattle.std.proofs.Common.{All, ◌∙◌, ◌<◌, ℕ, sym, subst}
 use Rattle.std.proofs.lemmas.List.Elements.{recursion_from_All}
 use Rattle.undo_map.specs.Ends.{due_places}
 use Rattle.undo_map.proofs.EndLemmas.{places-moved}
-use Rattle.undo_map.proofs.OverLemmas.{due-taken, lives-yet, none-over}
+use Rattle.undo_map.proofs.OverLemmas.{lives-yet, none-over}
 use Rattle.undo_map.proofs.lasting.drop_over.Goals as goal
 
 pub loop-key-smaller : goal.loop-key-smaller
 loop-key-smaller g c =
-    let fewer = due-taken c.args.now (c.in-Some.field-0-0, c.in-Some.key) c.loop-key.ends.places
-    c.take_ended.new.self.places c.in-Some.ensures.ended c.in-Some.ensures.taken in
+    let fewer = c.in-Some.ensures.due in
     let same = c.drop_key.ensures.due in
     subst (λ (n : ℕ). n < due_places c.args.now c.loop-key.ends.places) (sym same) fewer
 

@@ -2,11 +2,11 @@
 use Rattle.std.proofs.Common.{◌≡◌, ◌≤◌, true, arith, subst, sym}
 use Rattle.std.specs.Ordering.{is_eq}
 use Rattle.undo_map.specs.Ends.{has_place}
-use Rattle.undo_map.proofs.EndLemmas.{has-added, keeps-added, on-ok}
+use Rattle.undo_map.proofs.EndLemmas.{has-added, on-ok}
 use Rattle.undo_map.proofs.lasting.insert_step.Goals as goal
 
 pub returns-clause-kept : goal.returns-clause-kept
-returns-clause-kept g c = keeps-added _ c.args.ends.now.places c.add.new.self.places c.in_ok-add.ensures.ok
+returns-clause-kept g c = c.in_ok-add.ensures.kept
 
 pub returns-clause-placed : goal.returns-clause-placed
 returns-clause-placed g c =

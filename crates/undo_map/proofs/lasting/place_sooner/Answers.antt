@@ -1,11 +1,11 @@
 -- The new place is the key's; and without it the place that was there is soon enough.
 use Rattle.std.proofs.Common.{◌≡◌, true, arith, subst, sym}
 use Rattle.std.specs.Ordering.{is_eq}
-use Rattle.undo_map.proofs.EndLemmas.{has-added, has-later, keeps-added}
+use Rattle.undo_map.proofs.EndLemmas.{has-added, has-later}
 use Rattle.undo_map.proofs.lasting.place_sooner.Goals as goal
 
 pub returns-in_ok-add-clause-kept : goal.returns-in_ok-add-clause-kept
-returns-in_ok-add-clause-kept g c = keeps-added _ c.args.ends.now.places c.add.new.self.places c.in_ok-add.ensures.ok
+returns-in_ok-add-clause-kept g c = c.in_ok-add.ensures.kept
 
 pub returns-in_ok-add-clause-placed : goal.returns-in_ok-add-clause-placed
 returns-in_ok-add-clause-placed g c = λ k same some.

@@ -9,13 +9,13 @@ use Rattle.fisb_app.specs.Output.{sent_words}
 use Rattle.fisb_app.proofs.Turning.{air_text-alike, frames-more, length-last}
 use Rattle.fisb_app.proofs.ground_alone.GroundAlone.turn.Goals as goal
 
-pub returns-in-Ok-print_sent_air-clause-tried : goal.returns-in-Ok-print_sent_air-clause-tried
-returns-in-Ok-print_sent_air-clause-tried g c = λ bytes acted can h.
+pub returns-in-Ok-print_sent_air : goal.returns-in-Ok-print_sent_air
+returns-in-Ok-print_sent_air g c = λ bytes acted can h.
     let table = c.args.self.now.sending.table in
     let index = h.sent in
     let on = c.in-Ok.ensures.frame bytes acted h.holds in
     let sent = frame_after table (station_of acted) (events acted) c.args.moment c.args.slot in
-    let rest = c.in-Ok.ensures.rest in
+    let same = c.in-Ok.ensures.table in
     let more = frames-more c.stations_are_told.ensures table acted c.args.moment c.args.slot in (
       ap (λ i. turn_refusal i acted c.args.moment) (sym index) ∙ c.in-Ok.ensures.in_time bytes acted h.holds,
       (
@@ -24,7 +24,7 @@ returns-in-Ok-print_sent_air-clause-tried g c = λ bytes acted can h.
         record {
           holds = c.in-Ok.ensures.filled bytes acted h.holds;
           sent = ap (λ n. n + 1) index ∙ sym (length-last (sent_frames table acted) sent) ∙ ap length (sym more)
-              ∙ ap (λ t. length (sent_frames t (turn c.args.moment c.args.slot ∷ acted))) (sym rest.table);
+              ∙ ap (λ t. length (sent_frames t (turn c.args.moment c.args.slot ∷ acted))) (sym same);
         },
       ),
     )

@@ -4,14 +4,14 @@ use Rattle.fisb_app.proofs.Keeping.{link-kept}
 use Rattle.fisb_app.proofs.Turning.{unbegun-frames}
 use Rattle.fisb_app.proofs.link.Link.name_station.Goals as goal
 
-pub returns-in-Ok-clause-tried : goal.returns-in-Ok-clause-tried
-returns-in-Ok-clause-tried g c = λ bytes acted can h.
+pub returns-in-Ok : goal.returns-in-Ok
+returns-in-Ok g c = λ bytes acted can h.
     let line = station c.args.lat c.args.lon c.args.site in
     let begun = can.first refl in (
       refl,
       (
         c.no_text.ensures,
         link-kept g.G.Sender.stands g.E.Ear.stands bytes acted line c.args.self.now _ (c.in-Ok.ensures.named bytes acted begun h.holds)
-            c.in-Ok.ensures.rest.table refl refl (λ t. unbegun-frames t acted line begun refl) (λ t. refl) h,
+            c.in-Ok.ensures.table refl refl (λ t. unbegun-frames t acted line begun refl) (λ t. refl) h,
       ),
     )

@@ -9,22 +9,22 @@ use Rattle.fisb_app.specs.Stands.{aired_view, sent_view}
 use Rattle.fisb_app.proofs.Turning.{count-alike, kept-more, words-alike}
 use Rattle.fisb_app.proofs.link.Link.turn.Goals as goal
 
-pub returns-in-Ok-print_sent-clause-tried : goal.returns-in-Ok-print_sent-clause-tried
-returns-in-Ok-print_sent-clause-tried g c = λ bytes acted can h.
+pub returns-in-Ok-print_sent : goal.returns-in-Ok-print_sent
+returns-in-Ok-print_sent g c = λ bytes acted can h.
     let table = c.args.self.now.sending.table in
     let many : length c.args.self.now.sent.items ≡ length (sent_frames table acted) = count-alike sent_view aired_view _ _ h.sent in
     let index : c.len-index.result ≡ length (sent_frames table acted) = (let counted = c.len-index.ensures in omega (arith, counted, many)) in
     let on = c.in-Ok.ensures.frame bytes acted h.holds in
     let sent = frame_after table (station_of acted) (events acted) c.args.moment c.args.slot in
-    let rest = c.in-Ok.ensures.rest in (
+    let same = c.in-Ok.ensures.table in (
       ap (λ i. turn_refusal i acted c.args.moment) (sym index) ∙ c.in-Ok.ensures.in_time bytes acted h.holds,
       (
         c.in-Ok-print_sent.ensures ∙ ap spaced (words-alike c.len-index.result sent c.in-Ok.frame on) ∙ ap (λ i. spaced (sent_words i sent)) index,
         record {
           holds = c.in-Ok.ensures.filled bytes acted h.holds;
           sent = c.in-Ok-keep.ensures ∙ kept-more c.stations_are_told.ensures table acted c.args.moment c.args.slot _ c.in-Ok.frame h.sent on
-              ∙ ap (λ t. map aired_view (sent_frames t (turn c.args.moment c.args.slot ∷ acted))) (sym rest.table);
-          ear = subst (λ t. g.E.Ear.stands t (receptions t acted) c.args.self.now.ear) (sym rest.table) h.ear;
+              ∙ ap (λ t. map aired_view (sent_frames t (turn c.args.moment c.args.slot ∷ acted))) (sym same);
+          ear = subst (λ t. g.E.Ear.stands t (receptions t acted) c.args.self.now.ear) (sym same) h.ear;
         },
       ),
     )

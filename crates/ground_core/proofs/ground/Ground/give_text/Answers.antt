@@ -23,18 +23,18 @@ pub returns-clause-accepted : goal.returns-clause-accepted
 returns-clause-accepted c table station history s =
     let in_time : last_above (clock_of history) c.args.moment ≡ None = search rules in
     let none : give_refusal table (items table station history) c.args.moment (text c.args.version c.args.text.now) ≡ None
-    = sym (refusal_same table station history c.args.moment c.args.version c.args.text.now c.args.self.now c.longest_is_greatest.ensures.texts s (clock_below history c.args.moment in_time)) ∙ c.in_ok-item.ensures.none in
+    = sym (refusal_same (record { same = c.keys_are_ordered.ensures.same; agrees = c.keys_are_ordered.ensures.agrees }) table station history c.args.moment c.args.version c.args.text.now c.args.self.now c.longest_is_greatest.ensures.texts s (clock_below history c.args.moment in_time)) ∙ c.in_ok-item.ensures.none in
     let made = is_made table station history c.args.moment c.args.version c.args.text.now c.args.self.now c.in_ok-item.item c.longest_is_greatest.ensures.texts s (clock_below history c.args.moment in_time) none
     (subst (λ t. IsItemOf t (latest_at c.args.self.now.newest) (count_at c.args.self.now.files) c.args.self.now.given c.args.version c.args.text.now c.in_ok-item.item)
     s.table_is c.in_ok-item.ensures.item) in
-    on_ok_weaker c.put.result (λ p. give_stands table station history c.args.moment c.args.version c.args.text.now c.args.self.now c.put.new.self c.in_ok-item.item
+    on_ok_weaker c.put.result (λ p. give_stands (record { same = c.keys_are_ordered.ensures.same; agrees = c.keys_are_ordered.ensures.agrees }) table station history c.args.moment c.args.version c.args.text.now c.args.self.now c.put.new.self c.in_ok-item.item
     s in_time c.later_clock.ensures.in_range c.in_ok-item.ensures.in_range c.utf8.text none made p) c.put.ensures.ok
 
 pub returns-clause-nothing_against : goal.returns-clause-nothing_against
 returns-clause-nothing_against c table station history s =
     let in_time : last_above (clock_of history) c.args.moment ≡ None = search rules in
     let none : give_refusal table (items table station history) c.args.moment (text c.args.version c.args.text.now) ≡ None
-    = sym (refusal_same table station history c.args.moment c.args.version c.args.text.now c.args.self.now c.longest_is_greatest.ensures.texts s (clock_below history c.args.moment in_time)) ∙ c.in_ok-item.ensures.none in
+    = sym (refusal_same (record { same = c.keys_are_ordered.ensures.same; agrees = c.keys_are_ordered.ensures.agrees }) table station history c.args.moment c.args.version c.args.text.now c.args.self.now c.longest_is_greatest.ensures.texts s (clock_below history c.args.moment in_time)) ∙ c.in_ok-item.ensures.none in
     on_ok_weaker c.put.result (λ p. (in_time, none)) c.put.ensures.ok
 
 pub returns-clause-same : goal.returns-clause-same
@@ -46,5 +46,5 @@ returns-in_err-item-clause-refused c table station history s =
     let p = err_from_is_err_and c.from_residual.result c.from_residual.ensures.1 in
     let in_time : last_above (clock_of history) c.args.moment ≡ None = search rules in
     rw (p.1, p.2) (told_in_time _ _ _ in_time (subst (λ r. IsTold r c.in_err-item.field-0.0)
-    (refusal_same table station history c.args.moment c.args.version c.args.text.now c.args.self.now c.longest_is_greatest.ensures.texts s (clock_below history c.args.moment in_time))
+    (refusal_same (record { same = c.keys_are_ordered.ensures.same; agrees = c.keys_are_ordered.ensures.agrees }) table station history c.args.moment c.args.version c.args.text.now c.args.self.now c.longest_is_greatest.ensures.texts s (clock_below history c.args.moment in_time))
     c.in_err-item.ensures.fault))

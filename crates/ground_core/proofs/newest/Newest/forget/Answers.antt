@@ -16,7 +16,7 @@ returns-then-given-seconds c =
     let over : while_living c.args.moment (latest_at c.args.self.now (text_report (report_key c.args.key.now))) ≡ None
     = ap (while_living c.args.moment) (sym c.of.ensures ∙ ap (option_map given_view) c.in-Some.is)
     ∙ ap (λ b. if b then Some (given_view c.in-Some.given) else None) (le-ltb c.args.moment c.in-Some.given.until ended) in
-    by_key _ (λ (k : BlockKey). refl) (λ (k : TextKey). removed_latest c.args.key.now k c.args.moment (λ q. get_by (order_among q) c.args.self.now.versions) _
+    by_key _ (λ (k : BlockKey). refl) (λ (k : TextKey). removed_latest (record { same = c.keys_are_ordered.ensures.same; agrees = c.keys_are_ordered.ensures.agrees }) c.args.key.now k c.args.moment (λ q. get_by (order_among q) c.args.self.now.versions) _
     over (c.remove.ensures.updates.0 (with_key c.args.key.now k)))
 
 pub returns-else-given-seconds : goal.returns-else-given-seconds
@@ -25,4 +25,4 @@ returns-else-given-seconds c =
     let found = sym c.of.ensures ∙ ap (option_map given_view) c.in-Some.is in
     let stays : while_living c.args.moment (latest_at c.args.self.now (text_report (report_key c.args.key.now))) ≡ latest_at c.args.self.now (text_report (report_key c.args.key.now))
     = ap (while_living c.args.moment) found ∙ ap (λ b. if b then Some (given_view c.in-Some.given) else None) (lt-ltb c.args.moment c.in-Some.given.until lives) ∙ sym found in
-    by_key _ (λ (k : BlockKey). refl) (λ (k : TextKey). living_latest (report_key c.args.key.now) k c.args.moment (λ q. latest_at c.args.self.now (text_report q)) stays)
+    by_key _ (λ (k : BlockKey). refl) (λ (k : TextKey). living_latest (record { same = c.keys_are_ordered.ensures.same; agrees = c.keys_are_ordered.ensures.agrees }) (report_key c.args.key.now) k c.args.moment (λ q. latest_at c.args.self.now (text_report q)) stays)

@@ -1,6 +1,7 @@
 use Rattle.std.proofs.Common.{Some, refl, subst}
 use Rattle.segment_core.specs.Store.{MarkedStore, StandsFor, IsNotBefore}
 use Rattle.segment_core.proofs.StoreSteps.{stands-purged, live-purged}
+use Rattle.segment_core.proofs.Places.{marked-alone}
 use Rattle.segment_core.proofs.joiner.Joiner.purge.Goals as goal
 
 pub returns-clause-stands : goal.returns-clause-stands
@@ -10,16 +11,21 @@ returns-clause-stands c = λ taken.
       longest = c.self.inside.longest;
       clock = Some c.args.moment;
       pieces =
-          c.drop_due-self-inside.new.pieces.entries;
+          c.drop_stale.new.pieces.entries;
     }) taken)
     c.self.view_is
-    (λ after stands. rw c.drop_due-self-inside.ensures.pieces
+    (λ after stands. rw c.drop_stale.ensures.pieces
     (stands-purged c.self.inside.longest c.self.inside.clock c.args.moment c.self.inside.pieces.entries taken after stands))
     c.requires.moment
 
 pub returns-clause-purged : goal.returns-clause-purged
 returns-clause-purged c = record {
   clock = refl;
-  once = c.drop_due-self-inside.ensures.once;
-  live = rw c.drop_due-self-inside.ensures.pieces (live-purged c.self.inside.longest c.args.moment c.self.inside.pieces.entries);
+  once = c.drop_stale.ensures.once;
+  live = rw c.drop_stale.ensures.pieces (live-purged c.self.inside.longest c.args.moment c.self.inside.pieces.entries);
 }
+
+pub invariant_of-self : goal.invariant_of-self
+invariant_of-self c =
+    marked-alone c.self.inside.longest c.drop_stale.new.ends.places c.drop_stale.new.pieces c.drop_stale.ensures.mark
+    c.drop_stale.ensures.placed

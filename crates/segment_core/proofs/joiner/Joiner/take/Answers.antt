@@ -1,8 +1,8 @@
-use Rattle.std.proofs.Common.{◌≡◌, ◌+◌, ◌≤◌, true, Some, refl, sym, ◌∙◌, subst, arith}
-use Rattle.segment_core.specs.Store.{MarkedStore, StandsFor, IsNotBefore, answer_of, is_live, longest_of, taken_with}
+use Rattle.std.proofs.Common.{◌≡◌, true, Some, refl, sym, ◌∙◌, subst}
+use Rattle.segment_core.specs.Store.{MarkedStore, StandsFor, IsNotBefore, answer_of, is_live, taken_with}
 use Rattle.segment_core.specs.Views.{arrival_view}
 use Rattle.segment_core.proofs.StoreSteps.{answer-live, takes-live, takes-stale}
-use Rattle.segment_core.proofs.LiveUntil.{until-lower, until-taken}
+use Rattle.segment_core.proofs.Places.{marked-taken}
 use Rattle.segment_core.proofs.joiner.Joiner.take.Goals as goal
 
 pub returns-then-not-is_live-clause-stands : goal.returns-then-not-is_live-clause-stands
@@ -47,11 +47,6 @@ returns-clause-stands c = λ taken.
 
 pub invariant_of-self-2 : goal.invariant_of-self-2
 invariant_of-self-2 c =
-    let a = arrival_view c.args.arrived.now in
-    let due = c.min-self-inside.result in
-    let lower : due ≤ c.self.inside.due = omega (arith, c.min-self-inside.ensures) in
-    let own : due ≤ c.args.arrived.now.version + longest_of c.self.inside.longest c.args.arrived.now.product =
-    omega (arith, c.min-self-inside.ensures, c.end_of.ensures) in
-    until-taken c.self.inside.longest due c.self.inside.pieces c.take_live.new.pieces a c.args.arrived.now.seg
-    c.in_ok-taken.ensures.pieces c.in_ok-taken.ensures.mark own
-    (until-lower c.self.inside.longest due c.self.inside.due c.self.inside.pieces lower c.self.invariant)
+    marked-taken c.self.inside.longest c.self.inside.ends.places c.take_live.new.ends.places c.self.inside.pieces
+    c.take_live.new.pieces c.take_live.ensures.kept c.take_live.ensures.mark (c.take_live.ensures.placed c.self.invariant.0)
+    c.self.invariant

@@ -1,0 +1,2 @@
+pub mod BytesAsNumbers
+pub mod BitsBack

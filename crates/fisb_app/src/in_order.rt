@@ -1,0 +1,161 @@
+//! What the commands have in common: lines are acted on in their order.
+ghost use Rattle.std.specs.Prelude.{◌≡◌, ℕ, ◌||◌, ◌∷◌, List, [], Option, None, Some, Ok, Result, if◌then◌else◌, not};
+ghost use Rattle.std.specs.Option.{option_or};
+ghost use Rattle.life_table.specs.LifeTable.{LifeTable as Table};
+ghost use Rattle.run_core.specs.Actor.{HasOpened};
+ghost use Rattle.script_core.specs.LineView.{line_view, HasRanges};
+ghost use Rattle.script_core.specs.Script.{Line as ScriptLine};
+ghost use Rattle.script_core.specs.declared.reason.Reason.TheVariants.{NotHere};
+ghost use Rattle.fisb_app.specs.Output.{given_text, heard_picture};
+ghost use Rattle.fisb_app.specs.declared.party.Party.{Party as AnyParty};
+ghost use Rattle.fisb_app.specs.Past.{is_empty, moment_of};
+ghost use Rattle.fisb_app.specs.Reading.{CanCome, earlier_than, front_refusal, own_refusal, party_refusal};
+ghost use Rattle.fisb_app.specs.Stands.{HasTried, IsInOrder};
+ghost use Rattle.fisb_app.specs.Work.{opened_with, opening_table, work_of};
+
+use crate::line_kinds::{is_empty, is_heard_or_shown, is_station, is_unbuilt, moment_of};
+use crate::party::Party;
+use fisb_time::Moment;
+use fisb_wire::Bytes;
+use run_core::{Actor, Stop};
+use script_core::{Line, LineFault, Reason, print_refused, read_line};
+use std::alloc::{AllocError, Global};
+
+/// What a command does with lines against which nothing but their content can stand.
+pub(crate) trait LineActor: Drop {
+    // The command.
+    ghost PARTY: { AnyParty };
+
+    const PARTY: Party;
+
+    // The table under which lines are acted on.
+    ghost table: { Self → Table };
+
+    // It was made from the bytes of this table, and acted on these lines, the newest first.
+    ghost holds: { List ℕ → List ScriptLine → Self → Type 0 };
+
+    // Its table is that of the bytes.
+    ghost opened: { (bytes : List ℕ) (acted : List ScriptLine) (actor : Self)
+        → holds bytes acted actor → opening_table bytes ≡ Ok (table actor) };
+
+    /// Reads the table, of which no bytes stand for the default one.
+    fn new(alloc: Global, bytes: &[u8]) -> Result<Self, Stop>
+        ensures { HasOpened (opened_with (opening_table bytes.now)) (holds bytes.now []) result };
+
+    /// Acts on a line of the command, and answers the text that it gives.
+    fn act_on(&mut self, alloc: Global, line: &Line) -> Result<Bytes, Stop>
+        requires { HasRanges 32768 (line_view line.now) }
+        ensures { (bytes : List ℕ) (acted : List ScriptLine)
+            → CanCome acted (line_view line.now)
+            → party_refusal PARTY (line_view line.now) ≡ None
+            → holds bytes acted self.old
+            → HasTried (own_refusal (table self.old) acted (line_view line.now))
+            (λ given. (given ≡ given_text PARTY heard_picture (table self.old) acted
+            (line_view line.now))
+            × holds bytes (line_view line.now ∷ acted) self.new) result };
+}
+
+/// A command that acts on lines in their order.
+#[derive(Drop)]
+pub(crate) struct InOrder<P: LineActor> {
+    pub(crate) inner: P,
+    /// The last moment of a line.
+    pub(crate) clock: Option<Moment>,
+    /// Whether a line other than an empty one was acted on.
+    pub(crate) has_begun: bool,
+}
+
+impl<P: LineActor> Actor for InOrder<P> {
+    ghost work = { work_of P.PARTY heard_picture };
+
+    ghost stands = { IsInOrder P.holds };
+
+    fn new(alloc: Global, table: &[u8]) -> Result<InOrder<P>, Stop> {
+        let inner: P = P::new(alloc, table)?;
+        Ok(InOrder {
+            inner,
+            clock: None,
+            has_begun: false,
+        })
+    }
+
+    fn act(&mut self, alloc: Global, line: &[u8]) -> Result<Bytes, Stop> {
+        let line = match read_line(alloc, line) {
+            Ok(line) => line,
+            Err(LineFault::Syntax) => return Err(Stop::Refused(Reason::Syntax)),
+            Err(LineFault::NoMemory) => return Err(Stop::NoMemory),
+        };
+        if let Some(reason) = self.front_refusal(&line) {
+            return Err(Stop::Refused(reason));
+        }
+        match self.inner.act_on(alloc, &line) {
+            Ok(text) => {
+                self.advance(&line);
+                Ok(text)
+            }
+            Err(stop) => Err(stop),
+        }
+    }
+
+    fn refusal(alloc: Global, line: u64, reason: &Reason) -> Result<Bytes, AllocError> {
+        print_refused(alloc, line, reason)
+    }
+}
+
+impl<P: LineActor> InOrder<P> {
+    /// The first reason against a line that does not look at its content.
+    fn front_refusal(&self, line: &Line) -> Option<Reason>
+        ensures { result ≡ front_refusal P.PARTY self.now.has_begun self.now.clock
+            (line_view line.now) }
+    {
+        if is_unbuilt(line) {
+            return Some(Reason::NotBuilt);
+        }
+        if !takes(P::PARTY, line) {
+            return Some(Reason::NotHere);
+        }
+        if is_station(line) && self.has_begun {
+            return Some(Reason::Station);
+        }
+        match earlier_than(moment_of(line), self.clock) {
+            Some(kept) => Some(Reason::Clock { kept }),
+            None => None,
+        }
+    }
+
+    /// Sets the clock, and that a line was acted on.
+    fn advance(&mut self, line: &Line)
+        ensures clock { self.new.clock ≡ option_or (moment_of (line_view line.now)) self.old.clock }
+        ensures begun { self.new.has_begun
+            ≡ (self.old.has_begun || not (is_empty (line_view line.now))) }
+        ensures inner { self.new.inner ≡ self.old.inner }
+    {
+        if let Some(moment) = moment_of(line) {
+            self.clock = Some(moment);
+        }
+        self.has_begun = self.has_begun || !is_empty(line);
+    }
+}
+
+/// Whether a command takes a line.
+fn takes(party: Party, line: &Line) -> bool
+    ensures { party_refusal party (line_view line.now) ≡ (if result then None else Some NotHere) }
+{
+    match party {
+        Party::Link => true,
+        Party::Ground => !is_heard_or_shown(line),
+    }
+}
+
+/// The last moment, where a line's own is below it.
+fn earlier_than(own: Option<Moment>, last: Option<Moment>) -> Option<Moment>
+    ensures { result ≡ earlier_than own last }
+{
+    let Some(moment) = own else {
+        return None;
+    };
+    match last {
+        Some(kept) if moment < kept => Some(kept),
+        _ => None,
+    }
+}

@@ -1,0 +1,5 @@
+//! Trials of the receiver: whole rows of payloads that are heard and pictures that are shown.
+#![tactic(auto)]
+
+#[cfg(test)]
+mod tests;

@@ -1,0 +1,446 @@
+//! What a receiver makes of payloads. They show the time 22:13, which names 1699999980 then.
+ghost use Rattle.std.specs.Prelude.{◌<◌};
+
+use fisb_time::Moment;
+use life_table::LifeTable;
+use receiver_core::{HearFault, Heard, Receiver, ShowFault, Unread, UnreadReason};
+use std::alloc::Global;
+use std::test::Fail;
+use uplink_frame::read_header;
+
+/// The moment of most receptions.
+const NOW: u64 = 1_700_000_002;
+
+/// The header with valid application data, of no position, and the same of another site.
+const NO_POSITION: &str = "000000000000a000";
+
+const SITE_3: &str = "000000000000a030";
+
+/// A frame with the report `METAR KSEA` of 22:13.
+const METAR_KSEA: &str = "0680067458d03455014a02d3141000";
+
+/// The same report in two segments of file 1, the first of 3 bytes.
+const FIRST_SEGMENT: &str = "0500067658d0040401345501";
+
+const SECOND_SEGMENT: &str = "0680067658d00404024a02d3141000";
+
+/// A frame of product 63 without a block.
+const RADAR: &str = "020000fc58d0";
+
+/// What is asked of a receiver, and what it has to answer.
+#[derive(Clone, Copy)]
+enum Step {
+    /// To hear these application data at a moment, of which all is read.
+    Hear(u64, &'static str),
+    /// The same, of the other site.
+    HearSite(u64, &'static str),
+    /// The same, of which one part is passed on unread: for this reason, of this product and length.
+    Pass(u64, &'static str, UnreadReason, u16, u16),
+    /// To hear at a moment that is below this last one.
+    HearEarly(u64, u64),
+    /// To show a picture, which has so many entries.
+    Show(u64, usize),
+    /// To show one at a moment that is below this last one.
+    ShowEarly(u64, u64),
+}
+
+fn moment_of(seconds: u64) -> Result<Moment, Fail> {
+    let moment = Moment::new(seconds).ok_or("a moment")?;
+    Ok(moment)
+}
+
+/// A receiver by the default table.
+fn new_receiver(alloc: Global) -> Result<Receiver, Fail> {
+    Ok(Receiver::new(alloc, LifeTable::default_table(alloc)?))
+}
+
+fn bytes_of(alloc: Global, digits: &str) -> Result<Vec<u8>, Fail> {
+    let bytes = hex::decode(alloc, digits).ok().ok_or("digits")?;
+    Ok(bytes)
+}
+
+/// A payload with these application data at their front, after a header of 8 bytes.
+fn payload_of(header: &str, data: &[u8]) -> Result<[u8; 432], Fail> {
+    let mut payload = [0; 432];
+    hex::decode_to_slice(header, &mut payload[..8])
+        .ok()
+        .ok_or("a header")?;
+    for i in 0..data.len() {
+        if i < 424 {
+            payload[8 + i] = data[i];
+        }
+    }
+    Ok(payload)
+}
+
+fn hear_bytes(receiver: &mut Receiver, seconds: u64, data: &[u8]) -> Result<Heard, Fail> {
+    let moment = moment_of(seconds)?;
+    let payload = payload_of(NO_POSITION, data)?;
+    Ok(receiver.hear_payload(moment, &payload)?)
+}
+
+fn hear_digits(
+    alloc: Global,
+    receiver: &mut Receiver,
+    seconds: u64,
+    header: &str,
+    digits: &str,
+) -> Result<Heard, Fail> {
+    let moment = moment_of(seconds)?;
+    let data = bytes_of(alloc, digits)?;
+    let payload = payload_of(header, data.as_slice())?;
+    Ok(receiver.hear_payload(moment, &payload)?)
+}
+
+/// How many entries the picture at a moment has.
+fn entries_at(receiver: &Receiver, alloc: Global, seconds: u64) -> Result<usize, Fail> {
+    Ok(receiver.picture(alloc, moment_of(seconds)?)?.len())
+}
+
+fn is_hearing_refused(receiver: &mut Receiver, seconds: u64, last: u64) -> Result<bool, Fail> {
+    let moment = moment_of(seconds)?;
+    let kept = moment_of(last)?;
+    let payload = payload_of(NO_POSITION, &[])?;
+    Ok(receiver.hear_payload(moment, &payload).err() == Some(HearFault::Clock { kept }))
+}
+
+fn is_showing_refused(
+    receiver: &Receiver,
+    alloc: Global,
+    seconds: u64,
+    last: u64,
+) -> Result<bool, Fail> {
+    let moment = moment_of(seconds)?;
+    let kept = moment_of(last)?;
+    Ok(receiver.picture(alloc, moment).err() == Some(ShowFault::Clock { kept }))
+}
+
+/// Whether only one part is passed on unread: for this reason, of this product and length.
+fn is_only_unread(answer: &Heard, reason: UnreadReason, product: u16, length: u16) -> bool {
+    match answer.unread.all() {
+        [part] => part.reason == reason && part.product == product && part.length == length,
+        _ => false,
+    }
+}
+
+fn is_answered(alloc: Global, receiver: &mut Receiver, step: Step) -> Result<bool, Fail> {
+    match step {
+        Step::Hear(seconds, digits) => {
+            let answer = hear_digits(alloc, receiver, seconds, NO_POSITION, digits)?;
+            Ok(answer.unread.is_empty())
+        }
+        Step::HearSite(seconds, digits) => {
+            let answer = hear_digits(alloc, receiver, seconds, SITE_3, digits)?;
+            Ok(answer.unread.is_empty())
+        }
+        Step::Pass(seconds, digits, reason, product, length) => {
+            let answer = hear_digits(alloc, receiver, seconds, NO_POSITION, digits)?;
+            Ok(is_only_unread(&answer, reason, product, length))
+        }
+        Step::HearEarly(seconds, last) => is_hearing_refused(receiver, seconds, last),
+        Step::Show(seconds, count) => Ok(entries_at(receiver, alloc, seconds)? == count),
+        Step::ShowEarly(seconds, last) => is_showing_refused(receiver, alloc, seconds, last),
+    }
+}
+
+/// The place of the first step that is answered otherwise.
+fn first_wrong(
+    alloc: Global,
+    receiver: &mut Receiver,
+    steps: &[Step],
+) -> Result<Option<usize>, Fail> {
+    for (place, step) in steps.iter().enumerate() {
+        if !is_answered(alloc, receiver, *step)? {
+            return Ok(Some(place));
+        }
+    }
+    Ok(None)
+}
+
+/// The same for a receiver by the default table that heard nothing.
+fn first_wrong_of_new(alloc: Global, steps: &[Step]) -> Result<Option<usize>, Fail> {
+    let mut receiver = new_receiver(alloc)?;
+    first_wrong(alloc, &mut receiver, steps)
+}
+
+#[test]
+fn the_header_of_a_payload_is_answered(rt: HostRuntime) -> Result<(), Fail> {
+    let mut receiver = new_receiver(rt.alloc())?;
+    let data = bytes_of(rt.alloc(), METAR_KSEA)?;
+    let payload = payload_of(NO_POSITION, data.as_slice())?;
+    let answer = receiver.hear_payload(moment_of(NOW)?, &payload)?;
+    assert!(rt; answer.header == read_header(&payload));
+    assert!(rt; answer.header.app_valid && !answer.header.position_valid);
+    assert_eq!(rt; answer.header.slot, 0);
+    assert_eq!(rt; answer.corrected, [0; 6]);
+    Ok(())
+}
+
+#[test]
+fn a_report_is_heard_and_shown(rt: HostRuntime) -> Result<(), Fail> {
+    let steps = [
+        Step::Hear(NOW, METAR_KSEA),
+        Step::Show(NOW + 1, 1),
+        Step::Show(1_700_007_179, 1),
+        Step::Show(1_700_007_180, 0),
+    ];
+    assert_eq!(rt; first_wrong_of_new(rt.alloc(), &steps)?, None);
+    Ok(())
+}
+
+#[test]
+fn a_moment_before_the_last_is_refused(rt: HostRuntime) -> Result<(), Fail> {
+    let steps = [
+        Step::Hear(NOW, METAR_KSEA),
+        Step::HearEarly(NOW - 1, NOW),
+        Step::ShowEarly(NOW - 1, NOW),
+        Step::Show(NOW, 1),
+    ];
+    assert_eq!(rt; first_wrong_of_new(rt.alloc(), &steps)?, None);
+    Ok(())
+}
+
+#[test]
+fn segments_are_joined_in_any_order(rt: HostRuntime) -> Result<(), Fail> {
+    let steps = [
+        Step::Hear(NOW, SECOND_SEGMENT),
+        Step::Show(NOW, 0),
+        Step::Hear(NOW + 1, FIRST_SEGMENT),
+        Step::Show(NOW + 1, 1),
+    ];
+    assert_eq!(rt; first_wrong_of_new(rt.alloc(), &steps)?, None);
+    Ok(())
+}
+
+#[test]
+fn segments_of_two_stations_are_never_joined(rt: HostRuntime) -> Result<(), Fail> {
+    let steps = [
+        Step::Hear(NOW, FIRST_SEGMENT),
+        Step::HearSite(NOW + 1, SECOND_SEGMENT),
+        Step::Show(NOW + 1, 0),
+        Step::Hear(NOW + 2, SECOND_SEGMENT),
+        Step::Show(NOW + 2, 1),
+    ];
+    assert_eq!(rt; first_wrong_of_new(rt.alloc(), &steps)?, None);
+    Ok(())
+}
+
+#[test]
+fn headers_are_refused(rt: HostRuntime) -> Result<(), Fail> {
+    let steps = [
+        Step::Pass(NOW, "0180067458", UnreadReason::Short, 0, 3),
+        Step::Pass(NOW, "0200867458d0", UnreadReason::Flagged, 413, 4),
+        Step::Pass(NOW, "0380067658d0000403", UnreadReason::Segment, 413, 7),
+        Step::Pass(NOW, "0200067058d0", UnreadReason::Product, 412, 4),
+        Step::Pass(NOW, "0380067658d0008201", UnreadReason::Files, 413, 7),
+        Step::Pass(NOW, "0200067460d0", UnreadReason::Time, 413, 4),
+    ];
+    assert_eq!(rt; first_wrong_of_new(rt.alloc(), &steps)?, None);
+    Ok(())
+}
+
+#[test]
+fn headers_that_are_just_in_order_are_read(rt: HostRuntime) -> Result<(), Fail> {
+    let steps = [
+        Step::Hear(NOW, "0200067458d0"),
+        Step::Hear(NOW, "0380067658d0000402"),
+        Step::Hear(NOW, "020000fc58d0"),
+        Step::Hear(NOW, "0200010058d0"),
+        Step::Hear(NOW, "0380067658d0008001"),
+        Step::Hear(NOW, "020006745cd0"),
+    ];
+    assert_eq!(rt; first_wrong_of_new(rt.alloc(), &steps)?, None);
+    Ok(())
+}
+
+/// A table without a row of radar.
+const NO_RADAR: &str =
+    "version = 1\nlate = 600\n[[text]]\ntype = \"TAF\"\nwords = 2\nlife = 60\nform = 0\n";
+
+#[test]
+fn a_product_without_a_row_is_passed_on(rt: HostRuntime) -> Result<(), Fail> {
+    let table = LifeTable::read(rt.alloc(), NO_RADAR.as_bytes())?;
+    let mut receiver = Receiver::new(rt.alloc(), table);
+    let steps = [Step::Pass(NOW, RADAR, UnreadReason::NoRow, 63, 4)];
+    assert_eq!(rt; first_wrong(rt.alloc(), &mut receiver, &steps)?, None);
+    Ok(())
+}
+
+#[test]
+fn a_frame_is_stale_once_the_longest_life_of_its_product_has_passed(
+    rt: HostRuntime,
+) -> Result<(), Fail> {
+    let steps = [
+        Step::Hear(1_700_001_179, RADAR),
+        Step::Pass(1_700_001_180, RADAR, UnreadReason::Stale, 63, 4),
+    ];
+    assert_eq!(rt; first_wrong_of_new(rt.alloc(), &steps)?, None);
+    Ok(())
+}
+
+/// The reports `METAR` and `METAR KPDX` in one payload, and `XYZ KSEA` in another.
+const FEW_WORDS: &str = "0880067458d03455014803455014a02d011800";
+
+const UNLISTED: &str = "0580067458d06196a02d314100";
+
+#[test]
+fn a_report_without_a_key_does_not_end_the_payload(rt: HostRuntime) -> Result<(), Fail> {
+    let steps = [
+        Step::Pass(NOW, FEW_WORDS, UnreadReason::Words, 413, 17),
+        Step::Show(NOW, 1),
+        Step::Pass(NOW + 1, UNLISTED, UnreadReason::Unlisted, 413, 11),
+    ];
+    assert_eq!(rt; first_wrong_of_new(rt.alloc(), &steps)?, None);
+    Ok(())
+}
+
+#[test]
+fn a_frame_of_zeros_has_no_application_data(rt: HostRuntime) -> Result<(), Fail> {
+    let mut receiver = new_receiver(rt.alloc())?;
+    let answer = receiver.hear(moment_of(NOW)?, &[0; 552]);
+    assert!(rt; answer.err() == Some(HearFault::NoApplication));
+    Ok(())
+}
+
+/// Whether this part of a frame of another type, of two bytes, is passed on.
+fn is_of_type(part: &Unread, kind: u8) -> bool {
+    part.reason == UnreadReason::Kind && part.kind == kind && part.product == 0 && part.length == 2
+}
+
+/// Whether these are parts of the types 1, 2 and so on.
+fn are_types_in_order(parts: &[Unread]) -> bool {
+    let mut kind = 1u8;
+    for part in parts {
+        if !is_of_type(part, kind) {
+            return false;
+        }
+        kind = kind.wrapping_add(1);
+    }
+    true
+}
+
+#[test]
+fn ten_unread_frames_are_passed_on_in_their_order(rt: HostRuntime) -> Result<(), Fail> {
+    let mut receiver = new_receiver(rt.alloc())?;
+    let mut data = Vec::new(rt.alloc());
+    for kind in 1..11 {
+        data.extend_from_slice(&[0x01, kind, 0x00, 0x00])?;
+    }
+    let answer = hear_bytes(&mut receiver, NOW, data.as_slice())?;
+    assert_eq!(rt; answer.unread.len(), 10);
+    assert!(rt; are_types_in_order(answer.unread.all()));
+    Ok(())
+}
+
+/// A frame with the report `METAR K` of 22:13 and three further letters, by their places in the
+/// alphabet: its key has two words.
+fn metar(first: u8, second: u8, third: u8) -> [u8; 15]
+    requires first { first < 16 }
+    requires second { second < 16 }
+    requires third { third < 64 }
+{
+    [
+        0x06,
+        0x80,
+        0x06,
+        0x74,
+        0x58,
+        0xD0,
+        0x34,
+        0x55,
+        0x01,
+        0x4A,
+        0x02,
+        0xC0 + first,
+        third * 4,
+        second * 16,
+        0x00,
+    ]
+}
+
+/// A frame with the report `PIREP KA AA` of 22:13, and these letters in place of the three `A`: its
+/// key has three words.
+fn pirep(first: u8, second: u8, third: u8) -> [u8; 15]
+    requires first { first < 16 }
+    requires second { second < 16 }
+    requires third { third < 64 }
+{
+    [
+        0x06,
+        0x80,
+        0x06,
+        0x74,
+        0x58,
+        0xD0,
+        0x40,
+        0x94,
+        0x85,
+        0x42,
+        0x02,
+        0xC0 + first,
+        0x80,
+        second * 16 + third / 4,
+        third % 4 * 64,
+    ]
+}
+
+/// Twenty reports of two words, which differ in one letter.
+fn twenty_metars(alloc: Global, first: u8, second: u8) -> Result<Vec<u8>, Fail>
+    requires first { first < 16 }
+    requires second { second < 16 }
+{
+    let mut data = Vec::new(alloc);
+    for third in 1..21 {
+        data.extend_from_slice(&metar(first, second, third))?;
+    }
+    Ok(data)
+}
+
+/// Twenty reports of three words, which differ in one letter.
+fn twenty_pireps(alloc: Global, first: u8, second: u8) -> Result<Vec<u8>, Fail>
+    requires first { first < 16 }
+    requires second { second < 16 }
+{
+    let mut data = Vec::new(alloc);
+    for third in 1..21 {
+        data.extend_from_slice(&pirep(first, second, third))?;
+    }
+    Ok(data)
+}
+
+/// Hears 400 reports of one letter, of which no two have the same key.
+fn hear_four_hundred(receiver: &mut Receiver, alloc: Global, first: u8) -> Result<(), Fail>
+    requires { first < 16 }
+{
+    for second in 1..11 {
+        let metars = twenty_metars(alloc, first, second)?;
+        hear_bytes(receiver, NOW, metars.as_slice())?;
+        let pireps = twenty_pireps(alloc, first, second)?;
+        hear_bytes(receiver, NOW, pireps.as_slice())?;
+    }
+    Ok(())
+}
+
+#[test]
+fn a_payload_of_twelve_reports_is_heard_whole(rt: HostRuntime) -> Result<(), Fail> {
+    let mut receiver = new_receiver(rt.alloc())?;
+    let mut data = Vec::new(rt.alloc());
+    for third in 1..13 {
+        data.extend_from_slice(&metar(1, 2, third))?;
+    }
+    let answer = hear_bytes(&mut receiver, NOW, data.as_slice())?;
+    assert!(rt; answer.unread.is_empty());
+    assert_eq!(rt; entries_at(&receiver, rt.alloc(), NOW + 1)?, 12);
+    Ok(())
+}
+
+#[test]
+fn two_thousand_reports_are_kept_and_shown(rt: HostRuntime) -> Result<(), Fail> {
+    let mut receiver = new_receiver(rt.alloc())?;
+    for first in 1..6 {
+        hear_four_hundred(&mut receiver, rt.alloc(), first)?;
+    }
+    assert_eq!(rt; entries_at(&receiver, rt.alloc(), NOW + 1)?, 2000);
+    assert_eq!(rt; entries_at(&receiver, rt.alloc(), 1_700_007_180)?, 1000);
+    Ok(())
+}
