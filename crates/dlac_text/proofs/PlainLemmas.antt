@@ -1,9 +1,11 @@
 -- Showing a text as plain text, and reading it back.
-use Rattle.std.proofs.Common.{◌≡◌, ◌≢◌, ℕ, ◌+◌, ◌<◌, false, eqb, inl, inr, suc, List, [], ◌∷◌, ◌++◌, Option, None, Some, length, get_or, take, refl, sym, ap, ◌∙◌, append_assoc, append-nil, arith, IsTrue}
+use Rattle.std.proofs.Common.{◌≡◌, ◌≢◌, ℕ, ◌+◌, ◌<◌, true, false, not, ◌&&◌, eqb, inl, inr, suc, List, [], ◌∷◌, ◌++◌, Option, None, Some, length, get_or, take, refl, sym, ap, ◌∙◌, append_assoc, append-nil, arith, IsTrue}
 use Rattle.std.proofs.lemmas.Bool.Decides.{nat_tests, eqb_tells}
 use Rattle.std.proofs.lemmas.List.{take_more}
+use Rattle.std.proofs.lemmas.Bool.{and_parts}
+use Rattle.std.specs.List.{list_all}
 use Rattle.dlac_text.specs.Alphabet.{is_in_alphabet, IsDlac}
-use Rattle.dlac_text.specs.Plain.{plain_character, plain_text, prefixed, unplained}
+use Rattle.dlac_text.specs.Plain.{is_itself, plain_character, plain_text, prefixed, unplained}
 use Rattle.dlac_text.proofs.Cuts.{IsDlac-tail}
 use Rattle.dlac_text.proofs.RoundTrip.{IsDlac-head}
 
@@ -14,6 +16,27 @@ plain_text-push (c ∷ text) character =
 
 pub plain_text-more : (text : List ℕ) (i : ℕ) → i < length text → plain_text (take (i + 1) text) ≡ plain_text (take i text) ++ plain_character (get_or text i 0)
 plain_text-more text i h = ap plain_text (take_more text i 0 h) ∙ plain_text-push (take i text) (get_or text i 0)
+
+one_itself : (c : ℕ) → is_itself c ≡ true → plain_character c ≡ c ∷ []
+one_itself c h = elim (eqb_tells c 10) [
+  | inl n ↦ absurd (is_false n.0)
+  | inr not_n ↦ elim (eqb_tells c 26) [
+    | inl z ↦ absurd (is_false_too not_n.0 z.0)
+    | inr not_z ↦ rw (not_n.0, not_z.0) refl
+  ]
+] where
+  is_false : eqb c 10 ≡ true → ⊥
+  is_false e = let bad : false ≡ true = ap (λ b. not b && not (eqb c 26)) (sym e) ∙ h in cc
+
+  is_false_too : eqb c 10 ≡ false → eqb c 26 ≡ true → ⊥
+  is_false_too d e = let bad : false ≡ true = ap (λ b. not b && false) (sym d) ∙ ap (λ b. not (eqb c 10) && not b) (sym e) ∙ h in cc
+
+-- a text whose characters are shown as themselves shows itself
+pub plain_text_itself : (text : List ℕ) → list_all is_itself text ≡ true → plain_text text ≡ text
+plain_text_itself [] h = refl
+plain_text_itself (c ∷ more) h =
+    let both = and_parts (is_itself c) (list_all is_itself more) h in
+    ap (λ t. t ++ plain_text more) (one_itself c both.0) ∙ ap (λ t. c ∷ t) (plain_text_itself more both.1)
 
 pub prefixed-nil : (o : Option (List ℕ)) → prefixed [] o ≡ o
 prefixed-nil None = refl

@@ -1,10 +1,14 @@
 -- How a report is shown on one line of plain text, and how such a text is read back.
-use Rattle.std.specs.Prelude.{ℕ, ◌==◌, if◌then◌else◌, List, [], ◌∷◌, ◌++◌, Option, None, Some}
+use Rattle.std.specs.Prelude.{ℕ, Bool, not, ◌&&◌, ◌==◌, if◌then◌else◌, List, [], ◌∷◌, ◌++◌, Option, None, Some}
 
 -- newline is shown as a backslash and an n, U+001A as a backslash and a z, any other character as itself
 abbrev pub plain_character : ℕ → List ℕ
 plain_character character =
     if character == 10 then 92 ∷ 110 ∷ [] else if character == 26 then 92 ∷ 122 ∷ [] else character ∷ []
+
+-- a character that is shown as itself
+abbrev pub is_itself : ℕ → Bool
+is_itself character = not (character == 10) && not (character == 26)
 
 abbrev pub plain_text : List ℕ → List ℕ
 plain_text [] = []

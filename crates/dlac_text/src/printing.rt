@@ -1,13 +1,33 @@
 //! A report on one line, in a form that can be read back.
 ghost use Rattle.std.specs.Prelude.{◌≡◌, ◌<◌, [], ◌∷◌, ◌++◌, length, IfOk, IfSome, MatchOption, None, option_map};
 ghost use Rattle.std.specs.String.{string_bytes};
-ghost use Rattle.dlac_text.specs.Plain.{plain_character, plain_text, unplained, prefixed};
+ghost use Rattle.std.specs.List.{list_all};
+ghost use Rattle.dlac_text.specs.Plain.{is_itself, plain_character, plain_text, unplained, prefixed};
 
 use crate::report_text::Report;
 use std::alloc::{AllocError, Global};
 
 /// A report as one line of plain text: newline as `\n`, U+001A as `\z`, any other character as itself.
 pub fn plain(alloc: Global, report: &Report) -> Result<String, AllocError>
+    ensures { IfOk result (λ text. string_bytes text ≡ plain_text report.now) }
+{
+    if is_itself(report.all().as_bytes()) {
+        return String::from_str(alloc, report.all());
+    }
+    plain_by_characters(alloc, report)
+}
+
+/// Whether each of these characters is shown as itself.
+fn is_itself(characters: &[u8]) -> bool
+    ensures { result ≡ list_all is_itself characters.now }
+{
+    characters
+        .iter()
+        .all(|character| *character != b'\n' && *character != 0x1A)
+}
+
+/// The same, one character after another.
+fn plain_by_characters(alloc: Global, report: &Report) -> Result<String, AllocError>
     ensures { IfOk result (λ text. string_bytes text ≡ plain_text report.now) }
 {
     let characters = report.all().as_bytes();

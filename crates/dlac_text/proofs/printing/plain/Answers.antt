@@ -1,13 +1,12 @@
-use Rattle.std.proofs.Common.{◌∙◌, sym, ap, ◌++◌, get_or}
-use Rattle.dlac_text.specs.Plain.{plain_character}
-use Rattle.dlac_text.proofs.PlainLemmas.{plain_text-more}
+use Rattle.std.proofs.Common.{◌≡◌, true, IfOk, sym, ap, subst, ◌∙◌}
+use Rattle.std.specs.String.{string_bytes}
+use Rattle.std.specs.List.{list_all}
+use Rattle.dlac_text.specs.Plain.{is_itself}
+use Rattle.dlac_text.proofs.PlainLemmas.{plain_text_itself}
 use Rattle.dlac_text.proofs.printing.plain.Goals as goal
 
-pub loop-character-preserved : goal.loop-character-preserved
-loop-character-preserved c =
-    let characters = c.as_bytes-characters.result.now in
-    let i = c.loop-character.character-index in
-    record {
-      shown = c.in_ok-push_plain.ensures ∙ ap (λ t. t ++ plain_character (get_or characters i 0)) c.loop-character.invariant.shown ∙ sym (plain_text-more characters i c.loop-character-test.true);
-      ascii = c.loop-character.invariant.ascii;
-    }
+pub returns-then-is_itself : goal.returns-then-is_itself
+returns-then-is_itself c =
+    let same : list_all is_itself c.args.report.now ≡ true
+    = ap (list_all is_itself) (sym (c.as_bytes.ensures.value ∙ c.all.ensures.text)) ∙ sym c.is_itself.ensures ∙ c.if-is_itself.true in
+    subst (λ xs. IfOk c.from_str.result (λ text. string_bytes text ≡ xs)) (c.all-then-is_itself.ensures.text ∙ sym (plain_text_itself c.args.report.now same)) c.from_str.ensures.ok
