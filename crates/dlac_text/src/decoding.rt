@@ -15,6 +15,9 @@ const TAB: u8 = 28;
 
 const OTHER_END: u8 = 29;
 
+// The most room with which a text begins; a longer one grows.
+const MOST_FIRST_ROOM: usize = 64;
+
 /// The reports of a payload, in their order: the texts between the codes that end a report, the empty ones left out.
 ///
 /// Any bytes are read: bits behind the last whole six, and a TAB that is the last code, stand for nothing.
@@ -28,11 +31,11 @@ pub fn reports(alloc: Global, payload: &[u8]) -> Result<Vec<Report>, AllocError>
     let codes = six_bit_groups(alloc, payload)?;
     let mut found = Vec::new(alloc);
     let mut rest = codes.as_slice();
-    let mut text = Report::with_room(alloc, codes_to_end(rest))?;
+    let mut text = Report::with_room(alloc, first_room(rest))?;
     while let [code, more @ ..] = rest {
         rest = more;
         match *code {
-            END | OTHER_END => end_report(alloc, &mut found, &mut text, codes_to_end(more))?,
+            END | OTHER_END => end_report(alloc, &mut found, &mut text, first_room(more))?,
             TAB => {
                 if let [spaces, behind @ ..] = more {
                     text.push_spaces(*spaces)?;
@@ -46,13 +49,13 @@ pub fn reports(alloc: Global, payload: &[u8]) -> Result<Vec<Report>, AllocError>
     Ok(found)
 }
 
-/// How many codes stand before one that ends a report: but for what a TAB stands for, there are as
-/// many characters.
-fn codes_to_end(codes: &[u8]) -> usize {
-    let end = codes
-        .iter()
-        .position(|code| *code == END || *code == OTHER_END);
-    end.unwrap_or(codes.len())
+/// The room with which the text of a report begins, where these codes are left: none where they
+/// begin with its end, and no more than many a report needs.
+fn first_room(codes: &[u8]) -> usize {
+    match codes.first() {
+        None | Some(&END) | Some(&OTHER_END) => 0,
+        Some(_) => codes.len().min(MOST_FIRST_ROOM),
+    }
 }
 
 /// Ends a report: puts the text so far behind the reports, unless it is empty, and begins an empty

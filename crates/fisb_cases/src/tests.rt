@@ -158,3 +158,46 @@ fn a_frame_that_is_heard_goes_to_the_receiver(rt: HostRuntime) -> Result<(), Fai
     assert_eq!(rt; sink.taken(), SENT);
     Ok(())
 }
+
+/// A receiver that finds no memory where the first byte of a frame is 5A.
+#[derive(Drop)]
+struct Deaf {
+    receiver: Receiver,
+}
+
+impl Ear for Deaf {
+    ghost stands = { λ table past deaf. StandsFor table deaf.receiver past };
+
+    fn new(alloc: Global, table: LifeTable) -> Deaf {
+        Deaf {
+            receiver: Receiver::new(alloc, table),
+        }
+    }
+
+    fn hear(&mut self, moment: Moment, air: &[u8; 552]) -> Result<Heard, HearFault> {
+        if air[0] == 0x5A {
+            return Err(HearFault::NoMemory);
+        }
+        self.receiver.hear(moment, air)
+    }
+
+    fn picture(&self, alloc: Global, moment: Moment) -> Result<Entries, ShowFault> {
+        self.receiver.picture(alloc, moment)
+    }
+}
+
+#[test]
+fn a_frame_goes_to_the_receiver_with_its_wrong_bytes(rt: HostRuntime) -> Result<(), Fail> {
+    let script =
+        b"---\ntext 1700000000 1699999980 METAR KSEA\nturn 1700000001 0\nhear 1700000002 0\nhear 1700000002 0 0=5A\n";
+    let mut source = FaithfulSource::new(Bytes::of(Vec::from_slice(rt.alloc(), script)?));
+    let mut sink = MemorySink::new(rt.alloc(), 1024, numbers(rt.alloc(), &[])?)?;
+    let status = run_link_over::<FaithfulSource, MemorySink, Deaf>(
+        rt.alloc(),
+        &mut source,
+        &mut sink,
+    );
+    assert_eq!(rt; status, Status::NoMemory);
+    assert_eq!(rt; sink.taken(), HEARD);
+    Ok(())
+}
