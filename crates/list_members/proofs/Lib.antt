@@ -1,3 +1,5 @@
 pub mod Members
 pub mod ListMembers
 pub mod Ranges
+pub mod Finding
+pub mod Places

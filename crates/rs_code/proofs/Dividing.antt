@@ -3,11 +3,10 @@ use Rattle.std.proofs.Common.{◌≡◌, ℕ, zero, suc, ◌+◌, ◌-◌, ◌*�
 use Rattle.std.specs.Int.Bits.{bit_xor, xor_zero_r, xor_self}
 use Rattle.std.proofs.lemmas.List.{drop_at, length-take-le, length-replicate, ext_get_or, get_or_past}
 use Rattle.std.proofs.lemmas.Bool.{cases_lt}
+use Rattle.list_members.proofs.Places.{get_or-zeros}
 use Rattle.gf256_core.specs.Field.{IsField}
 use Rattle.poly256.specs.Polynomial.{element_product, element_power, sum_of, scaled, shifted, raised}
 use Rattle.rs_code.specs.CodeWord.{power_sum}
-use Rattle.rs_code.proofs.Xors.{product-zero_right}
-use Rattle.rs_code.proofs.Places.{get_or-zeros}
 use Rattle.rs_code.proofs.PowerSums.{power_sum-cons_zero, power_sum-zeros, power_sum-sum, power_sum-append}
 use Rattle.rs_code.proofs.Kernels.{IsRow, IsRow-multiple, length-scaled, get_or-scaled}
 use Rattle.rs_code.proofs.Pairing.{get_or-sum, get_or-raised}
@@ -80,7 +79,7 @@ same_as_multiple F old new list place f long room written before left =
             | inr past ↦
                 left k (omega arith)
                 ∙ sym (term
-                ∙ ap (bit_xor (get_or old k 0)) (ap (element_product f) (get_or_past list (k - place) 0 past) ∙ product-zero_right F f)
+                ∙ ap (bit_xor (get_or old k 0)) (ap (element_product f) (get_or_past list (k - place) 0 past) ∙ F.product_zero_right f)
                 ∙ xor_zero_r (get_or old k 0))
           ]
     ])
@@ -123,7 +122,7 @@ taken_away F b j back row h root =
     (power_sum-append F (b ∷ row) (replicate (length back - length row) 0) j
     ∙ ap₂ bit_xor
     (ap (element_product (element_power 2 (j * length {A = ℕ} (replicate (length back - length row) 0)))) root
-    ∙ product-zero_right F (element_power 2 (j * length {A = ℕ} (replicate (length back - length row) 0))))
+    ∙ F.product_zero_right (element_power 2 (j * length {A = ℕ} (replicate (length back - length row) 0))))
     (power_sum-zeros F (replicate (length back - length row) 0) (get_or-zeros (length back - length row)) j)
     ∙ xor_zero_r 0)
     ∙ xor_zero_r (power_sum (b ∷ back) j)

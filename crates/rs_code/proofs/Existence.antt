@@ -3,12 +3,12 @@ use Rattle.std.proofs.Common.{◌≡◌, ℕ, zero, suc, ◌+◌, ◌-◌, ◌<�
 use Rattle.std.specs.Int.Bits.{bit_xor, xor_zero_r, xor_self}
 use Rattle.std.proofs.lemmas.Bool.{cases_lt}
 use Rattle.std.proofs.lemmas.List.{append-nil, length-replicate, take_at}
+use Rattle.list_members.proofs.Places.{get_or-zeros}
 use Rattle.gf256_core.specs.Field.{IsField}
 use Rattle.poly256.specs.Polynomial.{element_product, element_power, scaled}
 use Rattle.rs_code.specs.CodeWord.{IsInstance, IsCodeWord, power_sum}
-use Rattle.rs_code.proofs.Xors.{product-zero_right}
 use Rattle.rs_code.proofs.Distance.{difference, length-difference, get_or-difference}
-use Rattle.rs_code.proofs.Places.{get_or-push_zero, get_or-zeros, bytes-append}
+use Rattle.rs_code.proofs.Places.{get_or-push_zero, bytes-append}
 use Rattle.rs_code.proofs.PowerSums.{power_sum-zeros}
 use Rattle.rs_code.proofs.Kernels.{length-scaled, get_or-scaled, power_sum-root, IsRow-multiple, power_sum-step}
 
@@ -32,7 +32,7 @@ times_root-places :
     (F : IsField 391) (a : ℕ) (ws : List ℕ) (k : ℕ)
     → get_or (1 ∷ times_root a ws) k 0 ≡ bit_xor (get_or (1 ∷ ws) k 0) (element_product a (get_or (0 ∷ 1 ∷ ws) k 0))
 unfolding times_root
-times_root-places F a ws zero = sym (ap (bit_xor 1) (product-zero_right F a) ∙ xor_zero_r 1)
+times_root-places F a ws zero = sym (ap (bit_xor 1) (F.product_zero_right a) ∙ xor_zero_r 1)
 times_root-places F a ws (suc k) =
     get_or-difference (ws ++ 0 ∷ []) (scaled a (1 ∷ ws)) (same_length a ws) k
     ∙ ap₂ bit_xor (get_or-push_zero ws k) (get_or-scaled F a (1 ∷ ws) k)
@@ -61,7 +61,7 @@ zero_at_roots F first (suc count) j h h' =
     ∙ elim (cases_lt j (first + count)) [
       | inl before ↦
           ap (element_product (bit_xor (element_power 2 j) a)) (zero_at_roots F first count j h before)
-          ∙ product-zero_right F (bit_xor (element_power 2 j) a)
+          ∙ F.product_zero_right (bit_xor (element_power 2 j) a)
       | inr now ↦
           let same : first + count ≡ j = omega arith in
           ap (λ (n : ℕ). element_product (bit_xor (element_power 2 j) (element_power 2 n)) (power_sum (1 ∷ roots_polynomial first count) j)) same

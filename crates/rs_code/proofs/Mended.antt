@@ -2,6 +2,7 @@
 use Rattle.std.proofs.Common.{◌≡◌, ℕ, zero, suc, ◌+◌, ◌-◌, ◌*◌, ◌/◌, ◌<◌, ◌≤◌, List, [], ◌∷◌, length, get_or, take, lit<, refl, sym, ◌∙◌, ap, subst, arith, inl, inr}
 use Rattle.std.specs.Int.Bits.{bit_xor, xor_zero_r}
 use Rattle.std.proofs.lemmas.List.{get_or-take, length-take-le}
+use Rattle.list_members.proofs.Places.{take-below}
 use Rattle.gf256_core.specs.Field.{IsField}
 use Rattle.poly256.specs.Polynomial.{element_product, element_power, value_at}
 use Rattle.poly256.specs.Laws.{HasFewRoots, HasValues, IgnoresEndZeros}
@@ -53,16 +54,6 @@ locator_of count roots marks all locator whole low all_long few_marks pairs few 
       marked = marked;
     }
 
-front-bytes_none : (k : ℕ) → get_or {A = ℕ} [] k 0 < 256
-front-bytes_none k = lit< tt
-
-front-bytes :
-    (n : ℕ) (xs : List ℕ) → ((k : ℕ) → get_or xs k 0 < 256) → (k : ℕ) → get_or (take n xs) k 0 < 256
-front-bytes zero xs bytes k = front-bytes_none k
-front-bytes (suc n) [] bytes k = bytes k
-front-bytes (suc n) (x ∷ xs) bytes zero = bytes 0
-front-bytes (suc n) (x ∷ xs) bytes (suc k) = front-bytes n xs (λ i. bytes (suc i)) k
-
 -- there are at most as many places as roots
 pub few_places :
     (F : IsField 391) (R : HasFewRoots) (count roots : ℕ) (marks locator sums whole : List ℕ) (low degree : ℕ)
@@ -75,7 +66,7 @@ few_places F R count roots marks locator sums whole low degree is below short =
     let l : length (take (degree + 1) whole) ≡ suc degree =
     length-take-le (degree + 1) whole (let m = is.whole_long in omega arith) ∙ (let e : degree + 1 ≡ suc degree = omega arith in e) in
     let most : length (zero_places (take (degree + 1) whole) count) ≤ degree =
-    few_zero_places F R (take (degree + 1) whole) count degree short (front-bytes (degree + 1) whole is.whole_bytes) l
+    few_zero_places F R (take (degree + 1) whole) count degree short (take-below 256 (degree + 1) whole (lit< tt) is.whole_bytes) l
     (get_or-take (degree + 1) whole degree 0 (omega arith) ∙ is.lead.lead) in
     omega arith
 
@@ -144,7 +135,7 @@ errors-located F V E count roots first marks word other all sums errors locator 
     let fronted : value_at (take (degree + 1) whole) (element_power 2 place) ≡ value_at whole (element_power 2 place) =
     value-front E (degree + 1) whole (element_power 2 place) (omega arith) (λ i h. is.lead.past i (omega arith)) in
     elim (located F V (take (low + 1) locator) (without marks errors) (length sums / 2) first (omega arith)
-    (without-fits F marks errors has.bytes) (front-bytes (low + 1) locator is.bytes) (omega arith)
+    (without-fits F marks errors has.bytes) (take-below 256 (low + 1) locator (lit< tt) is.bytes) (omega arith)
     (λ j h.
     paired-same_below (take (low + 1) locator) (λ i. power_sum (without marks errors) (first + (j + i))) (λ i. get_or sums (j + i) 0)
     (λ i h'.

@@ -1,11 +1,11 @@
 -- The pairing of a polynomial with a row of sums: it is linear, and a polynomial times a power of x meets the row further on.
 use Rattle.std.proofs.Common.{◌≡◌, ℕ, zero, suc, ◌+◌, ◌-◌, ◌<◌, ◌≤◌, List, [], ◌∷◌, length, get_or, take, lit<, refl, sym, ◌∙◌, ap, ap₂, arith}
-use Rattle.std.specs.Int.Bits.{bit_xor, xor_zero_r}
+use Rattle.std.specs.Int.Bits.{bit_xor, xor_zero_r, xor_zero_l}
 use Rattle.std.proofs.lemmas.List.{get_or_past, length-take}
+use Rattle.bit_fields.proofs.Xors.{xor-shuffle}
 use Rattle.gf256_core.specs.Field.{IsField}
 use Rattle.poly256.specs.Polynomial.{element_product, sum_of, scaled, shifted, raised}
 use Rattle.rs_code.specs.Mending.{paired}
-use Rattle.rs_code.proofs.Xors.{xor-shuffle, zero-xor, product-zero_right, product-xor_right}
 use Rattle.rs_code.proofs.Kernels.{get_or-scaled}
 
 pub paired-empty : (row : ℕ → ℕ) → paired [] row ≡ 0
@@ -53,7 +53,7 @@ paired-sum :
     (F : IsField 391) (xs ys : List ℕ) (row : ℕ → ℕ)
     → paired (sum_of xs ys) row ≡ bit_xor (paired xs row) (paired ys row)
 unfolding paired sum_of
-paired-sum F [] ys row = sym (zero-xor (paired ys row))
+paired-sum F [] ys row = sym (xor_zero_l (paired ys row))
 paired-sum F (x ∷ xs) [] row = sym (xor_zero_r (paired (x ∷ xs) row))
 paired-sum F (x ∷ xs) (y ∷ ys) row =
     ap₂ bit_xor (F.distributive x y (row 0)) (paired-sum F xs ys (λ k. row (suc k)))
@@ -63,10 +63,10 @@ paired-scaled :
     (F : IsField 391) (c : ℕ) (xs : List ℕ) (row : ℕ → ℕ)
     → paired (scaled c xs) row ≡ element_product c (paired xs row)
 unfolding paired scaled
-paired-scaled F c [] row = sym (product-zero_right F c)
+paired-scaled F c [] row = sym (F.product_zero_right c)
 paired-scaled F c (x ∷ xs) row =
     ap₂ bit_xor (F.product_assoc c x (row 0)) (paired-scaled F c xs (λ k. row (suc k)))
-    ∙ sym (product-xor_right F c (element_product x (row 0)) (paired xs (λ k. row (suc k))))
+    ∙ sym (F.distributive_right c (element_product x (row 0)) (paired xs (λ k. row (suc k))))
 
 paired-shifted :
     (F : IsField 391) (xs : List ℕ) (row : ℕ → ℕ) → paired (shifted xs) row ≡ paired xs (λ k. row (suc k))
@@ -74,7 +74,7 @@ unfolding paired shifted
 paired-shifted F [] row = refl
 paired-shifted F (x ∷ xs) row =
     ap (λ (a : ℕ). bit_xor a (paired (x ∷ xs) (λ k. row (suc k)))) (F.product_zero (row 0))
-    ∙ zero-xor (paired (x ∷ xs) (λ k. row (suc k)))
+    ∙ xor_zero_l (paired (x ∷ xs) (λ k. row (suc k)))
 
 paired-raised :
     (F : IsField 391) (n : ℕ) (xs : List ℕ) (row : ℕ → ℕ)
@@ -114,7 +114,7 @@ paired-add F room list sums place f n j zeros =
 
 pub get_or-sum : (xs ys : List ℕ) (k : ℕ) → get_or (sum_of xs ys) k 0 ≡ bit_xor (get_or xs k 0) (get_or ys k 0)
 unfolding sum_of
-get_or-sum [] ys k = sym (zero-xor (get_or ys k 0))
+get_or-sum [] ys k = sym (xor_zero_l (get_or ys k 0))
 get_or-sum (x ∷ xs) [] k = sym (xor_zero_r (get_or (x ∷ xs) k 0))
 get_or-sum (x ∷ xs) (y ∷ ys) zero = refl
 get_or-sum (x ∷ xs) (y ∷ ys) (suc k) = get_or-sum xs ys k
@@ -150,5 +150,5 @@ pub get_or-add_above :
 get_or-add_above F room list place f n k h =
     get_or-add F room list place f n (k - place) k (omega arith)
     ∙ ap (bit_xor (get_or room k 0))
-    (ap (element_product f) (get_or_past (take n list) (k - place) 0 (omega (arith, length-take n list))) ∙ product-zero_right F f)
+    (ap (element_product f) (get_or_past (take n list) (k - place) 0 (omega (arith, length-take n list))) ∙ F.product_zero_right f)
     ∙ xor_zero_r (get_or room k 0)

@@ -5,7 +5,6 @@ use Rattle.std.proofs.lemmas.List.{ext_get_or, get_or_past}
 use Rattle.poly256.specs.Polynomial.{element_product, sum_of, scaled}
 use Rattle.rs_code.specs.UplinkRows.{uplink_generator}
 use Rattle.rs_code.proofs.Places.{set_grows, set_keeps}
-use Rattle.rs_code.proofs.Xors.{product-zero_right}
 use Rattle.rs_code.proofs.Kernels.{length-scaled, get_or-scaled}
 use Rattle.rs_code.proofs.Pairing.{get_or-sum}
 use Rattle.rs_code.proofs.Dividing.{length-sum}
@@ -47,7 +46,7 @@ returns c =
           c.loop-i.invariant.left k (omega arith)
           ∙ sym (ap (bit_xor (get_or c.args.list.now k 0))
           (ap (element_product c.args.byte) (get_or_past uplink_generator k 0 (omega arith))
-          ∙ product-zero_right c.field_laws.ensures c.args.byte)
+          ∙ c.field_laws.ensures.product_zero_right c.args.byte)
           ∙ xor_zero_r (get_or c.args.list.now k 0))
     ]
     ∙ sym (get_or-sum c.args.list.now (scaled c.args.byte uplink_generator) k
