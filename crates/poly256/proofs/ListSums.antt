@@ -132,6 +132,11 @@ unfolding shifted
 length-shifted_more [] h = absurd (omega arith)
 length-shifted_more (x ∷ xs) h = omega arith
 
+pub length-shifted_at_most : (xs : List ℕ) → length (shifted xs) ≤ suc (length xs)
+unfolding shifted
+length-shifted_at_most [] = omega arith
+length-shifted_at_most (x ∷ xs) = omega arith
+
 pub coefficient-shifted_first : (xs : List ℕ) → get_or (shifted xs) 0 0 ≡ 0
 unfolding shifted
 coefficient-shifted_first [] = refl

@@ -5,6 +5,7 @@ use Rattle.std.specs.Option.{unwrap_or}
 use Rattle.std.proofs.lemmas.Bool.{and_parts, and_from, eqb-true, ltb-true, lt-ltb, cases_eq}
 use Rattle.gf256_core.specs.Field.{IsField}
 use Rattle.list_members.proofs.Finding.{find-passes, find-none, find-only}
+use Rattle.poly256.specs.Laws.{HasDegrees}
 use Rattle.rs_code.specs.CodeWord.{IsInstance, IsCodeWord, IsNear, IsCorrectable, power_sum, differences, are_near}
 use Rattle.rs_code.specs.Functions.{words, is_code_word, begins_with, encoded, corrected}
 use Rattle.rs_code.specs.Laws.{HasCodeWordTest, HasOneEncoded, IsCorrected}
@@ -97,9 +98,9 @@ encoded_from F count roots first message word instance l code front =
     same_from_front F count roots first other word instance (code_word_from count roots first other parts.0) code
     (ap (λ (n : ℕ). take n other) (sym l) ∙ begins_from message other parts.1 ∙ sym front))))
 
-pub one_encoded : (F : IsField 391) → HasOneEncoded
-one_encoded F count roots first message word instance l bytes =
-    let some = code_word_exists F count roots first message instance l bytes in
+pub one_encoded : (F : IsField 391) (D : HasDegrees) → HasOneEncoded
+one_encoded F D count roots first message word instance l bytes =
+    let some = code_word_exists F D count roots first message instance l bytes in
     let is : some.0 ≡ encoded count roots first message =
     encoded_from F count roots first message some.0 instance l some.1 some.2 in (
       λ e.

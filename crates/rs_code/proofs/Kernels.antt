@@ -7,6 +7,7 @@ use Rattle.std.proofs.lemmas.Nat.{xor_comm}
 use Rattle.bit_fields.proofs.Xors.{xor-cancel}
 use Rattle.gf256_core.specs.Field.{IsField}
 use Rattle.poly256.specs.Polynomial.{element_product, element_power, scaled}
+use Rattle.poly256.specs.Laws.{HasDegrees}
 use Rattle.rs_code.specs.CodeWord.{power_sum}
 use Rattle.rs_code.proofs.Powers.{power-zero, product-one}
 use Rattle.rs_code.proofs.Places.{get_or-push_zero, get_or-front}
@@ -36,38 +37,26 @@ power_sum-push F ws b j fits =
     ∙ ap (element_product b) (power-zero 2) ∙ product-one F b fits) (power_sum-empty j)
     ∙ xor_zero_r b)
 
-pub length-scaled : (a : ℕ) (ws : List ℕ) → length (scaled a ws) ≡ length ws
-unfolding scaled
-length-scaled a [] = refl
-length-scaled a (w ∷ ws) = ap suc (length-scaled a ws)
-
-pub get_or-scaled :
-    (F : IsField 391) (a : ℕ) (ws : List ℕ) (k : ℕ) → get_or (scaled a ws) k 0 ≡ element_product a (get_or ws k 0)
-unfolding scaled
-get_or-scaled F a [] k = sym (F.product_zero_right a)
-get_or-scaled F a (w ∷ ws) zero = refl
-get_or-scaled F a (w ∷ ws) (suc k) = get_or-scaled F a ws k
-
 behind_first :
-    (F : IsField 391) (a : ℕ) (ws : List ℕ) (k : ℕ)
+    (F : IsField 391) (D : HasDegrees) (a : ℕ) (ws : List ℕ) (k : ℕ)
     → get_or (0 ∷ scaled a ws) k 0 ≡ element_product a (get_or (0 ∷ ws) k 0)
-behind_first F a ws zero = sym (F.product_zero_right a)
-behind_first F a ws (suc k) = get_or-scaled F a ws k
+behind_first F D a ws zero = sym (F.product_zero_right a)
+behind_first F D a ws (suc k) = D.scaled_coefficient a ws k
 
 -- a word times x + a
 pub power_sum-root :
-    (F : IsField 391) (a : ℕ) (ws vs : List ℕ) (j : ℕ) → length vs ≡ suc (length ws)
+    (F : IsField 391) (D : HasDegrees) (a : ℕ) (ws vs : List ℕ) (j : ℕ) → length vs ≡ suc (length ws)
     → ((k : ℕ) → get_or vs k 0 ≡ bit_xor (get_or ws k 0) (element_product a (get_or (0 ∷ ws) k 0)))
     → power_sum vs j ≡ element_product (bit_xor (element_power 2 j) a) (power_sum ws j)
-power_sum-root F a ws vs j l e =
+power_sum-root F D a ws vs j l e =
     let long : length (ws ++ 0 ∷ []) ≡ length vs = let p = length-append ws (0 ∷ []) in omega arith in
-    let long' : length (0 ∷ scaled a ws) ≡ length vs = let p = length-scaled a ws in omega arith in
-    let behind : (k : ℕ) → get_or (0 ∷ scaled a ws) k 0 ≡ element_product a (get_or (0 ∷ ws) k 0) = behind_first F a ws in
+    let long' : length (0 ∷ scaled a ws) ≡ length vs = let p = D.scaled_length a ws in omega arith in
+    let behind : (k : ℕ) → get_or (0 ∷ scaled a ws) k 0 ≡ element_product a (get_or (0 ∷ ws) k 0) = behind_first F D a ws in
     power_sum-sum F vs (ws ++ 0 ∷ []) (0 ∷ scaled a ws) long long'
     (λ k. e k ∙ sym (ap₂ bit_xor (get_or-push_zero ws k) (behind k))) j
     ∙ ap₂ bit_xor (power_sum-push_zero F ws j)
     (power_sum-cons_zero F (scaled a ws) j
-    ∙ power_sum-multiple F a (scaled a ws) ws (sym (length-scaled a ws)) (get_or-scaled F a ws) j)
+    ∙ power_sum-multiple F a (scaled a ws) ws (sym (D.scaled_length a ws)) (D.scaled_coefficient a ws) j)
     ∙ sym (F.distributive (element_power 2 j) a (power_sum ws j))
 
 -- the coefficients of a polynomial of degree d, in a longer list, times x + a
@@ -120,14 +109,14 @@ word_places F a degree old new t (suc k) =
     (ap (element_product a) (front_places degree old (omega arith) t.zeros k)))
 
 pub power_sum-takes_root :
-    (F : IsField 391) (a degree : ℕ) (old new : List ℕ) → TakesRoot a degree old new → (j : ℕ)
+    (F : IsField 391) (D : HasDegrees) (a degree : ℕ) (old new : List ℕ) → TakesRoot a degree old new → (j : ℕ)
     → power_sum (1 ∷ take (degree + 1) new) j
     ≡ element_product (bit_xor (element_power 2 j) a) (power_sum (1 ∷ take degree old) j)
-power_sum-takes_root F a degree old new t j =
+power_sum-takes_root F D a degree old new t j =
     let room = t.room in
     let l : length (take (degree + 1) new) ≡ degree + 1 = length-take-le (degree + 1) new (let l = t.long in omega arith) in
     let l' : length (take degree old) ≡ degree = length-take-le degree old (omega arith) in
-    power_sum-root F a (1 ∷ take degree old) (1 ∷ take (degree + 1) new) j (omega arith) (word_places F a degree old new t)
+    power_sum-root F D a (1 ∷ take degree old) (1 ∷ take (degree + 1) new) j (omega arith) (word_places F a degree old new t)
 
 multiple_places :
     (F : IsField 391) (byte : ℕ) (row product : List ℕ) → byte < 256

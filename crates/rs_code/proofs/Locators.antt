@@ -5,19 +5,20 @@ use Rattle.std.proofs.lemmas.Bool.{cases_eq}
 use Rattle.std.proofs.lemmas.List.{get_or-take, get_or-set_same, get_or-set_other}
 use Rattle.gf256_core.specs.Field.{IsField}
 use Rattle.poly256.specs.Polynomial.{element_product, sum_of, scaled, raised}
+use Rattle.poly256.specs.Laws.{HasDegrees}
 use Rattle.rs_code.specs.Mending.{paired, IsLocator, IsEarlier}
 use Rattle.rs_code.proofs.Pairing.{paired-zeros, paired-front, paired-add, get_or-add, get_or-add_above}
 
 -- what is left at one more place is taken away
 pub IsLocator-step :
-    (F : IsField 391) (next list sums : List ℕ) (degree at place off rest f : ℕ) → IsLocator next sums (at + 1) place
+    (F : IsField 391) (D : HasDegrees) (next list sums : List ℕ) (degree at place off rest f : ℕ) → IsLocator next sums (at + 1) place
     → IsLocator list sums degree at → degree ≤ place → place ≤ at
     → paired list (λ k. get_or sums (at + k) 0) ≡ off
     → rest ≡ paired (take (at + 2) next) (λ k. get_or sums (place + k) 0) → element_product f off ≡ rest
     → IsLocator (sum_of next (raised (at - place) (scaled f (take (degree + 1) list)))) sums (at + 1) (place + 1)
-IsLocator-step F next list sums degree at place off rest f is is' low high is_off is_rest quotient = record {
-  lead = get_or-add_above F next list (at - place) f (degree + 1) (at + 1) (omega arith) ∙ is.lead;
-  past = λ k h. get_or-add_above F next list (at - place) f (degree + 1) k (omega arith) ∙ is.past k h;
+IsLocator-step F D next list sums degree at place off rest f is is' low high is_off is_rest quotient = record {
+  lead = get_or-add_above F D next list (at - place) f (degree + 1) (at + 1) (omega arith) ∙ is.lead;
+  past = λ k h. get_or-add_above F D next list (at - place) f (degree + 1) k (omega arith) ∙ is.past k h;
   zero = λ j h.
       paired-add F next list sums (at - place) f (degree + 1) j (λ k h'. is'.past k (omega arith))
       ∙ elim (cases_eq j place) [
@@ -39,21 +40,21 @@ IsLocator-step F next list sums degree at place off rest f is is' low high is_of
 
 -- a locator times a power of x and a multiple of the one before it
 pub IsLocator-begin :
-    (F : IsField 391) (zeros list earlier sums : List ℕ) (degree at last off f : ℕ) → ((k : ℕ) → get_or zeros k 0 ≡ 0)
+    (F : IsField 391) (D : HasDegrees) (zeros list earlier sums : List ℕ) (degree at last off f : ℕ) → ((k : ℕ) → get_or zeros k 0 ≡ 0)
     → degree < length list → IsLocator list sums degree at → IsEarlier earlier sums degree last → degree ≤ at → off < 256
     → paired list (λ k. get_or sums (at + k) 0) ≡ off → element_product f last ≡ off
     → IsLocator (sum_of (sum_of zeros (raised (at + 1 - degree) (scaled 1 (take (degree + 1) list)))) (raised 0 (scaled f (take degree earlier)))) sums (at + 1) degree
-IsLocator-begin F zeros list earlier sums degree at last off f none room is before high fits is_off quotient =
+IsLocator-begin F D zeros list earlier sums degree at last off f none room is before high fits is_off quotient =
     record {
       lead =
-          get_or-add_above F (sum_of zeros (raised (at + 1 - degree) (scaled 1 (take (degree + 1) list)))) earlier 0 f degree (at + 1) (omega arith)
-          ∙ get_or-add F zeros list (at + 1 - degree) 1 (degree + 1) degree (at + 1) (omega arith)
+          get_or-add_above F D (sum_of zeros (raised (at + 1 - degree) (scaled 1 (take (degree + 1) list)))) earlier 0 f degree (at + 1) (omega arith)
+          ∙ get_or-add F D zeros list (at + 1 - degree) 1 (degree + 1) degree (at + 1) (omega arith)
           ∙ ap₂ bit_xor (none (at + 1))
           (ap (element_product 1) (get_or-take (degree + 1) list degree 0 (omega arith) ∙ is.lead) ∙ F.product_one 1 (lit< tt))
           ∙ xor_zero_l 1;
       past = λ k h.
-          get_or-add_above F (sum_of zeros (raised (at + 1 - degree) (scaled 1 (take (degree + 1) list)))) earlier 0 f degree k (omega arith)
-          ∙ get_or-add_above F zeros list (at + 1 - degree) 1 (degree + 1) k (omega arith)
+          get_or-add_above F D (sum_of zeros (raised (at + 1 - degree) (scaled 1 (take (degree + 1) list)))) earlier 0 f degree k (omega arith)
+          ∙ get_or-add_above F D zeros list (at + 1 - degree) 1 (degree + 1) k (omega arith)
           ∙ none k;
       zero = λ j h.
           paired-add F (sum_of zeros (raised (at + 1 - degree) (scaled 1 (take (degree + 1) list)))) earlier sums 0 f degree j before.past

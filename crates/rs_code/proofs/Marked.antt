@@ -6,13 +6,11 @@ use Rattle.std.proofs.lemmas.List.{get_or_past, get_or-set_other}
 use Rattle.bit_fields.proofs.Xors.{xor-equal}
 use Rattle.gf256_core.specs.Field.{IsField}
 use Rattle.poly256.specs.Polynomial.{element_product, element_power, value_at, sum_of, scaled, shifted}
-use Rattle.poly256.specs.Laws.{HasValues, IgnoresEndZeros}
+use Rattle.poly256.specs.Laws.{HasDegrees, HasValues, IgnoresEndZeros}
 use Rattle.rs_code.specs.CodeWord.{IsNear, power_sum, differences, bound}
 use Rattle.rs_code.specs.Mending.{weighed, without, blanked, HasLead, IsNearWith}
 use Rattle.rs_code.proofs.Powers.{power-fits}
 use Rattle.rs_code.proofs.Places.{get_or-front}
-use Rattle.rs_code.proofs.Kernels.{get_or-scaled}
-use Rattle.rs_code.proofs.Pairing.{get_or-sum}
 use Rattle.rs_code.proofs.Distance.{weight, weight-cons, length-weighed, weighed-fits, power_sum-weighed, difference, length-difference, get_or-difference, weight-difference}
 
 pub without-none : (word : List ℕ) → without [] word ≡ word
@@ -91,11 +89,11 @@ behind_all cs (suc k) h none = elim (cases_eq (suc k) (length cs)) [
 
 -- the value of a polynomial times x + a
 pub value-root :
-    (F : IsField 391) (V : HasValues) (E : IgnoresEndZeros) (old new : List ℕ) (a x : ℕ) → length new ≡ length old
+    (F : IsField 391) (D : HasDegrees) (V : HasValues) (E : IgnoresEndZeros) (old new : List ℕ) (a x : ℕ) → length new ≡ length old
     → get_or old (length old - 1) 0 ≡ 0
     → ((k : ℕ) → k < length old → get_or new k 0 ≡ bit_xor (get_or (0 ∷ old) k 0) (element_product a (get_or old k 0)))
     → value_at new x ≡ element_product (bit_xor x a) (value_at old x)
-value-root F V E old new a x long room written =
+value-root F D V E old new a x long room written =
     let same : (k : ℕ) → get_or new k 0 ≡ get_or (sum_of (shifted old) (scaled a old)) k 0 = λ k.
     elim (cases_lt k (length old)) [
       | inl inside ↦ written k inside
@@ -103,7 +101,7 @@ value-root F V E old new a x long room written =
           get_or_past new k 0 (omega arith)
           ∙ sym (ap₂ bit_xor (behind_all old k past room) (ap (element_product a) (get_or_past old k 0 past) ∙ F.product_zero_right a) ∙ xor_zero_r 0)
     ]
-    ∙ sym (get_or-sum (shifted old) (scaled a old) k ∙ ap₂ bit_xor (get_or-shifted old k) (get_or-scaled F a old k)) in
+    ∙ sym (D.sum_coefficient (shifted old) (scaled a old) k ∙ ap₂ bit_xor (get_or-shifted old k) (D.scaled_coefficient a old k)) in
     sym (E.values new x)
     ∙ ap (λ (cs : List ℕ). value_at cs x) (E.by_coefficients new (sum_of (shifted old) (scaled a old)) same)
     ∙ E.values (sum_of (shifted old) (scaled a old)) x

@@ -5,7 +5,7 @@ use Rattle.std.proofs.lemmas.List.{get_or-take, length-take-le}
 use Rattle.list_members.proofs.Places.{take-below}
 use Rattle.gf256_core.specs.Field.{IsField}
 use Rattle.poly256.specs.Polynomial.{element_product, element_power, value_at}
-use Rattle.poly256.specs.Laws.{HasFewRoots, HasValues, IgnoresEndZeros}
+use Rattle.poly256.specs.Laws.{HasDegrees, HasFewRoots, HasValues, IgnoresEndZeros}
 use Rattle.rs_code.specs.CodeWord.{IsInstance, power_sum}
 use Rattle.rs_code.specs.Mending.{zero_places, points_of, points_sum, with_errors, without, IsLocator, IsNearWith, HasLead}
 use Rattle.rs_code.proofs.PowerSums.{power_sum-sum}
@@ -56,26 +56,26 @@ locator_of count roots marks all locator whole low all_long few_marks pairs few 
 
 -- there are at most as many places as roots
 pub few_places :
-    (F : IsField 391) (R : HasFewRoots) (count roots : ℕ) (marks locator sums whole : List ℕ) (low degree : ℕ)
+    (F : IsField 391) (D : HasDegrees) (R : HasFewRoots) (count roots : ℕ) (marks locator sums whole : List ℕ) (low degree : ℕ)
     → IsLocatorOf count roots marks locator sums whole low degree → roots < count → count ≤ 255
     → length (zero_places (take (degree + 1) whole) count) ≤ roots
-few_places F R count roots marks locator sums whole low degree is below short =
+few_places F D R count roots marks locator sums whole low degree is below short =
     let few = is.few in
     let many = is.many in
     let many_sums = is.many_sums in
     let l : length (take (degree + 1) whole) ≡ suc degree =
     length-take-le (degree + 1) whole (let m = is.whole_long in omega arith) ∙ (let e : degree + 1 ≡ suc degree = omega arith in e) in
     let most : length (zero_places (take (degree + 1) whole) count) ≤ degree =
-    few_zero_places F R (take (degree + 1) whole) count degree short (take-below 256 (degree + 1) whole (lit< tt) is.whole_bytes) l
+    few_zero_places F D R (take (degree + 1) whole) count degree short (take-below 256 (degree + 1) whole (lit< tt) is.whole_bytes) l
     (get_or-take (degree + 1) whole degree 0 (omega arith) ∙ is.lead.lead) in
     omega arith
 
 pub few_found :
-    (F : IsField 391) (R : HasFewRoots) (count roots : ℕ) (marks locator sums whole places : List ℕ) (low degree found : ℕ)
+    (F : IsField 391) (D : HasDegrees) (R : HasFewRoots) (count roots : ℕ) (marks locator sums whole places : List ℕ) (low degree found : ℕ)
     → IsLocatorOf count roots marks locator sums whole low degree → roots < count → count ≤ 255 → length places ≡ count
     → found ≤ count → take found places ≡ zero_places (take (degree + 1) whole) count → found ≤ roots
-few_found F R count roots marks locator sums whole places low degree found is below short long within e =
-    let few = few_places F R count roots marks locator sums whole low degree is below short in
+few_found F D R count roots marks locator sums whole places low degree found is below short long within e =
+    let few = few_places F D R count roots marks locator sums whole low degree is below short in
     let l : length (take found places) ≡ found = length-take-le found places (omega arith) in
     let m = ap length e in
     omega arith
@@ -157,7 +157,7 @@ errors-located F V E count roots first marks word other all sums errors locator 
 
 -- what the steps of `mend` give
 pub mended :
-    (F : IsField 391) (R : HasFewRoots) (V : HasValues) (E : IgnoresEndZeros) (count roots first : ℕ) (marks word other all sums locator whole places points solved result : List ℕ) (low degree found : ℕ)
+    (F : IsField 391) (D : HasDegrees) (R : HasFewRoots) (V : HasValues) (E : IgnoresEndZeros) (count roots first : ℕ) (marks word other all sums locator whole places points solved result : List ℕ) (low degree found : ℕ)
     → IsInstance count roots first → IsNearWith count roots first marks word other
     → ((i : ℕ) → i < length marks → get_or marks i 0 < count) → length word ≡ count
     → ((k : ℕ) → get_or word k 0 < 256) → ((n : ℕ) → n < roots → get_or all n 0 ≡ power_sum word (first + n))
@@ -168,10 +168,10 @@ pub mended :
     → ((i : ℕ) → i < length errors → element_product (get_or errors i 0) (element_power 2 (first * get_or places i 0)) ≡ get_or solved i 0)
     → result ≡ with_errors word places errors)
     → result ≡ other
-mended F R V E count roots first marks word other all sums locator whole places points solved result low degree found instance near inside long bytes sums_are takes is are_places are_points are_found solves adds =
+mended F D R V E count roots first marks word other all sums locator whole places points solved result low degree found instance near inside long bytes sums_are takes is are_places are_points are_found solves adds =
     let has = has_errors F count roots first marks word other all near inside long bytes sums_are in
     let there = errors-located F V E count roots first marks word other all sums (difference word other) locator whole low degree has takes is instance.short instance.below in
-    let few = few_places F R count roots marks locator sums whole low degree is instance.below instance.short in
+    let few = few_places F D R count roots marks locator sums whole low degree is instance.below instance.short in
     let many : length (gathered (take (degree + 1) whole) (difference word other)) ≡ length places =
     length-gathered (take (degree + 1) whole) (difference word other)
     ∙ ap (λ (n : ℕ). length (zero_places (take (degree + 1) whole) n)) has.long ∙ sym (ap length are_places) in

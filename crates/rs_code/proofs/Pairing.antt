@@ -5,8 +5,8 @@ use Rattle.std.proofs.lemmas.List.{get_or_past, length-take}
 use Rattle.bit_fields.proofs.Xors.{xor-shuffle}
 use Rattle.gf256_core.specs.Field.{IsField}
 use Rattle.poly256.specs.Polynomial.{element_product, sum_of, scaled, shifted, raised}
+use Rattle.poly256.specs.Laws.{HasDegrees}
 use Rattle.rs_code.specs.Mending.{paired}
-use Rattle.rs_code.proofs.Kernels.{get_or-scaled}
 
 pub paired-empty : (row : ℕ → ℕ) → paired [] row ≡ 0
 unfolding paired
@@ -112,43 +112,24 @@ paired-add F room list sums place f n j zeros =
     ∙ paired-same list (λ k. get_or sums (j + (place + k)) 0) (λ k. get_or sums (j + place + k) 0)
     (λ k. ap (λ (i : ℕ). get_or sums i 0) (let e : j + (place + k) ≡ j + place + k = omega arith in e))))
 
-pub get_or-sum : (xs ys : List ℕ) (k : ℕ) → get_or (sum_of xs ys) k 0 ≡ bit_xor (get_or xs k 0) (get_or ys k 0)
-unfolding sum_of
-get_or-sum [] ys k = sym (xor_zero_l (get_or ys k 0))
-get_or-sum (x ∷ xs) [] k = sym (xor_zero_r (get_or (x ∷ xs) k 0))
-get_or-sum (x ∷ xs) (y ∷ ys) zero = refl
-get_or-sum (x ∷ xs) (y ∷ ys) (suc k) = get_or-sum xs ys k
-
-get_or-shifted : (xs : List ℕ) (k : ℕ) → get_or (shifted xs) (suc k) 0 ≡ get_or xs k 0
-unfolding shifted
-get_or-shifted [] k = refl
-get_or-shifted (x ∷ xs) k = refl
-
-pub get_or-raised : (n : ℕ) (us : List ℕ) (j : ℕ) → get_or (raised n us) (n + j) 0 ≡ get_or us j 0
-unfolding raised
-get_or-raised zero us j = ap (λ (k : ℕ). get_or us k 0) (let e : 0 + j ≡ j = omega arith in e)
-get_or-raised (suc n) us j =
-    ap (λ (k : ℕ). get_or (shifted (raised n us)) k 0) (let e : suc n + j ≡ suc (n + j) = omega arith in e)
-    ∙ get_or-shifted (raised n us) (n + j) ∙ get_or-raised n us j
-
 -- the coefficients that the multiple reaches
 pub get_or-add :
-    (F : IsField 391) (room list : List ℕ) (place f n i k : ℕ) → place + i ≡ k
+    (F : IsField 391) (D : HasDegrees) (room list : List ℕ) (place f n i k : ℕ) → place + i ≡ k
     → get_or (sum_of room (raised place (scaled f (take n list)))) k 0
     ≡ bit_xor (get_or room k 0) (element_product f (get_or (take n list) i 0))
-get_or-add F room list place f n i k e =
-    get_or-sum room (raised place (scaled f (take n list))) k
+get_or-add F D room list place f n i k e =
+    D.sum_coefficient room (raised place (scaled f (take n list))) k
     ∙ ap (bit_xor (get_or room k 0))
     (ap (λ (m : ℕ). get_or (raised place (scaled f (take n list))) m 0) (sym e)
-    ∙ get_or-raised place (scaled f (take n list)) i
-    ∙ get_or-scaled F f (take n list) i)
+    ∙ D.raised_coefficient place (scaled f (take n list)) i
+    ∙ D.scaled_coefficient f (take n list) i)
 
 -- and those above it
 pub get_or-add_above :
-    (F : IsField 391) (room list : List ℕ) (place f n k : ℕ) → place + n ≤ k
+    (F : IsField 391) (D : HasDegrees) (room list : List ℕ) (place f n k : ℕ) → place + n ≤ k
     → get_or (sum_of room (raised place (scaled f (take n list)))) k 0 ≡ get_or room k 0
-get_or-add_above F room list place f n k h =
-    get_or-add F room list place f n (k - place) k (omega arith)
+get_or-add_above F D room list place f n k h =
+    get_or-add F D room list place f n (k - place) k (omega arith)
     ∙ ap (bit_xor (get_or room k 0))
     (ap (element_product f) (get_or_past (take n list) (k - place) 0 (omega (arith, length-take n list))) ∙ F.product_zero_right f)
     ∙ xor_zero_r (get_or room k 0)

@@ -27,7 +27,3 @@ value_at-more cs i at h =
     terms_from-more 0 cs i at h
     ∙ ap (λ (m : ℕ). bit_xor (terms_from 0 (take i cs) at) (element_product (get_or cs i 0) (element_power at m)))
     (let e : 0 + i ≡ i = omega arith in e)
-
-pub value_at-none : (at : ℕ) → value_at [] at ≡ 0
-unfolding value_at terms_from
-value_at-none at = refl

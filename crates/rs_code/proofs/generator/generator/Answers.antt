@@ -29,7 +29,7 @@ loop-degree-preserved g c =
     record {
       long = c.take_root.auto.coefficients ∙ c.loop-degree.invariant.long;
       roots = λ j h h'.
-          power_sum-takes_root F c.pow_alpha-root.result c.loop-degree.degree c.loop-degree.coefficients c.take_root.new.coefficients step j
+          power_sum-takes_root F c.degree_laws.ensures c.pow_alpha-root.result c.loop-degree.degree c.loop-degree.coefficients c.take_root.new.coefficients step j
           ∙ elim (cases_lt j (c.args.first + c.loop-degree.degree)) [
             | inl before ↦
                 ap (element_product (bit_xor (element_power 2 j) c.pow_alpha-root.result)) (c.loop-degree.invariant.roots j h before)
