@@ -1,5 +1,5 @@
 -- Sums of polynomials over two elements, beside doubling and bits.
-use Rattle.std.proofs.Common.{◌≡◌, ℕ, ◌+◌, ◌*◌, ◌%◌, ◌^◌, arith, inl, inr, ◌⊎◌}
+use Rattle.std.proofs.Common.{◌≡◌, ℕ, ◌*◌, ◌%◌, ◌^◌, arith, inl, inr, ◌⊎◌}
 use Rattle.std.specs.Int.Bits.{bit_xor, xor_zero_r, xor_self}
 use Rattle.bit_fields.proofs.Xors.{xor-shift}
 

@@ -5,7 +5,7 @@ use Rattle.std.proofs.lemmas.List.{drop_at, length-take-le, length-replicate, ex
 use Rattle.std.proofs.lemmas.Bool.{cases_lt}
 use Rattle.list_members.proofs.Places.{get_or-zeros}
 use Rattle.gf256_core.specs.Field.{IsField}
-use Rattle.poly256.specs.Polynomial.{element_product, element_power, sum_of, scaled, shifted, raised}
+use Rattle.poly256.specs.Polynomial.{element_product, element_power, sum_of, scaled, raised}
 use Rattle.poly256.specs.Laws.{HasDegrees}
 use Rattle.rs_code.specs.CodeWord.{power_sum}
 use Rattle.rs_code.proofs.PowerSums.{power_sum-cons_zero, power_sum-zeros, power_sum-sum, power_sum-append}

@@ -1,5 +1,5 @@
 -- A word that is near a code word becomes that code word, once the errors at the places of its locator are added.
-use Rattle.std.proofs.Common.{◌≡◌, ℕ, zero, suc, ◌+◌, ◌-◌, ◌*◌, ◌/◌, ◌<◌, ◌≤◌, List, [], ◌∷◌, length, get_or, take, lit<, refl, sym, ◌∙◌, ap, subst, arith, inl, inr}
+use Rattle.std.proofs.Common.{◌≡◌, ℕ, suc, ◌+◌, ◌-◌, ◌*◌, ◌/◌, ◌<◌, ◌≤◌, List, [], length, get_or, take, lit<, refl, sym, ◌∙◌, ap, subst, arith, inl, inr}
 use Rattle.std.specs.Int.Bits.{bit_xor, xor_zero_r}
 use Rattle.std.proofs.lemmas.List.{get_or-take, length-take-le}
 use Rattle.list_members.proofs.Places.{take-below}

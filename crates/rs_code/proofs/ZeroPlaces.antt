@@ -3,7 +3,7 @@ use Rattle.std.proofs.Common.{◌≡◌, ℕ, zero, suc, ◌+◌, ◌-◌, ◌<�
 use Rattle.std.proofs.lemmas.Bool.{cases_Bool, cases_eq, eqb-true}
 use Rattle.std.proofs.lemmas.List.{take_more_set}
 use Rattle.gf256_core.specs.Field.{IsField}
-use Rattle.poly256.specs.Polynomial.{element_power, value_at, trimmed, prepended}
+use Rattle.poly256.specs.Polynomial.{element_power, value_at}
 use Rattle.poly256.specs.Laws.{HasDegrees, AreDifferent, HasFewRoots}
 use Rattle.rs_code.specs.Mending.{zero_places, points_of}
 use Rattle.rs_code.proofs.Powers.{power-fits, power-injective}
