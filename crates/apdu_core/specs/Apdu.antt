@@ -1,5 +1,7 @@
 -- The application protocol data unit of FIS-B (RTCA DO-358): a header of bit fields, and a payload.
-use Rattle.std.specs.Prelude.{ℕ, ◌+◌, ◌-◌, ◌*◌, ◌/◌, Bool, ◌&&◌, ◌||◌, not, ◌==◌, nat_lt, if◌then◌else◌, List, [], ◌∷◌, ◌++◌, length, take, drop, Option, Some, None, is_some, Result, Ok, Err}
+use Rattle.std.specs.Prelude.{ℕ, ◌+◌, ◌-◌, ◌*◌, ◌/◌, Bool, ◌&&◌, ◌||◌, not, ◌==◌, nat_lt}
+use Rattle.std.specs.Prelude.{if◌then◌else◌, List, [], ◌∷◌, ◌++◌, length, take, drop, Option, Some}
+use Rattle.std.specs.Prelude.{None, is_some, Result, Ok, Err}
 use Rattle.std.specs.Int.{bytes_high_first}
 use Rattle.fisb_time.specs.declared.form.TimeForm.{TimeForm}
 use Rattle.fisb_time.specs.declared.form.TimeForm.TheVariants.{Minute, Second, DayMinute, DaySecond}
@@ -29,7 +31,8 @@ form_number DayMinute = 2
 form_number DaySecond = 3
 
 abbrev pub form_of : ℕ → TimeForm
-form_of n = if n == 0 then Minute else (if n == 1 then Second else (if n == 2 then DayMinute else DaySecond))
+form_of n = if n == 0 then Minute
+    else (if n == 1 then Second else (if n == 2 then DayMinute else DaySecond))
 
 abbrev pub has_date : TimeForm → Bool
 has_date form = nat_lt 1 (form_number form)
@@ -37,17 +40,22 @@ has_date form = nat_lt 1 (form_number form)
 abbrev pub has_seconds : TimeForm → Bool
 has_seconds form = (form_number form == 1) || (form_number form == 3)
 
--- the fields of the time: month and day where the form has a date, hours, minutes, and seconds where it has them
+-- the fields of the time: month and day where the form has a date, hours, minutes, and seconds
+-- where it has them
 abbrev pub time_fields : TimeForm → TimeFields → List Field
-time_fields form t = (if has_date form then record { width = 4; number = t.month } ∷ record { width = 5; number = t.day } ∷ [] else [])
+time_fields form t =
+    (if has_date form then record { width = 4; number = t.month }
+    ∷ record { width = 5; number = t.day } ∷ [] else [])
     ++ (record { width = 5; number = t.hours } ∷ record { width = 6; number = t.minutes } ∷ [])
     ++ (if has_seconds form then record { width = 6; number = t.seconds } ∷ [] else [])
 
 abbrev pub segment_fields : Option Seg → List Field
 segment_fields None = []
-segment_fields (Some s) = record { width = 10; number = s.file } ∷ record { width = 9; number = s.count } ∷ record { width = 9; number = s.number } ∷ []
+segment_fields (Some s) = record { width = 10; number = s.file }
+    ∷ record { width = 9; number = s.count } ∷ record { width = 9; number = s.number } ∷ []
 
--- how many bits the header has before its fill: three flags, the product, the flag of segments, the form, the time, the segment
+-- how many bits the header has before its fill: three flags, the product, the flag of segments, the
+-- form, the time, the segment
 abbrev pub time_width : TimeForm → ℕ
 time_width form = 11 + (if has_date form then 9 else 0) + (if has_seconds form then 6 else 0)
 
@@ -61,12 +69,14 @@ header_length form is_segmented = (header_width form is_segmented + 7) / 8
 -- the fields of the header before its fill, with the flags 0
 abbrev pub header_fields : Apdu → List Field
 header_fields a = (record { width = 3; number = 0 } ∷ record { width = 11; number = a.product }
-    ∷ record { width = 1; number = if is_some a.segmentation then 1 else 0 } ∷ record { width = 2; number = form_number a.form } ∷ [])
+    ∷ record { width = 1; number = if is_some a.segmentation then 1 else 0 }
+    ∷ record { width = 2; number = form_number a.form } ∷ [])
     ++ time_fields a.form a.time ++ segment_fields a.segmentation
 
 -- the bits from the last field to a whole byte
 abbrev pub fill_width : Apdu → ℕ
-fill_width a = 8 * header_length a.form (is_some a.segmentation) - header_width a.form (is_some a.segmentation)
+fill_width a =
+    8 * header_length a.form (is_some a.segmentation) - header_width a.form (is_some a.segmentation)
 
 -- the header with these fill bits
 abbrev pub header_with : ℕ → Apdu → List ℕ
@@ -98,7 +108,11 @@ time_in form header = let hours = (if has_date form then 26 else 17) in record {
 
 abbrev pub segmentation_in : TimeForm → List ℕ → Seg
 segmentation_in form header = let place = 17 + time_width form in
-    record { file = field_at header place 10; count = field_at header (place + 10) 9; number = field_at header (place + 19) 9 }
+    record {
+      file = field_at header place 10;
+      count = field_at header (place + 10) 9;
+      number = field_at header (place + 19) 9;
+    }
 
 abbrev pub is_bad : Seg → Bool
 is_bad s = (s.count == 0) || (s.number == 0) || nat_lt s.count s.number

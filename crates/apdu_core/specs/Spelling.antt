@@ -1,6 +1,7 @@
--- Which body spells which APDU, as the format states it: the fields of the header side by side with the flags 0, any fill
--- bits, and the payload.
-use Rattle.std.specs.Prelude.{◌≡◌, ℕ, ◌^◌, ◌<◌, ◌≤◌, ◌↔◌, false, List, ◌++◌, Option, None, Some, Result, Ok}
+-- Which body spells which APDU, as the format states it: the fields of the header side by side with
+-- the flags 0, any fill bits, and the payload.
+use Rattle.std.specs.Prelude.{◌≡◌, ℕ, ◌^◌, ◌<◌, ◌≤◌, ◌↔◌, false, List, ◌++◌, Option, None, Some}
+use Rattle.std.specs.Prelude.{Result, Ok}
 use Rattle.fisb_time.specs.declared.form.TimeForm.{TimeForm}
 use Rattle.fisb_time.specs.declared.form.TimeFields.{TimeFields}
 pub use Rattle.bit_fields.specs.Bits.{AreBytes}
@@ -19,7 +20,8 @@ pub record FitsTime (form : TimeForm) (time : TimeFields) : Type 0 where
   pub no_day : has_date form ≡ false → time.day ≡ 0
   pub no_seconds : has_seconds form ≡ false → time.seconds ≡ 0
 
--- each field of a segment is within its width, there is a segment at least, and its number is from 1 to the count
+-- each field of a segment is within its width, there is a segment at least, and its number is from
+-- 1 to the count
 pub record FitsSegment (s : Seg) : Type 0 where
   pub file : s.file < file_numbers
   pub count : s.count < 512

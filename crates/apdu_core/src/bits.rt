@@ -31,7 +31,8 @@ impl Bits {
         requires whole { place + width ≤ self.width }
         requires header { self.width ≤ 72 }
         requires small { width ≤ 16 }
-        ensures value { (header : List ℕ) → AreBitsOf header self → result ≡ field_at header place width }
+        ensures value { (header : List ℕ) → AreBitsOf header self
+            → result ≡ field_at header place width }
         ensures bound { result < 2 ^ width }
     {
         let behind = self.width - place - width;

@@ -1,6 +1,7 @@
 //! The APDU of a body.
 ghost use Rattle.std.specs.Prelude.{◌≡◌, ℕ, ◌+◌, ◌≤◌, List, length};
-ghost use Rattle.apdu_core.specs.Apdu.{apdu_of, form_of, header_length, is_bad, product_of, apdu_of_header, segmentation_in, time_in, time_width};
+ghost use Rattle.apdu_core.specs.Apdu.{apdu_of, form_of, header_length, is_bad, product_of};
+ghost use Rattle.apdu_core.specs.Apdu.{apdu_of_header, segmentation_in, time_in, time_width};
 ghost use Rattle.apdu_core.specs.Spelling.{IsReadingOf};
 ghost use Rattle.apdu_core.specs.Views.{AreBitsOf, answer_view};
 

@@ -1,7 +1,9 @@
 //! The bytes of an APDU.
-ghost use Rattle.std.specs.Prelude.{◌≡◌, ℕ, ◌+◌, ◌-◌, ◌*◌, ◌^◌, ◌<◌, ◌≤◌, ◌∷◌, [], ◌++◌, List, drop, length, is_some};
+ghost use Rattle.std.specs.Prelude.{◌≡◌, ℕ, ◌+◌, ◌-◌, ◌*◌, ◌^◌, ◌<◌, ◌≤◌, ◌∷◌, [], ◌++◌, List};
+ghost use Rattle.std.specs.Prelude.{drop, length, is_some};
 ghost use Rattle.bit_fields.specs.Bits.{joined};
-ghost use Rattle.apdu_core.specs.Apdu.{apdu_bytes, form_number, header_fields, segment_fields, time_fields};
+ghost use Rattle.apdu_core.specs.Apdu.{apdu_bytes, form_number, header_fields, segment_fields};
+ghost use Rattle.apdu_core.specs.Apdu.{time_fields};
 ghost use Rattle.apdu_core.specs.Spelling.{FitsApdu, FitsSegmentation, FitsTime};
 ghost use Rattle.apdu_core.specs.Views.{apdu_view};
 
@@ -13,7 +15,8 @@ use fisb_time::{TimeFields, TimeForm};
 pub fn write_apdu(apdu: &Apdu<'_>, room: &mut [u8]) -> usize
     requires fits { FitsApdu (apdu_view apdu.now) }
     requires holds { length (apdu_bytes (apdu_view apdu.now)) ≤ length room.old }
-    ensures written { room.new ≡ apdu_bytes (apdu_view apdu.now) ++ drop (length (apdu_bytes (apdu_view apdu.now))) room.old }
+    ensures written { room.new ≡ apdu_bytes (apdu_view apdu.now)
+        ++ drop (length (apdu_bytes (apdu_view apdu.now))) room.old }
     ensures number { result ≡ length (apdu_bytes (apdu_view apdu.now)) }
 {
     let is_segmented = apdu.seg.is_some();

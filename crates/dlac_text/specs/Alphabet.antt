@@ -6,7 +6,8 @@ use Rattle.std.specs.List.{list_all}
 -- A to Z, the ASCII characters 32 to 63, U+001A, newline and the vertical bar
 abbrev pub is_in_alphabet : ℕ → Bool
 is_in_alphabet character =
-    is_in_range 65 90 character || is_in_range 32 63 character || character == 26 || character == 10 || character == 124
+    is_in_range 65 90 character || is_in_range 32 63 character || character == 26 || character == 10
+    || character == 124
 
 -- every character of the text has a code
 abbrev pub IsDlac : List ℕ → Type 0
@@ -17,7 +18,8 @@ abbrev pub code_of : ℕ → ℕ
 code_of character =
     if is_in_range 65 90 character
     then character - 64
-    else if character == 26 then 27 else if character == 10 then 30 else if character == 124 then 31 else character
+    else if character == 26 then 27 else if character == 10 then 30 else if character == 124 then 31
+    else character
 
 -- the character of a code; 0, 28 and 29 are no characters
 abbrev pub character_of : ℕ → ℕ

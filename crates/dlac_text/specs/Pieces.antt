@@ -1,5 +1,6 @@
 -- What a list of codes spells: characters, spaces and ends of reports, one after another.
-use Rattle.std.specs.Prelude.{◌≡◌, ◌≢◌, ◌⊎◌, ⊤, ℕ, ◌||◌, ◌==◌, if◌then◌else◌, List, [], ◌∷◌, ◌++◌, All}
+use Rattle.std.specs.Prelude.{◌≡◌, ◌≢◌, ◌⊎◌, ⊤, ℕ, ◌||◌, ◌==◌, if◌then◌else◌, List, [], ◌∷◌, ◌++◌}
+use Rattle.std.specs.Prelude.{All}
 use Rattle.std.specs.List.{flat_map}
 
 -- a piece of a list of codes: a symbol, which is a character or a number of spaces, or an end
@@ -8,7 +9,8 @@ pub data Piece : Type 0 where
   spaces : (number : ℕ) → Piece
   end_of_report : (code : ℕ) → Piece
 
--- a report ends with the code 0 or 29; a character is any other code but the TAB 28; any code is a number of spaces
+-- a report ends with the code 0 or 29; a character is any other code but the TAB 28; any code is a
+-- number of spaces
 abbrev pub IsPiece : Piece → Type 0
 IsPiece (character code) = (code ≢ 0) × (code ≢ 28) × (code ≢ 29)
 IsPiece (spaces number) = ⊤
@@ -20,13 +22,16 @@ spelling (character code) = code ∷ []
 spelling (spaces number) = 28 ∷ number ∷ []
 spelling (end_of_report code) = code ∷ []
 
--- the codes are those of the pieces, one after another, and then nothing, or a last lone TAB, which stands for nothing
+-- the codes are those of the pieces, one after another, and then nothing, or a last lone TAB, which
+-- stands for nothing
 abbrev pub Spells : List ℕ → List Piece → Type 0
-Spells codes pieces = All IsPiece pieces × ((codes ≡ flat_map spelling pieces) ⊎ (codes ≡ flat_map spelling pieces ++ 28 ∷ []))
+Spells codes pieces = All IsPiece pieces
+    × ((codes ≡ flat_map spelling pieces) ⊎ (codes ≡ flat_map spelling pieces ++ 28 ∷ []))
 
 -- there is a list of pieces that the codes spell, and no other
 abbrev pub IsCutInOneWay : List ℕ → Type 0
-IsCutInOneWay codes = (pieces : List Piece) × Spells codes pieces × ((others : List Piece) → Spells codes others → others ≡ pieces)
+IsCutInOneWay codes = (pieces : List Piece) × Spells codes pieces
+    × ((others : List Piece) → Spells codes others → others ≡ pieces)
 
 -- the piece of a code other than the TAB
 abbrev pub piece_of : ℕ → Piece

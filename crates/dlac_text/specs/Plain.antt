@@ -1,10 +1,12 @@
 -- How a report is shown on one line of plain text, and how such a text is read back.
 use Rattle.std.specs.Prelude.{ℕ, Bool, not, ◌&&◌, ◌==◌, if◌then◌else◌, List, [], ◌∷◌, ◌++◌, Option, None, Some}
 
--- newline is shown as a backslash and an n, U+001A as a backslash and a z, any other character as itself
+-- newline is shown as a backslash and an n, U+001A as a backslash and a z, any other character as
+-- itself
 abbrev pub plain_character : ℕ → List ℕ
 plain_character character =
-    if character == 10 then 92 ∷ 110 ∷ [] else if character == 26 then 92 ∷ 122 ∷ [] else character ∷ []
+    if character == 10 then 92 ∷ 110 ∷ [] else if character == 26 then 92 ∷ 122 ∷ []
+    else character ∷ []
 
 -- a character that is shown as itself
 abbrev pub is_itself : ℕ → Bool
@@ -22,11 +24,13 @@ prefixed front (Some text) = Some (front ++ text)
 -- what a character behind a backslash stands for, before the rest
 abbrev pub unescaped : ℕ → Option (List ℕ) → Option (List ℕ)
 unescaped character rest =
-    if character == 110 then prefixed (10 ∷ []) rest else if character == 122 then prefixed (26 ∷ []) rest else None
+    if character == 110 then prefixed (10 ∷ []) rest
+    else if character == 122 then prefixed (26 ∷ []) rest else None
 
 -- the text that a plain text shows; None where a backslash is not followed by n or z
 abbrev pub unplained : List ℕ → Option (List ℕ)
 unplained [] = Some []
 unplained (character ∷ []) = if character == 92 then None else Some (character ∷ [])
 unplained (character ∷ next ∷ more) =
-    if character == 92 then unescaped next (unplained more) else prefixed (character ∷ []) (unplained (next ∷ more))
+    if character == 92 then unescaped next (unplained more)
+    else prefixed (character ∷ []) (unplained (next ∷ more))

@@ -1,8 +1,10 @@
 -- Which texts cannot be sent, and why.
-use Rattle.std.specs.Prelude.{ℕ, ◌≤◌, Bool, true, false, not, nat_lt, List, length, Option, None, Some}
+use Rattle.std.specs.Prelude.{ℕ, ◌≤◌, Bool, true, false, not, nat_lt, List, length, Option, None}
+use Rattle.std.specs.Prelude.{Some}
 use Rattle.std.specs.List.{position}
 use Rattle.dlac_text.specs.declared.text_fault.TextFault.{TextFault}
-use Rattle.dlac_text.specs.declared.text_fault.TextFault.TheVariants.{BadCharacter, TooLong, NoMemory}
+use Rattle.dlac_text.specs.declared.text_fault.TextFault.TheVariants.{BadCharacter, TooLong}
+use Rattle.dlac_text.specs.declared.text_fault.TextFault.TheVariants.{NoMemory}
 use Rattle.dlac_text.specs.Alphabet.{is_in_alphabet, IsDlac}
 
 -- the least place of a character outside the alphabet
@@ -17,7 +19,8 @@ longest_text = 16384
 abbrev pub IsSendable : List ℕ → Type 0
 IsSendable text = IsDlac text × (length text ≤ longest_text)
 
--- why a text cannot be sent: the character at this place is outside the alphabet, or there are too many
+-- why a text cannot be sent: the character at this place is outside the alphabet, or there are too
+-- many
 pub data TextRefusal : Type 0 where
   bad_character : (place : ℕ) → TextRefusal
   too_long : TextRefusal

@@ -1,5 +1,6 @@
 -- How a payload is read: the pieces that its six-bit codes spell, and the texts between the ends.
-use Rattle.std.specs.Prelude.{◌≡◌, ℕ, Bool, true, false, ◌==◌, not, List, [], ◌∷◌, map, replicate, filter, length}
+use Rattle.std.specs.Prelude.{◌≡◌, ℕ, Bool, true, false, ◌==◌, not, List, [], ◌∷◌, map, replicate}
+use Rattle.std.specs.Prelude.{filter, length}
 use Rattle.std.specs.List.{flat_map, slice_split}
 use Rattle.dlac_text.specs.Alphabet.{character_of}
 use Rattle.dlac_text.specs.SixBits.{six_bit_groups}
@@ -35,4 +36,5 @@ reports_of payload = reports_among (pieces_of (six_bit_groups payload))
 -- the same, in whatever way the pieces were found
 abbrev pub HasReportsOfItsPieces : List ℕ → Type 0
 HasReportsOfItsPieces payload =
-    (pieces : List Piece) → Spells (six_bit_groups payload) pieces → reports_of payload ≡ reports_among pieces
+    (pieces : List Piece) → Spells (six_bit_groups payload) pieces
+    → reports_of payload ≡ reports_among pieces

@@ -1,4 +1,5 @@
--- Codes of six bits as fields of bytes: code k stands at bit 6 k, as the format lays it out (RTCA DO-358).
+-- Codes of six bits as fields of bytes: code k stands at bit 6 k, as the format lays it out (RTCA
+-- DO-358).
 use Rattle.std.specs.Prelude.{◌≡◌, ℕ, ◌+◌, ◌-◌, ◌*◌, ◌/◌, ◌%◌, ◌^◌, ◌<◌, List, length, get_or}
 use Rattle.bit_fields.specs.Bits.{AreBytes, number_of, field_at}
 

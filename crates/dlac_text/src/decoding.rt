@@ -66,7 +66,8 @@ fn end_report(
     text: &mut Report,
     room: usize,
 ) -> Result<(), AllocError>
-    ensures found { IfOk result (λ _. found.new.items ≡ found.old.items ++ filter has_characters (text.old ∷ [])) }
+    ensures found { IfOk result
+        (λ _. found.new.items ≡ found.old.items ++ filter has_characters (text.old ∷ [])) }
     ensures begun { IfOk result (λ _. text.new ≡ []) }
 {
     if !text.is_empty() {

@@ -1,10 +1,12 @@
 //! From a text to the bytes of its payload.
-ghost use Rattle.std.specs.Prelude.{◌≡◌, ℕ, ◌<◌, ◌↔◌, ◌^◌, length, IfOk, OnOk, MatchResult, None, Some, map, [], ◌∷◌, ◌++◌};
+ghost use Rattle.std.specs.Prelude.{◌≡◌, ℕ, ◌<◌, ◌↔◌, ◌^◌, length, IfOk, OnOk, MatchResult, None};
+ghost use Rattle.std.specs.Prelude.{Some, map, [], ◌∷◌, ◌++◌};
 ghost use Rattle.std.specs.Str.{chars};
 ghost use Rattle.dlac_text.specs.Alphabet.{IsDlac, code_of};
 ghost use Rattle.dlac_text.specs.Payload.{text_payload};
 ghost use Rattle.dlac_text.specs.SixBits.{packed};
-ghost use Rattle.dlac_text.specs.Refusal.{first_bad, longest_text, IsSendable, text_refusal, told_of_text};
+ghost use Rattle.dlac_text.specs.Refusal.{first_bad, longest_text, IsSendable, text_refusal};
+ghost use Rattle.dlac_text.specs.Refusal.{told_of_text};
 
 use crate::alphabet::{code_of, is_in_alphabet};
 use crate::six_bits::packed_group;
@@ -28,7 +30,8 @@ pub fn encode_text(alloc: Global, text: &str) -> Result<Bytes, TextFault>
 
     // Which text is refused, and why; the text is seen as its characters.
     ensures bad_character { (place : ℕ)
-        → ((result ≡ Err (TextFault.BadCharacter place)) ↔ (first_bad (chars text.now) ≡ Some place)) }
+        → ((result ≡ Err (TextFault.BadCharacter place))
+        ↔ (first_bad (chars text.now) ≡ Some place)) }
     ensures too_long { (result ≡ Err TextFault.TooLong)
         ↔ (IsDlac (chars text.now) × (longest_text < length (chars text.now))) }
     ensures no_memory { result ≡ Err TextFault.NoMemory → IsSendable text.now }
@@ -85,7 +88,8 @@ fn payload_bytes(alloc: Global, characters: &[u8]) -> Result<Vec<u8>, AllocError
 fn push_last_group(bytes: &mut Vec<u8>, characters: &[u8]) -> Result<(), AllocError>
     requires alphabet { IsDlac characters.now }
     requires few { length characters.now < 4 }
-    ensures { IfOk result (λ _. bytes.new.items ≡ bytes.old.items ++ packed (map code_of characters.now ++ 0 ∷ [])) }
+    ensures { IfOk result
+        (λ _. bytes.new.items ≡ bytes.old.items ++ packed (map code_of characters.now ++ 0 ∷ [])) }
 {
     match characters {
         [first, second, third] => {

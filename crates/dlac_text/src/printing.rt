@@ -1,5 +1,6 @@
 //! A report on one line, in a form that can be read back.
-ghost use Rattle.std.specs.Prelude.{◌≡◌, ◌<◌, [], ◌∷◌, ◌++◌, length, IfOk, IfSome, MatchOption, None, option_map};
+ghost use Rattle.std.specs.Prelude.{◌≡◌, ◌<◌, [], ◌∷◌, ◌++◌, length, IfOk, IfSome, MatchOption};
+ghost use Rattle.std.specs.Prelude.{None, option_map};
 ghost use Rattle.std.specs.String.{string_bytes};
 ghost use Rattle.std.specs.List.{list_all};
 ghost use Rattle.dlac_text.specs.Plain.{is_itself, plain_character, plain_text, unplained, prefixed};
@@ -41,7 +42,8 @@ fn plain_by_characters(alloc: Global, report: &Report) -> Result<String, AllocEr
 /// Puts what shows an ASCII character at the end.
 fn push_plain(text: &mut String, character: u8) -> Result<(), AllocError>
     requires { character < 128 }
-    ensures { IfOk result (λ _. string_bytes text.new ≡ string_bytes text.old ++ plain_character character) }
+    ensures { IfOk result
+        (λ _. string_bytes text.new ≡ string_bytes text.old ++ plain_character character) }
 {
     match character {
         b'\n' => text.push_str("\\n"),

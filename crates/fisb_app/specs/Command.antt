@@ -17,9 +17,9 @@ command_named (word ∷ rest) = if bytes_eq word (codes "make") then Some Make
     else (if nat_lt 0 (length rest) then None else single_command word)
 
 -- the commands that are not built yet and refuse line 1 in writing
-abbrev pub IsUnbuilt : Command → Type 0
-IsUnbuilt Link = ⊥
-IsUnbuilt Ground = ⊥
-IsUnbuilt Receive = Unit {0}
-IsUnbuilt Gdl = ⊥
-IsUnbuilt Make = Unit {0}
+abbrev pub RefusesInWriting : Command → Type 0
+RefusesInWriting Link = ⊥
+RefusesInWriting Ground = ⊥
+RefusesInWriting Receive = Unit {0}
+RefusesInWriting Gdl = ⊥
+RefusesInWriting Make = Unit {0}

@@ -2,7 +2,7 @@
 ghost use Rattle.std.specs.Prelude.{◌≡◌, ◌≤◌, ◌↔◌, None, Some, map, string_bytes};
 ghost use Rattle.fisb_wire.specs.Faults.{Rose};
 ghost use Rattle.run_core.specs.Run.{HasRun, IsDecided, ends, sink_end, task_of};
-ghost use Rattle.fisb_app.specs.Command.{IsUnbuilt, command_named};
+ghost use Rattle.fisb_app.specs.Command.{RefusesInWriting, command_named};
 ghost use Rattle.fisb_app.specs.declared.command.Command.{Command};
 ghost use Rattle.fisb_app.specs.Unbuilt.{HasRefused};
 ghost use Rattle.fisb_app.specs.Work.{ground_work, link_work, promised_work};
@@ -35,7 +35,8 @@ pub fn run<S: Source, K: Sink>(
     ensures untouched { result ≡ Status.Usage
         → (source.new ≡ source.old) × (sink.new ≡ sink.old) }
 
-    // `link`: what it took, wrote and answered.
+    // `link`: what it took, wrote and answered; and that each picture is the link picture while in
+    // no block of a frame heard before it more than ten bytes were wrong.
     ensures link { command_named (map string_bytes words.now) ≡ Some Command.Link
         → HasRun (task_of link_work)
         (ends (S.left source.old) (S.faults source.old) (K.written sink.old) (K.faults sink.old))
@@ -67,7 +68,7 @@ pub fn run<S: Source, K: Sink>(
     // The commands that are not built yet: nothing is read, and line 1 is refused; `gdl` writes
     // nothing.
     ensures unbuilt { (command : Command)
-        → command_named (map string_bytes words.now) ≡ Some command → IsUnbuilt command
+        → command_named (map string_bytes words.now) ≡ Some command → RefusesInWriting command
         → (source.new ≡ source.old) × HasRefused
         (sink_end (K.written sink.old) (K.faults sink.old))
         (sink_end (K.written sink.new) (K.faults sink.new)) result }

@@ -2,7 +2,7 @@
 ghost use Rattle.std.specs.Prelude.{◌≡◌, ◌⊎◌, IfOk, IfErr, IsSomeAnd, None, map, string_bytes};
 ghost use Rattle.std.specs.IoError.{error_kind};
 ghost use Rattle.std.specs.Vec.Iter.{into_iter_items};
-ghost use Rattle.fisb_app.specs.Command.{command_named, IsUnbuilt};
+ghost use Rattle.fisb_app.specs.Command.{command_named, RefusesInWriting};
 ghost use Rattle.fisb_app.specs.Unbuilt.{HasRefused};
 ghost use Rattle.fisb_app.specs.Work.{ground_work, link_work, promised_work};
 ghost use Rattle.run_core.specs.Run.{HasRun, IsDecided, ends, sink_end, task_of};
@@ -35,7 +35,7 @@ pub fn run_args<S: Source, K: Sink>(
         → (result ≡ 2) ⊎ (result ≡ 7)) }
     ensures untouched { result ≡ 2 → (source.new ≡ source.old) × (sink.new ≡ sink.old) }
     ensures unbuilt { IfOk args (λ args. IsSomeAnd
-        (command_named (map string_bytes (words_of (into_iter_items args)))) IsUnbuilt
+        (command_named (map string_bytes (words_of (into_iter_items args)))) RefusesInWriting
         → (source.new ≡ source.old) × EndsAs result (HasRefused
         (sink_end (K.written sink.old) (K.faults sink.old))
         (sink_end (K.written sink.new) (K.faults sink.new)))) }

@@ -1,6 +1,8 @@
--- The picture that a link promises, told by updates, fills and hearings alone: an item counts once each of its segments
--- was in a frame that was heard. It depends on no byte of a frame, on no field of time and on no file number.
-use Rattle.std.specs.Prelude.{ℕ, Bool, not, ◌&&◌, List, [], ◌∷◌, ◌++◌, filter, flat_map, Option, Some, None, slice_get}
+-- The picture that a link promises, told by updates, fills and hearings alone: an item counts once
+-- each of its segments was in a frame that was heard. It depends on no byte of a frame, on no field
+-- of time and on no file number.
+use Rattle.std.specs.Prelude.{ℕ, Bool, not, ◌&&◌, List, [], ◌∷◌, ◌++◌, filter, flat_map, Option}
+use Rattle.std.specs.Prelude.{Some, None, slice_get}
 use Rattle.std.specs.List.{list_any, list_all}
 use Rattle.life_table.specs.LifeTable.{LifeTable}
 use Rattle.picture_core.specs.Entry.{Entry}
@@ -36,7 +38,8 @@ becomes_whole sent h past item = is_whole sent (h ∷ past) item && not (is_whol
 abbrev pub link_entries : List Item → List Frame → List Hearing → List Entry
 link_entries all sent [] = []
 link_entries all sent (h ∷ past) =
-    link_entries all sent past ++ flat_map (λ item. item.weather.entries) (filter (becomes_whole sent h past) all)
+    link_entries all sent past
+    ++ flat_map (λ item. item.weather.entries) (filter (becomes_whole sent h past) all)
 
 -- of each key the newest version, of equal versions the one that became whole first
 abbrev pub link_picture : LifeTable → List StationEvent → List Hearing → ℕ → List Entry

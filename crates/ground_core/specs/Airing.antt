@@ -1,5 +1,6 @@
 -- What each fill of a frame airs, by the history before it.
-use Rattle.std.specs.Prelude.{ℕ, ◌-◌, Bool, not, ◌&&◌, nat_lt, nat_le, if◌then◌else◌, List, [], ◌∷◌, ◌++◌, map, filter, flat_map, sum_by, Option, Some, None}
+use Rattle.std.specs.Prelude.{ℕ, ◌-◌, Bool, not, ◌&&◌, nat_lt, nat_le, if◌then◌else◌, List, [], ◌∷◌}
+use Rattle.std.specs.Prelude.{◌++◌, map, filter, flat_map, sum_by, Option, Some, None}
 use Rattle.std.specs.List.{list_any}
 use Rattle.life_table.specs.LifeTable.{LifeTable}
 use Rattle.uplink_frame.specs.declared.station.StationId.{StationId}
@@ -7,7 +8,8 @@ use Rattle.uplink_frame.specs.Station.{header_of}
 use Rattle.uplink_frame.specs.UplinkFrame.{fisb_frame, payload_of}
 use Rattle.picture_core.specs.Key.{Key, same_key}
 use Rattle.uplink_frame.specs.UplinkFrame.{frame_room}
-use Rattle.ground_core.specs.Item.{Item, Segment, segments_of, same_segment, room_of, body_of, end_of}
+use Rattle.ground_core.specs.Item.{Item, Segment, segments_of, same_segment, room_of, body_of}
+use Rattle.ground_core.specs.Item.{end_of}
 use Rattle.ground_core.specs.History.{Event, accepted, fill, items, new_items}
 
 -- an item is live before the end of its life, while for one of its keys no later item has that key
@@ -15,7 +17,8 @@ abbrev pub has_key : Key → Item → Bool
 has_key key item = list_any (λ entry. same_key key entry.key) item.weather.entries
 
 abbrev pub is_newest_for : List Item → Item → Key → Bool
-is_newest_for all item key = not (list_any (λ other. nat_lt item.serial other.serial && has_key key other) all)
+is_newest_for all item key =
+    not (list_any (λ other. nat_lt item.serial other.serial && has_key key other) all)
 
 abbrev pub is_live : List Item → ℕ → Item → Bool
 is_live all moment item = nat_lt moment (end_of item.weather)
@@ -35,16 +38,19 @@ is_touched log s = list_any (λ t. same_segment s t.segment) log
 
 abbrev pub last_touches : List Touch → List Touch
 last_touches [] = []
-last_touches (t ∷ later) = if is_touched later t.segment then last_touches later else t ∷ last_touches later
+last_touches (t ∷ later) = if is_touched later t.segment then last_touches later
+    else t ∷ last_touches later
 
 -- the segments that wait at a moment, in the order in which they are sent
 abbrev pub waiting : List Item → List Touch → ℕ → List Segment
-waiting all log moment = map (λ t. t.segment) (filter (λ t. is_live all moment t.segment.item) (last_touches log))
+waiting all log moment =
+    map (λ t. t.segment) (filter (λ t. is_live all moment t.segment.item) (last_touches log))
 
 -- the longest prefix that fits the room
 abbrev pub fitting : ℕ → List Segment → List Segment
 fitting room [] = []
-fitting room (s ∷ more) = if nat_le (room_of s) room then s ∷ fitting (room - room_of s) more else []
+fitting room (s ∷ more) = if nat_le (room_of s) room then s ∷ fitting (room - room_of s) more
+    else []
 
 -- what a frame airs at a moment, by the items and by the log of all givings and airings so far
 abbrev pub airing : List Item → List Touch → ℕ → List Segment
@@ -53,14 +59,17 @@ airing all log moment = fitting frame_room (waiting all log moment)
 -- what an event adds to the log
 abbrev pub touches : LifeTable → StationId → List Item → List Touch → Event → List Touch
 touches table station before log (accepted moment update) =
-    map (touch None) (flat_map segments_of (new_items table station before (accepted moment update)))
-touches table station before log (fill moment slot) = map (touch (Some moment)) (airing before log moment)
+    map (touch None) (flat_map segments_of
+    (new_items table station before (accepted moment update)))
+touches table station before log (fill moment slot) =
+    map (touch (Some moment)) (airing before log moment)
 
 -- every giving and every airing of a segment, in order
 abbrev pub log : LifeTable → StationId → List Event → List Touch
 log table station [] = []
 log table station (event ∷ past) =
-    log table station past ++ touches table station (items table station past) (log table station past) event
+    log table station past
+    ++ touches table station (items table station past) (log table station past) event
 
 -- a frame that was sent
 pub record Frame : Type 0 where
@@ -83,4 +92,5 @@ abbrev pub used_room : Frame → ℕ
 used_room frame = sum_by room_of frame.segments
 
 abbrev pub frame_payload : Frame → List ℕ
-frame_payload frame = payload_of (header_of frame.station frame.slot) (map (λ s. fisb_frame (body_of s)) frame.segments)
+frame_payload frame = payload_of (header_of frame.station frame.slot)
+    (map (λ s. fisb_frame (body_of s)) frame.segments)

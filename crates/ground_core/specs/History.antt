@@ -1,6 +1,7 @@
--- The history of one station's ground, and the items that it was given. A history has its newest event first; what is made
--- of it has its oldest member first.
-use Rattle.std.specs.Prelude.{ℕ, ◌+◌, Bool, false, not, ◌&&◌, ◌==◌, nat_lt, if◌then◌else◌, List, [], ◌∷◌, ◌++◌, length, filter, find, Option, Some, None}
+-- The history of one station's ground, and the items that it was given. A history has its newest
+-- event first; what is made of it has its oldest member first.
+use Rattle.std.specs.Prelude.{ℕ, ◌+◌, Bool, false, not, ◌&&◌, ◌==◌, nat_lt, if◌then◌else◌, List, []}
+use Rattle.std.specs.Prelude.{◌∷◌, ◌++◌, length, filter, find, Option, Some, None}
 use Rattle.std.specs.List.{list_any, range_with_len}
 use Rattle.apdu_core.specs.Apdu.{file_numbers}
 use Rattle.life_table.specs.LifeTable.{LifeTable, longest_life}
@@ -17,8 +18,8 @@ abbrev pub moment_of : Event → ℕ
 moment_of (accepted moment update) = moment
 moment_of (fill moment slot) = moment
 
--- An item is kept until its version and the longest life of its product have passed. A rival is kept, is sent in segments,
--- and is of the same product and version.
+-- An item is kept until its version and the longest life of its product have passed. A rival is
+-- kept, is sent in segments, and is of the same product and version.
 abbrev pub is_kept : LifeTable → ℕ → Weather → Bool
 is_kept table moment w = nat_lt moment (w.version + longest_life table w.product)
 
@@ -32,7 +33,8 @@ has_number n (Some m) = n == m
 
 -- the least number that no rival has, where there is one
 unfoldable pub free_number : List Item → Option ℕ
-free_number rivals = find (λ n. not (list_any (λ other. has_number n other.number) rivals)) (range_with_len 0 file_numbers)
+free_number rivals = find (λ n. not (list_any (λ other. has_number n other.number) rivals))
+    (range_with_len 0 file_numbers)
 
 abbrev pub number_for : LifeTable → ℕ → List Item → Weather → Option ℕ
 number_for table moment before w = free_number (filter (is_rival table moment w) before)
@@ -54,7 +56,8 @@ items_made table station moment before (w ∷ more) =
 
 -- the items that an event adds to those before it
 abbrev pub new_items : LifeTable → StationId → List Item → Event → List Item
-new_items table station before (accepted moment update) = items_made table station moment before (weather_of table update)
+new_items table station before (accepted moment update) =
+    items_made table station moment before (weather_of table update)
 new_items table station before (fill moment slot) = []
 
 abbrev pub items : LifeTable → StationId → List Event → List Item

@@ -17,8 +17,8 @@ pub record Weather : Type 0 where
   pub entries : List Entry
   pub payload : List ℕ
 
--- Weather that a station was given. Its serial is the number of the station's items before it; one that is sent in
--- segments has a file number.
+-- Weather that a station was given. Its serial is the number of the station's items before it; one
+-- that is sent in segments has a file number.
 pub record Item : Type 0 where
   pub station : StationId
   pub serial : ℕ
@@ -64,6 +64,8 @@ same_segment a b = same_item a.item b.item && (a.number == b.number)
 abbrev pub body_of : Segment → List ℕ
 body_of s = apdu_bytes (apdu_of_segment (file_of s.item) s.number)
 
--- how many bytes it takes of a frame: the header of its body, its part of the payload, and two bytes more
+-- how many bytes it takes of a frame: the header of its body, its part of the payload, and two
+-- bytes more
 abbrev pub room_of : Segment → ℕ
-room_of s = header_length s.item.weather.form (is_segmented s.item.weather) + length (part_of (file_of s.item) s.number) + 2
+room_of s = header_length s.item.weather.form (is_segmented s.item.weather)
+    + length (part_of (file_of s.item) s.number) + 2

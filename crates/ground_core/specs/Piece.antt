@@ -1,5 +1,6 @@
 -- What of a segment counts for sending it: which item it is of, for which keys, and what is sent.
-use Rattle.std.specs.Prelude.{◌≡◌, ℕ, ◌+◌, ◌-◌, ◌≤◌, ◌⊎◌, Bool, false, ◌&&◌, ◌==◌, nat_lt, nat_le, if◌then◌else◌, List, [], ◌∷◌, map, length, Option, Some, None}
+use Rattle.std.specs.Prelude.{◌≡◌, ℕ, ◌+◌, ◌-◌, ◌≤◌, ◌⊎◌, Bool, false, ◌&&◌, ◌==◌, nat_lt, nat_le}
+use Rattle.std.specs.Prelude.{if◌then◌else◌, List, [], ◌∷◌, map, length, Option, Some, None}
 use Rattle.std.specs.List.{list_any}
 use Rattle.apdu_core.specs.Apdu.{apdu_bytes, header_length}
 use Rattle.segment_core.specs.File.{File, part_of, apdu_of_segment}
@@ -56,7 +57,8 @@ abbrev pub lives_as : ℕ → ℕ → Option Latest → Bool
 lives_as moment serial None = false
 lives_as moment serial (Some latest) = nat_lt moment latest.until && (latest.serial == serial)
 
--- a piece is live while its item is the last one of one of its keys, before the end of that one's life
+-- a piece is live while its item is the last one of one of its keys, before the end of that one's
+-- life
 abbrev pub live_by : (Key → Option Latest) → ℕ → Piece → Bool
 live_by latest moment p = list_any (λ key. lives_as moment p.serial (latest key)) p.keys
 
@@ -76,7 +78,8 @@ pub record HasPlace (line : List Piece) (key : Key) (kept : Latest) : Type 0 whe
   pub of_key : IsIn key piece.keys
 
 abbrev pub ArePlaced : (Key → Option Latest) → List Piece → Type 0
-ArePlaced latest line = (key : Key) (kept : Latest) → latest key ≡ Some kept → HasPlace line key kept
+ArePlaced latest line =
+    (key : Key) (kept : Latest) → latest key ≡ Some kept → HasPlace line key kept
 
 abbrev pub while_living : ℕ → Option Latest → Option Latest
 while_living moment None = None

@@ -1,5 +1,6 @@
 -- The first reason for which an update is refused.
-use Rattle.std.specs.Prelude.{ℕ, ◌+◌, not, ◌&&◌, nat_lt, nat_le, if◌then◌else◌, List, [], ◌∷◌, map, filter, Option, Some, None, is_none, Result, Ok, Err}
+use Rattle.std.specs.Prelude.{ℕ, ◌+◌, not, ◌&&◌, nat_lt, nat_le, if◌then◌else◌, List, [], ◌∷◌, map}
+use Rattle.std.specs.Prelude.{filter, Option, Some, None, is_none, Result, Ok, Err}
 use Rattle.std.specs.Str.{chars}
 use Rattle.fisb_time.specs.TimeForm.{shows}
 use Rattle.dlac_text.specs.Refusal.{TextRefusal, text_refusal}
@@ -23,7 +24,8 @@ pub data GiveRefusal : Type 0 where
 
 -- the greatest version that was given for a key
 abbrev pub given_version : Key → List Item → Option ℕ
-given_version key before = greatest_of (map (λ item. item.weather.version) (filter (has_key key) before))
+given_version key before =
+    greatest_of (map (λ item. item.weather.version) (filter (has_key key) before))
 
 -- weather in segments needs a file number
 abbrev pub file_refusal : LifeTable → List Item → ℕ → Weather → Option GiveRefusal
@@ -34,7 +36,8 @@ abbrev pub age_refusal : ℕ → Option ℕ → Option GiveRefusal → Option Gi
 age_refusal version None later = later
 age_refusal version (Some kept) later = if nat_le version kept then Some (not_newer kept) else later
 
--- the version: shown by the form, at most a minute ahead, its life not over, and above all versions of the key
+-- the version: shown by the form, at most a minute ahead, its life not over, and above all versions
+-- of the key
 abbrev pub version_refusal : ℕ → Weather → Option ℕ → Option GiveRefusal → Option GiveRefusal
 version_refusal moment w kept later = if not (shows w.form w.version) then Some coarse
     else (if nat_lt (moment + 60) w.version then Some ahead
@@ -44,9 +47,11 @@ version_refusal moment w kept later = if not (shows w.form w.version) then Some 
 abbrev pub weather_refusal : LifeTable → List Item → ℕ → TextKey → List Weather → Option GiveRefusal
 weather_refusal table before moment key [] = Some (no_key unlisted)
 weather_refusal table before moment key (w ∷ more) =
-    version_refusal moment w (given_version (text_report key) before) (file_refusal table before moment w)
+    version_refusal moment w (given_version (text_report key) before)
+    (file_refusal table before moment w)
 
-abbrev pub key_refusal : LifeTable → List Item → ℕ → ℕ → List ℕ → Result TextKey KeyFault → Option GiveRefusal
+abbrev pub key_refusal : LifeTable → List Item → ℕ → ℕ → List ℕ → Result TextKey KeyFault
+    → Option GiveRefusal
 key_refusal table before moment version chars (Err fault) = Some (no_key fault)
 key_refusal table before moment version chars (Ok key) = weather_refusal table before moment key
     (weather_by_row version chars (report_entries table version chars) (text_row table key.kind))
@@ -57,5 +62,6 @@ text_fault_refusal None later = later
 
 -- the first reason against an update at this moment, after the items that were given before
 unfoldable pub give_refusal : LifeTable → List Item → ℕ → Update → Option GiveRefusal
-give_refusal table before moment (text version text_chars) = text_fault_refusal (text_refusal (chars text_chars))
+give_refusal table before moment (text version text_chars) =
+    text_fault_refusal (text_refusal (chars text_chars))
     (key_refusal table before moment version text_chars (text_key table text_chars))

@@ -7,22 +7,26 @@ use Rattle.life_table.specs.LifeTable.{LifeTable}
 use Rattle.life_table.specs.Rules.{IsTable}
 use Rattle.uplink_frame.specs.declared.station.StationId.{StationId}
 use Rattle.uplink_frame.specs.Station.{header_of, FitsStation}
-use Rattle.uplink_frame.specs.UplinkFrame.{InformationFrame, frame_room, payload_length, fisb_frame, spelled_frames, header_in, information_frames}
+use Rattle.uplink_frame.specs.UplinkFrame.{InformationFrame, frame_room, payload_length, fisb_frame}
+use Rattle.uplink_frame.specs.UplinkFrame.{spelled_frames, header_in, information_frames}
 use Rattle.segment_core.specs.File.{parts_of}
 use Rattle.ground_core.specs.Item.{Item, Segment, segments_of, file_of, body_of, end_of}
 use Rattle.ground_core.specs.History.{items}
 use Rattle.ground_core.specs.Airing.{Frame, used_room, frame_payload}
-use Rattle.ground_core.specs.Broadcast.{StationEvent, IsBroadcast, IsHistory, history_of, frames, all_items}
+use Rattle.ground_core.specs.Broadcast.{StationEvent, IsBroadcast, IsHistory, history_of, frames}
+use Rattle.ground_core.specs.Broadcast.{all_items}
 
 -- each station has a history, and the items of all stations are those of each
 pub record AreOfStations (table : LifeTable) (broadcast : List StationEvent) : Type 0 where
   pub histories : (station : StationId) → IsHistory table station (history_of station broadcast)
   pub of_station : (i : Item) → IsIn i (all_items table broadcast)
       → IsIn i (items table i.station (history_of i.station broadcast))
-  pub of_all : (i : Item) → IsIn i (items table i.station (history_of i.station broadcast)) → IsIn i (all_items table broadcast)
+  pub of_all : (i : Item) → IsIn i (items table i.station (history_of i.station broadcast))
+      → IsIn i (all_items table broadcast)
 
 abbrev pub ItemsAreOfStations : Type 0
-ItemsAreOfStations = (table : LifeTable) (broadcast : List StationEvent) → IsBroadcast table broadcast → AreOfStations table broadcast
+ItemsAreOfStations = (table : LifeTable) (broadcast : List StationEvent)
+    → IsBroadcast table broadcast → AreOfStations table broadcast
 
 -- a segment of an item, numbered as one of the parts of its file
 pub record IsSegmentOf (item : Item) (s : Segment) : Type 0 where
@@ -45,7 +49,8 @@ pub record IsAired (all : List Item) (frame : Frame) (s : Segment) : Type 0 wher
 abbrev pub fisb_frames_of : Frame → List InformationFrame
 fisb_frames_of frame = map (λ s. fisb_frame (body_of s)) frame.segments
 
--- what the frame takes is the length of its FIS-B frames, which fit; its payload of 432 bytes reads back as its header and them
+-- what the frame takes is the length of its FIS-B frames, which fit; its payload of 432 bytes reads
+-- back as its header and them
 pub record IsFrame (all : List Item) (frame : Frame) : Type 0 where
   pub station : FitsStation frame.station
   pub slot : frame.slot < 32
@@ -59,5 +64,6 @@ pub record IsFrame (all : List Item) (frame : Frame) : Type 0 where
   pub frames_back : information_frames (frame_payload frame) ≡ fisb_frames_of frame
 
 abbrev pub FramesReadBack : Type 0
-FramesReadBack = (table : LifeTable) (broadcast : List StationEvent) (frame : Frame) → IsTable table → IsBroadcast table broadcast
+FramesReadBack = (table : LifeTable) (broadcast : List StationEvent) (frame : Frame) → IsTable table
+    → IsBroadcast table broadcast
     → IsIn frame (frames table broadcast) → IsFrame (all_items table broadcast) frame

@@ -1,6 +1,7 @@
--- What is known of all weather that a ground accepts. The laws of what is sent and heard rest on this alone: a new kind of
--- update has to be shown to give such weather, and nothing else.
-use Rattle.std.specs.Prelude.{◌≡◌, ℕ, ◌+◌, ◌<◌, ◌≤◌, true, IsTrue, List, [], ◌∷◌, ◌++◌, length, Some}
+-- What is known of all weather that a ground accepts. The laws of what is sent and heard rest on
+-- this alone: a new kind of update has to be shown to give such weather, and nothing else.
+use Rattle.std.specs.Prelude.{◌≡◌, ℕ, ◌+◌, ◌<◌, ◌≤◌, true, IsTrue, List, [], ◌∷◌, ◌++◌, length}
+use Rattle.std.specs.Prelude.{Some}
 use Rattle.bit_fields.specs.Bits.{AreBytes}
 use Rattle.list_members.specs.Membership.{IsIn}
 use Rattle.fisb_time.specs.Moment.{IsMoment}
@@ -37,43 +38,53 @@ pub record IsSound (table : LifeTable) (w : Weather) : Type 0 where
   pub versions : (e : Entry) → IsIn e w.entries → e.version ≡ w.version
   pub ends : (e : Entry) → IsIn e w.entries → e.until ≡ end_of w
   pub apart : (e f : Entry) → IsIn e w.entries → IsIn f w.entries → e.key ≡ f.key → e ≡ f
-  -- that each part fits a frame with its header is a law of all payloads, `PartsFitFrames` of `segment_core`
+  -- that each part fits a frame with its header is a law of all payloads, `PartsFitFrames` of
+  -- `segment_core`
   pub few_segments : length (parts w.form w.payload) ≤ most_segments
 
--- sound weather that is given in time, has a file number where it needs one, and is newer than all of its keys before
-pub record IsGiven (table : LifeTable) (before : List Item) (moment : ℕ) (w : Weather) : Type 0 where
+-- sound weather that is given in time, has a file number where it needs one, and is newer than all
+-- of its keys before
+pub record IsGiven (table : LifeTable) (before : List Item) (moment : ℕ)
+    (w : Weather) : Type 0 where
   pub sound : IsSound table w
   pub not_ahead : w.version ≤ moment + 60
   pub not_expired : moment < end_of w
   pub number : is_segmented w ≡ true → (n : ℕ) × (number_for table moment before w ≡ Some n)
-  pub newer : (item : Item) (e : Entry) → IsIn item before → IsIn e w.entries → has_key e.key item ≡ true
+  pub newer : (item : Item) (e : Entry) → IsIn item before → IsIn e w.entries
+      → has_key e.key item ≡ true
       → item.weather.version < w.version
 
 -- one after another
 abbrev pub AreGiven : LifeTable → StationId → ℕ → List Item → List Weather → Type 0
 AreGiven table station moment before [] = Unit {0}
 AreGiven table station moment before (w ∷ more) =
-    IsGiven table before moment w × AreGiven table station moment (before ++ item_of table station moment before w ∷ []) more
+    IsGiven table before moment w
+    × AreGiven table station moment (before ++ item_of table station moment before w ∷ []) more
 
 -- what an accepted update says is such weather
 abbrev pub AcceptedIsGiven : Type 0
-AcceptedIsGiven = (table : LifeTable) (station : StationId) (before : List Item) (moment : ℕ) (update : Update)
+AcceptedIsGiven =
+    (table : LifeTable) (station : StationId) (before : List Item) (moment : ℕ) (update : Update)
     → IsTable table → IsAccepted table before (accepted moment update)
     → AreGiven table station moment before (weather_of table update)
 
--- What is known of the items of a history. An item is told by its serial, by one of its keys and its version, and where it is
--- sent in segments by product, version and file number.
+-- What is known of the items of a history. An item is told by its serial, by one of its keys and
+-- its version, and where it is sent in segments by product, version and file number.
 pub record AreItems (table : LifeTable) (station : StationId) (all : List Item) : Type 0 where
   pub of_station : (i : Item) → IsIn i all → i.station ≡ station
   pub sound : (i : Item) → IsIn i all → IsSound table i.weather
   pub serials : (i j : Item) → IsIn i all → IsIn j all → i.serial ≡ j.serial → i ≡ j
-  pub keys : (i j : Item) (e : Entry) → IsIn i all → IsIn j all → IsIn e i.weather.entries → has_key e.key j ≡ true
+  pub keys : (i j : Item) (e : Entry) → IsIn i all → IsIn j all → IsIn e i.weather.entries
+      → has_key e.key j ≡ true
       → i.weather.version ≡ j.weather.version → i ≡ j
   pub numbered : (i : Item) → IsIn i all → is_segmented i.weather ≡ true
       → (n : ℕ) × (i.number ≡ Some n) × (n < file_numbers)
-  pub files : (i j : Item) → IsIn i all → IsIn j all → is_segmented i.weather ≡ true → is_segmented j.weather ≡ true
-      → i.weather.product ≡ j.weather.product → i.weather.version ≡ j.weather.version → i.number ≡ j.number → i ≡ j
+  pub files : (i j : Item) → IsIn i all → IsIn j all → is_segmented i.weather ≡ true
+      → is_segmented j.weather ≡ true
+      → i.weather.product ≡ j.weather.product → i.weather.version ≡ j.weather.version
+      → i.number ≡ j.number → i ≡ j
 
 abbrev pub HistoriesHaveItems : Type 0
 HistoriesHaveItems = (table : LifeTable) (station : StationId) (history : List Event)
-    → IsTable table → IsHistory table station history → AreItems table station (items table station history)
+    → IsTable table → IsHistory table station history
+    → AreItems table station (items table station history)

@@ -1,6 +1,7 @@
--- Which histories an object stands for. What is dead in its queue counts for nothing, and what no later answer can need is
--- forgotten.
-use Rattle.std.specs.Prelude.{◌≡◌, ℕ, ◌+◌, Bool, ◌&&◌, ◌==◌, nat_lt, if◌then◌else◌, List, [], ◌∷◌, map, filter, length, Option, Some, None}
+-- Which histories an object stands for. What is dead in its queue counts for nothing, and what no
+-- later answer can need is forgotten.
+use Rattle.std.specs.Prelude.{◌≡◌, ℕ, ◌+◌, Bool, ◌&&◌, ◌==◌, nat_lt, if◌then◌else◌, List, [], ◌∷◌}
+use Rattle.std.specs.Prelude.{map, filter, length, Option, Some, None}
 use Rattle.list_members.specs.Membership.{IsIn}
 use Rattle.life_table.specs.LifeTable.{LifeTable, greatest_life}
 use Rattle.uplink_frame.specs.declared.station.StationId.{StationId}
@@ -16,7 +17,8 @@ use Rattle.ground_core.specs.declared.ground.Ground.{Ground}
 
 -- the last item with a key, as far as it counts
 abbrev pub latest_of_item : Item → Latest
-latest_of_item item = record { version = item.weather.version; serial = item.serial; until = end_of item.weather }
+latest_of_item item =
+    record { version = item.weather.version; serial = item.serial; until = end_of item.weather }
 
 abbrev pub latest_after : Key → List Item → Option Latest → Option Latest
 latest_after key [] before = before
@@ -29,31 +31,39 @@ latest_of all key = latest_after key all None
 -- the items in segments of a version and a product
 abbrev pub is_filed : ℕ → ℕ → Item → Bool
 is_filed version product item =
-    is_segmented item.weather && (item.weather.version == version) && (item.weather.product == product)
+    is_segmented item.weather && (item.weather.version == version)
+    && (item.weather.product == product)
 
 -- a piece of a segment that was given
-pub record IsOfLog (table : LifeTable) (station : StationId) (history : List Event) (p : Piece) : Type 0 where
+pub record IsOfLog (table : LifeTable) (station : StationId) (history : List Event)
+    (p : Piece) : Type 0 where
   pub segment : Segment
   pub given : IsIn segment (map (λ t. t.segment) (log table station history))
   pub piece_is : p ≡ piece_of segment
 
--- Under a table and a station: the clock is the moment of the last event. Of each key its last item is kept, or nothing once
--- the life of that is over; what is kept of a key is of an item that has a place in the queue. How many items in segments a
--- version and a product had is kept until the version and the greatest life have passed. The queue has pieces of segments
--- that were given, and what is live of it is what waits, in its order.
-pub record StandsFor (table : LifeTable) (station : StationId) (sender : Ground) (history : List Event) : Type 0 where
+-- Under a table and a station: the clock is the moment of the last event. Of each key its last item
+-- is kept, or nothing once the life of that is over; what is kept of a key is of an item that has a
+-- place in the queue. How many items in segments a version and a product had is kept until the
+-- version and the greatest life have passed. The queue has pieces of segments that were given, and
+-- what is live of it is what waits, in its order.
+pub record StandsFor (table : LifeTable) (station : StationId) (sender : Ground)
+    (history : List Event) : Type 0 where
   pub is_history : IsHistory table station history
   pub table_is : sender.table ≡ table
   pub station_is : sender.station ≡ station
   pub clock_is : sender.clock ≡ clock_of history
   pub given_is : sender.given ≡ length (items table station history)
-  pub newest_is : (key : Key) → IsKept (moment_now history) (latest_of (items table station history) key)
+  pub newest_is : (key : Key)
+      → IsKept (moment_now history) (latest_of (items table station history) key)
       (latest_at sender.newest key)
   pub files_are : (version product : ℕ)
-      → count_at sender.files version product ≡ (if nat_lt (moment_now history) (version + greatest_life table)
+      → count_at sender.files version product
+      ≡ (if nat_lt (moment_now history) (version + greatest_life table)
       then length (filter (is_filed version product) (items table station history))
       else 0)
   pub placed : ArePlaced (latest_at sender.newest) (pieces_in sender.line)
   pub of_log : (p : Piece) → IsIn p (pieces_in sender.line) → IsOfLog table station history p
-  pub line_is : filter (live_by (latest_at sender.newest) (moment_now history)) (pieces_in sender.line)
-      ≡ map piece_of (waiting (items table station history) (log table station history) (moment_now history))
+  pub line_is : filter (live_by (latest_at sender.newest) (moment_now history))
+      (pieces_in sender.line)
+      ≡ map piece_of (waiting (items table station history) (log table station history)
+      (moment_now history))

@@ -14,10 +14,12 @@ bytes_of [] = 0
 bytes_of (s ∷ more) = room_of s + bytes_of more
 
 abbrev pub waiting_after : LifeTable → StationId → List Event → ℕ → List Segment
-waiting_after table station history moment = waiting (items table station history) (log table station history) moment
+waiting_after table station history moment =
+    waiting (items table station history) (log table station history) moment
 
 abbrev pub aired_after : LifeTable → StationId → List Event → ℕ → List Segment
-aired_after table station history moment = airing (items table station history) (log table station history) moment
+aired_after table station history moment =
+    airing (items table station history) (log table station history) moment
 
 -- how many fills there are among some events
 abbrev pub fills : List Event → ℕ
@@ -28,19 +30,25 @@ fills (fill moment slot ∷ later) = fills later + 1
 -- after this past a segment waits at each fill of what came later, and no frame of them has it
 abbrev pub WaitsStill : LifeTable → StationId → List Event → Segment → List Event → Type 0
 WaitsStill table station past s [] = Unit {0}
-WaitsStill table station past s (accepted moment update ∷ later) = WaitsStill table station past s later
-WaitsStill table station past s (fill moment slot ∷ later) = IsIn s (waiting_after table station (later ++ past) moment)
-    × (IsIn s (aired_after table station (later ++ past) moment) → ⊥) × WaitsStill table station past s later
+WaitsStill table station past s (accepted moment update ∷ later) =
+    WaitsStill table station past s later
+WaitsStill table station past s (fill moment slot ∷ later) =
+    IsIn s (waiting_after table station (later ++ past) moment)
+    × (IsIn s (aired_after table station (later ++ past) moment) → ⊥)
+    × WaitsStill table station past s later
 
 -- no event is before the moment
 abbrev pub AreFrom : ℕ → List Event → Type 0
 AreFrom moment [] = Unit {0}
 AreFrom moment (event ∷ later) = (moment ≤ moment_of event) × AreFrom moment later
 
--- A segment before which these wait, at a moment that no later event is before, is aired by the n-th next fill while it stays
--- live, n being twice the bytes before it by 425, rounded down, plus 2: fewer fills than that are without it.
+-- A segment before which these wait, at a moment that no later event is before, is aired by the
+-- n-th next fill while it stays live, n being twice the bytes before it by 425, rounded down, plus
+-- 2: fewer fills than that are without it.
 abbrev pub NoStarvation : Type 0
-NoStarvation = (table : LifeTable) (station : StationId) (past later : List Event) (moment : ℕ) (s : Segment) (before after : List Segment)
+NoStarvation = (table : LifeTable) (station : StationId) (past later : List Event) (moment : ℕ)
+    (s : Segment) (before after : List Segment)
     → IsHistory table station (later ++ past) → AreFrom moment later
-    → waiting_after table station past moment ≡ before ++ s ∷ after → WaitsStill table station past s later
+    → waiting_after table station past moment ≡ before ++ s ∷ after
+    → WaitsStill table station past s later
     → fills later < 2 * bytes_of before / 425 + 2

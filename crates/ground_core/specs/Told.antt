@@ -1,8 +1,10 @@
 -- By which fault a refusal is told, and the refusal by what is kept.
-use Rattle.std.specs.Prelude.{◌≡◌, ⊤, ℕ, not, ◌&&◌, nat_lt, if◌then◌else◌, List, [], ◌∷◌, Option, Some, None, option_map, Result, Ok, Err}
+use Rattle.std.specs.Prelude.{◌≡◌, ⊤, ℕ, not, ◌&&◌, nat_lt, if◌then◌else◌, List, [], ◌∷◌, Option}
+use Rattle.std.specs.Prelude.{Some, None, option_map, Result, Ok, Err}
 use Rattle.std.specs.Str.{chars}
 use Rattle.dlac_text.specs.declared.text_fault.TextFault.{TextFault}
-use Rattle.dlac_text.specs.declared.text_fault.TextFault.TheVariants.{BadCharacter, TooLong, NoMemory as NoMemoryForText}
+use Rattle.dlac_text.specs.declared.text_fault.TextFault.TheVariants.{BadCharacter, TooLong}
+use Rattle.dlac_text.specs.declared.text_fault.TextFault.TheVariants.{NoMemory as NoMemoryForText}
 use Rattle.dlac_text.specs.Refusal.{bad_character, too_long, text_refusal}
 use Rattle.life_table.specs.LifeTable.{LifeTable, text_row}
 use Rattle.text_reports.specs.TextKey.{TextKey, KeyFault, few_words, unlisted, text_key}
@@ -11,12 +13,15 @@ use Rattle.picture_core.specs.Contents.{report_entries}
 use Rattle.apdu_core.specs.Apdu.{file_numbers}
 use Rattle.ground_core.specs.Item.{Weather, is_segmented}
 use Rattle.ground_core.specs.Update.{Update, text, weather_by_row}
-use Rattle.ground_core.specs.Refusal.{GiveRefusal, bad_text, no_key, coarse, ahead, expired, not_newer, no_file, version_refusal, text_fault_refusal}
+use Rattle.ground_core.specs.Refusal.{GiveRefusal, bad_text, no_key, coarse, ahead, expired}
+use Rattle.ground_core.specs.Refusal.{not_newer, no_file, version_refusal, text_fault_refusal}
 use Rattle.ground_core.specs.Piece.{Latest}
 use Rattle.ground_core.specs.declared.fault.FillFault.{FillFault}
 use Rattle.ground_core.specs.declared.fault.FillFault.TheVariants.{Clock as FillClock}
 use Rattle.ground_core.specs.declared.fault.GiveFault.{GiveFault}
-use Rattle.ground_core.specs.declared.fault.GiveFault.TheVariants.{Clock, BadText, FewWords, Unlisted, Coarse, Ahead, Expired, NotNewer, NoFile, NoMemory}
+use Rattle.ground_core.specs.declared.fault.GiveFault.TheVariants.{Clock, BadText, FewWords}
+use Rattle.ground_core.specs.declared.fault.GiveFault.TheVariants.{Unlisted, Coarse, Ahead, Expired}
+use Rattle.ground_core.specs.declared.fault.GiveFault.TheVariants.{NotNewer, NoFile, NoMemory}
 
 -- want of memory is never told as a fault of the text
 abbrev pub IsToldOfText : Option GiveRefusal → TextFault → Type 0
@@ -51,23 +56,31 @@ Tells (Some fault) refusal = IsTold refusal fault
 abbrev pub kept_told : FillFault → ℕ
 kept_told (FillClock kept) = kept
 
--- the refusal by the last version of each key and by how many items in segments a version and a product had
+-- the refusal by the last version of each key and by how many items in segments a version and a
+-- product had
 abbrev pub latest_version : Option Latest → Option ℕ
 latest_version latest = option_map (λ l. l.version) latest
 
 abbrev pub count_refusal : Weather → ℕ → Option GiveRefusal
-count_refusal w count = if is_segmented w && not (nat_lt count file_numbers) then Some no_file else None
+count_refusal w count = if is_segmented w && not (nat_lt count file_numbers) then Some no_file
+    else None
 
-abbrev pub weather_refusal_by : (Key → Option Latest) → (ℕ → ℕ → ℕ) → ℕ → TextKey → List Weather → Option GiveRefusal
+abbrev pub weather_refusal_by : (Key → Option Latest) → (ℕ → ℕ → ℕ) → ℕ → TextKey → List Weather
+    → Option GiveRefusal
 weather_refusal_by latest count moment key [] = Some (no_key unlisted)
-weather_refusal_by latest count moment key (w ∷ more) = version_refusal moment w (latest_version (latest (text_report key)))
+weather_refusal_by latest count moment key (w ∷ more) =
+    version_refusal moment w (latest_version (latest (text_report key)))
     (count_refusal w (count w.version w.product))
 
-abbrev pub key_refusal_by : LifeTable → (Key → Option Latest) → (ℕ → ℕ → ℕ) → ℕ → ℕ → List ℕ → Result TextKey KeyFault → Option GiveRefusal
+abbrev pub key_refusal_by : LifeTable → (Key → Option Latest) → (ℕ → ℕ → ℕ) → ℕ → ℕ → List ℕ
+    → Result TextKey KeyFault → Option GiveRefusal
 key_refusal_by table latest count moment version chars (Err fault) = Some (no_key fault)
-key_refusal_by table latest count moment version chars (Ok key) = weather_refusal_by latest count moment key
+key_refusal_by table latest count moment version chars (Ok key) =
+    weather_refusal_by latest count moment key
     (weather_by_row version chars (report_entries table version chars) (text_row table key.kind))
 
-abbrev pub refusal_by : LifeTable → (Key → Option Latest) → (ℕ → ℕ → ℕ) → ℕ → Update → Option GiveRefusal
-refusal_by table latest count moment (text version text_chars) = text_fault_refusal (text_refusal (chars text_chars))
+abbrev pub refusal_by : LifeTable → (Key → Option Latest) → (ℕ → ℕ → ℕ) → ℕ → Update
+    → Option GiveRefusal
+refusal_by table latest count moment (text version text_chars) =
+    text_fault_refusal (text_refusal (chars text_chars))
     (key_refusal_by table latest count moment version text_chars (text_key table text_chars))

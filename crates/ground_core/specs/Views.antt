@@ -43,9 +43,11 @@ given_view g = record { version = g.version; serial = g.serial; until = g.until 
 -- what is kept of a key
 abbrev pub latest_at : Newest → Key → Option Latest
 latest_at newest (radar_block key) = None
-latest_at newest (text_report key) = option_map given_view (get_by (order_among key) newest.versions)
+latest_at newest (text_report key) =
+    option_map given_view (get_by (order_among key) newest.versions)
 
 -- how many items in segments are counted of a version and a product
 abbrev pub count_at : Files → ℕ → ℕ → ℕ
 count_at files version product =
-    unwrap_or (get (λ x y. ordering_then (nat_cmp x.0 y.0) (nat_cmp x.1 y.1)) files.counts (version, product)) 0
+    unwrap_or (get (λ x y. ordering_then (nat_cmp x.0 y.0) (nat_cmp x.1 y.1)) files.counts
+    (version, product)) 0

@@ -1,5 +1,6 @@
 //! How many items in segments were given, of each version that is not over.
-ghost use Rattle.std.specs.Prelude.{◌≡◌, ◌<◌, ◌+◌, ◌&&◌, ◌==◌, ℕ, true, false, nat_le, nat_lt, length, if◌then◌else◌, OnOk};
+ghost use Rattle.std.specs.Prelude.{◌≡◌, ◌<◌, ◌+◌, ◌&&◌, ◌==◌, ℕ, true, false, nat_le, nat_lt};
+ghost use Rattle.std.specs.Prelude.{length, if◌then◌else◌, OnOk};
 ghost use Rattle.std.specs.Bool.{OnTrue, OnFalse};
 ghost use Rattle.segment_core.specs.File as of_file;
 

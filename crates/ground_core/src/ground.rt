@@ -1,5 +1,6 @@
 //! The ground.
-ghost use Rattle.std.specs.Prelude.{◌≡◌, ℕ, ◌+◌, ◌≤◌, ◌<◌, ◌^◌, ◌∷◌, [], ◌++◌, List, Option, Some, None, true, length, map, IfOk, IfErr, OnOk, OnErr};
+ghost use Rattle.std.specs.Prelude.{◌≡◌, ℕ, ◌+◌, ◌≤◌, ◌<◌, ◌^◌, ◌∷◌, [], ◌++◌, List, Option, Some};
+ghost use Rattle.std.specs.Prelude.{None, true, length, map, IfOk, IfErr, OnOk, OnErr};
 ghost use Rattle.fisb_time.specs.Moment.{IsMoment};
 ghost use Rattle.life_table.specs.LifeTable.{LifeTable as Table, greatest_life};
 ghost use Rattle.uplink_frame.specs.declared.station.StationId.{StationId as Place};
@@ -144,7 +145,8 @@ impl Ground {
 
         ensures refused { (table : Table) (station : Place) (history : List Event)
             → StandsFor table station self.old history
-            → IfErr result (λ fault. last_above (clock_of history) moment ≡ Some (kept_told fault)) }
+            → IfErr result (λ fault. last_above (clock_of history) moment
+            ≡ Some (kept_told fault)) }
         ensures same { OnErr result (self.new ≡ self.old) }
 
         ensures room { IfOk result (λ frame. frame.used ≤ 424) }

@@ -1,5 +1,7 @@
 //! Whether a text may be given: each reason against it.
-ghost use Rattle.std.specs.Prelude.{◌≡◌, ℕ, ◌+◌, ◌≤◌, ◌<◌, ◌^◌, Option, None, Some, Ok, true, List, length, IfOk, IfErr, IfSome, IfNone, OnOk, IsTrue, if◌then◌else◌};
+ghost use Rattle.std.specs.Prelude.{◌≡◌, ℕ, ◌+◌, ◌≤◌, ◌<◌, ◌^◌, Option, None, Some, Ok, true, List};
+ghost use Rattle.std.specs.Prelude.{length, IfOk, IfErr, IfSome, IfNone, OnOk, IsTrue};
+ghost use Rattle.std.specs.Prelude.{if◌then◌else◌};
 ghost use Rattle.std.specs.Str.{chars};
 ghost use Rattle.fisb_time.specs.TimeForm.{shows};
 ghost use Rattle.dlac_text.specs.Payload.{text_payload};

@@ -1,5 +1,6 @@
 //! The queue of segments that wait.
-ghost use Rattle.std.specs.Prelude.{◌≡◌, ℕ, ◌+◌, ◌-◌, ◌*◌, ◌≤◌, ◌∷◌, [], ◌++◌, List, length, map, filter, drop, take, IfOk, OnOk, OnErr};
+ghost use Rattle.std.specs.Prelude.{◌≡◌, ℕ, ◌+◌, ◌-◌, ◌*◌, ◌≤◌, ◌∷◌, [], ◌++◌, List, length, map};
+ghost use Rattle.std.specs.Prelude.{filter, drop, take, IfOk, OnOk, OnErr};
 ghost use Rattle.std.specs.List.{range_with_len};
 ghost use Rattle.list_members.specs.Membership.{IsIn};
 ghost use Rattle.uplink_frame.specs.UplinkFrame.{fisb_frame};

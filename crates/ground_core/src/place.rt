@@ -1,5 +1,6 @@
 //! A place in the queue.
-ghost use Rattle.std.specs.Prelude.{◌≡◌, ◌≤◌, ◌<◌, ◌+◌, ◌-◌, ◌∷◌, [], ◌++◌, nat_lt, nat_le, length, drop, IsTrue};
+ghost use Rattle.std.specs.Prelude.{◌≡◌, ◌≤◌, ◌<◌, ◌+◌, ◌-◌, ◌∷◌, [], ◌++◌, nat_lt, nat_le, length};
+ghost use Rattle.std.specs.Prelude.{drop, IsTrue};
 ghost use Rattle.std.specs.Bool.{OnTrue, OnFalse};
 ghost use Rattle.uplink_frame.specs.UplinkFrame.{fisb_frame, spelled_frames};
 

@@ -1,9 +1,14 @@
--- What a document says, read from its tree alone: the entries at its keys, what a word, a number of words, a form, a product
--- and a life may be, and the entries of the document itself. An entry is looked at in the order in which its faults are told.
-use Rattle.std.specs.Prelude.{ℕ, ◌+◌, ℤ, pos, int_lt, unsigned_abs, Bool, true, false, not, ◌&&◌, ◌||◌, ◌==◌, nat_lt, nat_le, if◌then◌else◌, List, length, codes, Option, Some, None, is_some, option_and_then, Result, Ok, Err}
+-- What a document says, read from its tree alone: the entries at its keys, what a word, a number of
+-- words, a form, a product and a life may be, and the entries of the document itself. An entry is
+-- looked at in the order in which its faults are told.
+use Rattle.std.specs.Prelude.{ℕ, ◌+◌, ℤ, pos, int_lt, unsigned_abs, Bool, true, false, not, ◌&&◌}
+use Rattle.std.specs.Prelude.{◌||◌, ◌==◌, nat_lt, nat_le, if◌then◌else◌, List, length, codes}
+use Rattle.std.specs.Prelude.{Option, Some, None, is_some, option_and_then, Result, Ok, Err}
 use Rattle.std.specs.List.{list_all}
 use Rattle.std.specs.Ordering.{int_eq}
-use Rattle.toml.specs.Data.{Data, string, integer, float, boolean, datetime, array, table, Items, no_items, item, Members, no_members, member, get, as_integer, as_str, as_array, as_table}
+use Rattle.toml.specs.Data.{Data, string, integer, float, boolean, datetime, array, table, Items}
+use Rattle.toml.specs.Data.{no_items, item, Members, no_members, member, get, as_integer, as_str}
+use Rattle.toml.specs.Data.{as_array, as_table}
 use Rattle.fisb_time.specs.declared.form.TimeForm.{TimeForm}
 use Rattle.fisb_time.specs.declared.form.TimeForm.TheVariants.{Minute, Second, DayMinute, DaySecond}
 use Rattle.life_table.specs.Products.{regional_radar, conus_radar}
@@ -12,7 +17,8 @@ use Rattle.life_table.specs.declared.fault.RowFault.{RowFault}
 use Rattle.life_table.specs.declared.fault.RowFault.TheVariants.{Shape, Version, Late, Rows}
 
 -- the value goes on, and the want of one is the fault
-abbrev pub or_fault : {A B : Type 0} → RowFault → Option A → (A → Result B RowFault) → Result B RowFault
+abbrev pub or_fault : {A B : Type 0} → RowFault → Option A → (A → Result B RowFault)
+    → Result B RowFault
 or_fault fault None go = Err fault
 or_fault fault (Some x) go = go x
 
@@ -61,23 +67,27 @@ tables_at key value = tables_in (get key value)
 
 -- A to Z, 0 to 9, '.', '/' and '-'
 abbrev pub is_word_byte : ℕ → Bool
-is_word_byte c = (nat_le 65 c && nat_le c 90) || (nat_le 48 c && nat_le c 57) || c == 46 || c == 47 || c == 45
+is_word_byte c =
+    (nat_le 65 c && nat_le c 90) || (nat_le 48 c && nat_le c 57) || c == 46 || c == 47 || c == 45
 
 abbrev pub is_word : List ℕ → Bool
 is_word word = nat_le 1 (length word) && nat_le (length word) 16 && list_all is_word_byte word
 
 abbrev pub key_words : ℤ → Option ℕ
-key_words words = if int_eq words (pos 2) then Some 2 else if int_eq words (pos 3) then Some 3 else None
+key_words words = if int_eq words (pos 2) then Some 2 else if int_eq words (pos 3) then Some 3
+    else None
 
 abbrev pub form_of : ℤ → Option TimeForm
 form_of form = if int_eq form (pos 0) then Some Minute else if int_eq form (pos 1) then Some Second
-    else if int_eq form (pos 2) then Some DayMinute else if int_eq form (pos 3) then Some DaySecond else None
+    else if int_eq form (pos 2) then Some DayMinute else if int_eq form (pos 3) then Some DaySecond
+    else None
 
 abbrev pub radar_product : ℤ → Option ℕ
 radar_product product = if int_eq product (pos regional_radar) then Some regional_radar
     else if int_eq product (pos conus_radar) then Some conus_radar else None
 
--- a life in a form without a date ends, with all that may be late, within a day; another within thirty days
+-- a life in a form without a date ends, with all that may be late, within a day; another within
+-- thirty days
 abbrev pub is_within : ℕ → TimeForm → ℕ → Bool
 is_within late Minute life = nat_le (life + late + 60) 86400
 is_within late Second life = nat_le (life + late + 60) 86400
@@ -85,7 +95,8 @@ is_within late DayMinute life = nat_le life thirty_days
 is_within late DaySecond life = nat_le life thirty_days
 
 abbrev pub life_in : ℕ → TimeForm → ℤ → Option ℕ
-life_in late form life = if int_lt life (pos 1) then None else if is_within late form (unsigned_abs life) then Some (unsigned_abs life) else None
+life_in late form life = if int_lt life (pos 1) then None
+    else if is_within late form (unsigned_abs life) then Some (unsigned_abs life) else None
 
 -- the entries of the document itself
 pub record Head : Type 0 where
@@ -99,7 +110,8 @@ counted false = 0
 
 -- the keys that stand in a document that has the two that it needs
 abbrev pub known_keys : Data → ℕ
-known_keys value = 2 + counted (is_some (get (codes "text") value)) + counted (is_some (get (codes "radar") value))
+known_keys value =
+    2 + counted (is_some (get (codes "text") value)) + counted (is_some (get (codes "radar") value))
 
 abbrev pub judged_head : Data → ℤ → ℤ → Items → Items → Result Head RowFault
 judged_head value version late texts radars =
@@ -113,6 +125,8 @@ judged_head value version late texts radars =
 
 unfoldable pub head : Data → Result Head RowFault
 head value =
-    or_fault Shape (integer_at (codes "version") value) (λ version. or_fault Shape (integer_at (codes "late") value) (λ late.
-    or_fault Shape (tables_at (codes "text") value) (λ texts. or_fault Shape (tables_at (codes "radar") value) (λ radars.
+    or_fault Shape (integer_at (codes "version") value) (λ version.
+    or_fault Shape (integer_at (codes "late") value) (λ late.
+    or_fault Shape (tables_at (codes "text") value) (λ texts.
+    or_fault Shape (tables_at (codes "radar") value) (λ radars.
     judged_head value version late texts radars))))

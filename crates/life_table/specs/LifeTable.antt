@@ -1,5 +1,6 @@
 -- How long weather lives, and in which form its time is sent. Lives are seconds.
-use Rattle.std.specs.Prelude.{ℕ, ◌==◌, if◌then◌else◌, List, [], ◌∷◌, map, filter, fold, max, find, Option, Some, None, unwrap_or, codes}
+use Rattle.std.specs.Prelude.{ℕ, ◌==◌, if◌then◌else◌, List, [], ◌∷◌, map, filter, fold, max, find}
+use Rattle.std.specs.Prelude.{Option, Some, None, unwrap_or, codes}
 use Rattle.std.specs.Str.{bytes_eq}
 use Rattle.fisb_time.specs.declared.form.TimeForm.{TimeForm}
 use Rattle.fisb_time.specs.declared.form.TimeForm.TheVariants.{Minute, DayMinute}
@@ -29,7 +30,8 @@ pub record LifeTable : Type 0 where
   pub radars : List RadarRow
 
 abbrev pub row : List ℕ → List ℕ → ℕ → ℕ → TimeForm → TextRow
-row word kind words life form = record { word = word; kind = kind; words = words; life = life; form = form }
+row word kind words life form =
+    record { word = word; kind = kind; words = words; life = life; form = form }
 
 abbrev pub radar : ℕ → ℕ → TimeForm → RadarRow
 radar product life form = record { product = product; life = life; form = form }
@@ -38,9 +40,12 @@ radar product life form = record { product = product; life = life; form = form }
 unfoldable pub default_table : LifeTable
 default_table = record {
   late = 600;
-  texts = row (codes "METAR") (codes "METAR") 2 7200 Minute ∷ row (codes "SPECI") (codes "METAR") 2 7200 Minute
-      ∷ row (codes "TAF") (codes "TAF") 2 28800 Minute ∷ row (codes "TAF.AMD") (codes "TAF") 2 28800 Minute
-      ∷ row (codes "PIREP") (codes "PIREP") 3 10800 Minute ∷ row (codes "WINDS") (codes "WINDS") 3 86400 DayMinute ∷ [];
+  texts = row (codes "METAR") (codes "METAR") 2 7200 Minute
+      ∷ row (codes "SPECI") (codes "METAR") 2 7200 Minute
+      ∷ row (codes "TAF") (codes "TAF") 2 28800 Minute
+      ∷ row (codes "TAF.AMD") (codes "TAF") 2 28800 Minute
+      ∷ row (codes "PIREP") (codes "PIREP") 3 10800 Minute
+      ∷ row (codes "WINDS") (codes "WINDS") 3 86400 DayMinute ∷ [];
   radars = radar regional_radar 1200 Minute ∷ radar conus_radar 2700 Minute ∷ [];
 }
 

@@ -5,9 +5,11 @@ use Rattle.life_table.specs.LifeTable.{LifeTable, TextRow, RadarRow, text_row, r
 
 -- a row of this product, as a look-up finds it, has this life
 pub data IsLifeOf (table : LifeTable) (product life : ℕ) : Type 0 where
-  of_text : (word : List ℕ) (row : TextRow) → product ≡ text_product → text_row table word ≡ Some row → row.life ≡ life
+  of_text : (word : List ℕ) (row : TextRow) → product ≡ text_product
+      → text_row table word ≡ Some row → row.life ≡ life
       → IsLifeOf table product life
-  of_radar : (row : RadarRow) → product ≢ text_product → radar_row table product ≡ Some row → row.life ≡ life
+  of_radar : (row : RadarRow) → product ≢ text_product → radar_row table product ≡ Some row
+      → row.life ≡ life
       → IsLifeOf table product life
 
 -- a row of this product has this life, and none a longer one

@@ -1,4 +1,5 @@
--- The products that are read (RTCA DO-358): radar of a region, radar of the whole country, and text.
+-- The products that are read (RTCA DO-358): radar of a region, radar of the whole country, and
+-- text.
 use Rattle.std.specs.Prelude.{ℕ, Bool, ◌||◌, ◌==◌}
 
 abbrev pub regional_radar : ℕ

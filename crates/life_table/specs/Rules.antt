@@ -4,11 +4,13 @@ use Rattle.std.specs.List.{All, Contains}
 use Rattle.fisb_time.specs.declared.form.TimeForm.{TimeForm}
 use Rattle.fisb_time.specs.declared.form.TimeForm.TheVariants.{Minute, Second, DayMinute, DaySecond}
 use Rattle.life_table.specs.Products.{regional_radar, conus_radar}
-use Rattle.life_table.specs.LifeTable.{LifeTable, TextRow, RadarRow, row, text_row, radar_row, thirty_days}
+use Rattle.life_table.specs.LifeTable.{LifeTable, TextRow, RadarRow, row, text_row, radar_row}
+use Rattle.life_table.specs.LifeTable.{thirty_days}
 use Rattle.life_table.specs.Document.{is_word}
 
--- A life and what may pass until a frame is heard, with the minute that clocks may differ, stay below the time after which a
--- received time could name a later moment: a day where the form has no date. With a date a life is at most thirty days.
+-- A life and what may pass until a frame is heard, with the minute that clocks may differ, stay
+-- below the time after which a received time could name a later moment: a day where the form has no
+-- date. With a date a life is at most thirty days.
 abbrev pub IsWithinForm : ℕ → TimeForm → ℕ → Type 0
 IsWithinForm late Minute life = life + late + 60 ≤ 86400
 IsWithinForm late Second life = life + late + 60 ≤ 86400
@@ -19,7 +21,8 @@ IsWithinForm late DaySecond life = life ≤ thirty_days
 abbrev pub own : TextRow → TextRow
 own r = row r.kind r.kind r.words r.life r.form
 
--- a row of reports: its word finds it, so that no type stands twice, and the type that it names finds the row that it is kept as
+-- a row of reports: its word finds it, so that no type stands twice, and the type that it names
+-- finds the row that it is kept as
 pub record IsTextRow (table : LifeTable) (row : TextRow) : Type 0 where
   pub word : IsTrue (is_word row.word)
   pub kind : IsTrue (is_word row.kind)
@@ -43,7 +46,9 @@ pub record IsTable (table : LifeTable) : Type 0 where
   pub all_texts : All (IsTextRow table) table.texts
   pub all_radars : All (IsRadarRow table) table.radars
   -- a row with `as` stands behind the row without `as` that it is kept as
-  pub earlier : (before after : List TextRow) (row : TextRow) → table.texts ≡ before ++ row ∷ after → (row.kind ≡ row.word) ⊎ Contains before (own row)
+  pub earlier : (before after : List TextRow) (row : TextRow) → table.texts ≡ before ++ row ∷ after
+      → (row.kind ≡ row.word) ⊎ Contains before (own row)
   -- the rows that a look-up finds keep the rules too
   pub texts : (word : List ℕ) (row : TextRow) → text_row table word ≡ Some row → IsTextRow table row
-  pub radars : (product : ℕ) (row : RadarRow) → radar_row table product ≡ Some row → IsRadarRow table row
+  pub radars : (product : ℕ) (row : RadarRow) → radar_row table product ≡ Some row
+      → IsRadarRow table row

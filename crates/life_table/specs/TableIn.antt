@@ -1,5 +1,6 @@
 -- The table that a text writes, or why it writes none.
-use Rattle.std.specs.Prelude.{ℕ, if◌then◌else◌, List, [], length, Option, Some, None, Result, Ok, Err}
+use Rattle.std.specs.Prelude.{ℕ, if◌then◌else◌, List, [], length, Option, Some, None, Result, Ok}
+use Rattle.std.specs.Prelude.{Err}
 use Rattle.std.specs.Str.{is_utf8}
 use Rattle.toml.specs.Data.{Data, table, Members}
 use Rattle.toml.specs.Parse.{parse_document}
@@ -9,7 +10,9 @@ use Rattle.life_table.specs.RowsOf.{followed, numbered, text_rows, radar_rows}
 use Rattle.life_table.specs.Fault.{Fault, not_toml}
 
 abbrev pub table_of_head : Head → Result LifeTable Fault
-table_of_head h = followed (λ texts. followed (λ radars. Ok (record { late = h.late; texts = texts; radars = radars })) (radar_rows h.late (length texts) [] h.radars)) (text_rows h.late [] h.texts)
+table_of_head h = followed
+    (λ texts. followed (λ radars. Ok (record { late = h.late; texts = texts; radars = radars }))
+    (radar_rows h.late (length texts) [] h.radars)) (text_rows h.late [] h.texts)
 
 -- the table of a document's tree, or its first faulty row with the first fault
 unfoldable pub table_of_tree : Data → Result LifeTable Fault

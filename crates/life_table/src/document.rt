@@ -1,5 +1,6 @@
 //! The table that a document writes.
-ghost use Rattle.std.specs.Prelude.{◌≡◌, ◌≢◌, ◌≤◌, Ok, IfOk, IfErr, option_map, option_and_then, [], map, length};
+ghost use Rattle.std.specs.Prelude.{◌≡◌, ◌≢◌, ◌≤◌, Ok, IfOk, IfErr, option_map, option_and_then};
+ghost use Rattle.std.specs.Prelude.{[], map, length};
 ghost use Rattle.toml.specs.Data.{as_array};
 ghost use Rattle.toml.specs.View.{view, items_view};
 ghost use Rattle.std.specs.List.{list_all};
@@ -55,7 +56,9 @@ impl LifeTable {
 /// The table of a document's tree, or its first faulty row.
 fn table_of_tree(alloc: Global, tree: &Value) -> Result<LifeTable, TableFault>
     ensures table { IfOk result (λ table. table_in.table_of_tree (view tree.now) ≡ Ok table) }
-    ensures fault { IfErr result (λ fault. fault ≢ TableFault.NoMemory → IsFault fault (table_in.table_of_tree (view tree.now))) }
+    ensures fault { IfErr result
+        (λ fault. fault ≢ TableFault.NoMemory
+        → IsFault fault (table_in.table_of_tree (view tree.now))) }
 {
     let head = match head_of(tree) {
         Ok(head) => head,
@@ -126,7 +129,8 @@ fn known_keys(tree: &Value) -> usize
 
 /// The array of tables at a key, which may be absent.
 fn tables_at<'a>(tree: &'a Value, key: &str) -> Option<&'a [Value]>
-    ensures { option_map (λ rows. items_view rows.now) result ≡ document.tables_at key.now (view tree.now) }
+    ensures { option_map (λ rows. items_view rows.now) result
+        ≡ document.tables_at key.now (view tree.now) }
 {
     match tree.get(key) {
         Some(value) => tables_of(value),
@@ -137,7 +141,8 @@ fn tables_at<'a>(tree: &'a Value, key: &str) -> Option<&'a [Value]>
 /// The members of an array of tables.
 #[tactic(auto, using(crate::proofs::Trees::tables_view))]
 fn tables_of(value: &Value) -> Option<&[Value]>
-    ensures { option_map (λ rows. items_view rows.now) result ≡ option_and_then document.rows_in (as_array (view value.now)) }
+    ensures { option_map (λ rows. items_view rows.now) result
+        ≡ option_and_then document.rows_in (as_array (view value.now)) }
 {
     let Some(rows) = value.as_array() else {
         return None;
@@ -157,8 +162,12 @@ fn text_rows(alloc: Global, late: u64, rows: &[Value]) -> Result<Vec<KeptText>, 
     requires late { late ≤ 43200 }
     requires few_rows { length rows.now ≤ 64 }
     ensures few { IfOk result (λ texts. length texts.items ≤ 64) }
-    ensures rows { IfOk result (λ texts. rows_of.text_rows late [] (items_view rows.now) ≡ Ok (map text_view texts.items)) }
-    ensures fault { IfErr result (λ fault. fault ≢ TableFault.NoMemory → IsFault fault (rows_of.text_rows late [] (items_view rows.now))) }
+    ensures rows { IfOk result
+        (λ texts. rows_of.text_rows late [] (items_view rows.now)
+        ≡ Ok (map text_view texts.items)) }
+    ensures fault { IfErr result
+        (λ fault. fault ≢ TableFault.NoMemory
+        → IsFault fault (rows_of.text_rows late [] (items_view rows.now))) }
 {
     let mut texts = Vec::with_capacity(alloc, rows.len()).map_err(|_| TableFault::NoMemory)?;
     let mut rest = rows;
@@ -190,8 +199,12 @@ fn radar_rows(
     requires few_before { before ≤ 64 }
     requires few_rows { length rows.now ≤ 2 }
     ensures few { IfOk result (λ radars. length radars.items ≤ 2) }
-    ensures rows { IfOk result (λ radars. rows_of.radar_rows late before [] (items_view rows.now) ≡ Ok (map radar_view radars.items)) }
-    ensures fault { IfErr result (λ fault. fault ≢ TableFault.NoMemory → IsFault fault (rows_of.radar_rows late before [] (items_view rows.now))) }
+    ensures rows { IfOk result
+        (λ radars. rows_of.radar_rows late before [] (items_view rows.now)
+        ≡ Ok (map radar_view radars.items)) }
+    ensures fault { IfErr result
+        (λ fault. fault ≢ TableFault.NoMemory
+        → IsFault fault (rows_of.radar_rows late before [] (items_view rows.now))) }
 {
     let mut radars = Vec::with_capacity(alloc, rows.len()).map_err(|_| TableFault::NoMemory)?;
     let mut rest = rows;

@@ -1,6 +1,7 @@
 //! Laws of the definitions, for the crates above: each is the contract of a function that does nothing.
 ghost use Rattle.std.specs.Prelude.{◌≡◌, ℕ, ◌≤◌, ◌↔◌, List, Some, None, Ok};
-ghost use Rattle.life_table.specs.LifeTable.{LifeTable, TextRow, RadarRow, text_row, radar_row, longest, default_table};
+ghost use Rattle.life_table.specs.LifeTable.{LifeTable, TextRow, RadarRow, text_row, radar_row};
+ghost use Rattle.life_table.specs.LifeTable.{longest, default_table};
 ghost use Rattle.life_table.specs.Products.{text_product};
 ghost use Rattle.life_table.specs.Longest.{IsLifeOf, IsLongest};
 ghost use Rattle.life_table.specs.Rules.{IsTable};

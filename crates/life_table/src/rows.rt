@@ -1,5 +1,6 @@
 //! The rows of a table: as it keeps them, and as it lends them.
-ghost use Rattle.std.specs.Prelude.{◌≡◌, IfOk, Some, None, option_map, string_bytes, find, filter, fold, map, ◌==◌, is_some};
+ghost use Rattle.std.specs.Prelude.{◌≡◌, IfOk, Some, None, option_map, string_bytes, find, filter};
+ghost use Rattle.std.specs.Prelude.{fold, map, ◌==◌, is_some};
 ghost use Rattle.std.specs.Str.{bytes_eq};
 ghost use Rattle.life_table.specs.LifeTable.{row};
 ghost use Rattle.life_table.specs.Views.{text_view, radar_view, judged_view, greater};
@@ -92,7 +93,8 @@ impl JudgedText<'_> {
 
 /// The row of reports that begin with this word.
 pub(crate) fn text_of<'a>(rows: &'a [KeptText], word: &str) -> Option<&'a KeptText>
-    ensures { option_map (λ r. r.now) result ≡ find (λ k. bytes_eq (string_bytes k.word) word.now) rows.now }
+    ensures { option_map (λ r. r.now) result
+        ≡ find (λ k. bytes_eq (string_bytes k.word) word.now) rows.now }
 {
     rows.iter().find(|row| row.word.as_str() == word)
 }
@@ -120,7 +122,8 @@ pub(crate) fn has_radar(rows: &[KeptRadar], product: u16) -> bool
 
 /// The row of this type, as the table shows it.
 pub(crate) fn earlier_text<'a>(rows: &'a [KeptText], word: &str) -> Option<&'a KeptText>
-    ensures { option_map (λ r. text_view r.now) result ≡ find (λ r. bytes_eq r.word word.now) (map text_view rows.now) }
+    ensures { option_map (λ r. text_view r.now) result
+        ≡ find (λ r. bytes_eq r.word word.now) (map text_view rows.now) }
 {
     text_of(rows, word)
 }
@@ -135,7 +138,8 @@ pub(crate) fn greatest_text_life(rows: &[KeptText]) -> Option<u64>
 
 /// The greatest life of a radar product's rows.
 pub(crate) fn greatest_radar_life(rows: &[KeptRadar], product: u16) -> Option<u64>
-    ensures { result ≡ fold (λ best k. Some (greater best k.life)) None (filter (λ k. k.product == product) rows.now) }
+    ensures { result ≡ fold (λ best k. Some (greater best k.life)) None
+        (filter (λ k. k.product == product) rows.now) }
 {
     rows.iter()
         .filter(|row| row.product == product)

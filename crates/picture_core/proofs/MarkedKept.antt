@@ -1,14 +1,12 @@
 -- What holds of each kept entry holds of each that is kept after a put or a purge.
-use Rattle.std.proofs.Common.{◌≡◌, ℕ, ◌<◌, nat_lt, List, [], ◌∷◌, map, Some, None, Result, Ok, Err, OnOk, OnErr, refl}
-use Rattle.std.proofs.Common.{true, sym, ap, subst, ◌∙◌, inl, inr}
+use Rattle.std.proofs.Common.{◌≡◌, ℕ, nat_lt, List, map, Some, None, Result, Ok, Err, OnOk, OnErr}
+use Rattle.std.proofs.Common.{sym, ap, subst, ◌∙◌, inl, inr}
 use Rattle.std.specs.Option.{option_map}
-use Rattle.std.proofs.lemmas.Bool.{lt-ltb}
 use Rattle.list_members.specs.Membership.{IsIn}
 use Rattle.list_members.proofs.Members.{IsIn-from_filter}
 use Rattle.picture_core.specs.Entry.{Entry}
 use Rattle.picture_core.specs.Kept.{live_entries, put}
 use Rattle.undo_map.specs.Marked.{Marked}
-use Rattle.picture_core.specs.Marked.{MarkedEntries}
 use Rattle.picture_core.specs.Views.{AreMarked, marked_entries, pair_entry}
 use Rattle.picture_core.specs.declared.kept.Kept.{Kept}
 use Rattle.picture_core.specs.declared.key.Key.{Key}

@@ -1,4 +1,5 @@
--- What is done to a picture, the newest first: entries are put, and those that have ended at a moment are purged.
+-- What is done to a picture, the newest first: entries are put, and those that have ended at a
+-- moment are purged.
 use Rattle.std.specs.Prelude.{ℕ, max, List, [], ◌∷◌, ◌++◌}
 use Rattle.picture_core.specs.Entry.{Entry}
 use Rattle.picture_core.specs.Kept.{IsMonotone, live_entries, put}

@@ -1,5 +1,7 @@
--- What a whole payload says (RTCA DO-358): product 413 is text, of which each report that has a key is an entry.
-use Rattle.std.specs.Prelude.{ℕ, ◌+◌, ◌==◌, if◌then◌else◌, List, [], ◌∷◌, flat_map, Option, Some, None, Result, Ok, Err}
+-- What a whole payload says (RTCA DO-358): product 413 is text, of which each report that has a key
+-- is an entry.
+use Rattle.std.specs.Prelude.{ℕ, ◌+◌, ◌==◌, if◌then◌else◌, List, [], ◌∷◌, flat_map, Option, Some}
+use Rattle.std.specs.Prelude.{None, Result, Ok, Err}
 use Rattle.dlac_text.specs.Reports.{reports_of}
 use Rattle.life_table.specs.Products.{text_product}
 use Rattle.life_table.specs.LifeTable.{LifeTable, RadarRow, TextRow, radar_row, text_row}
@@ -11,7 +13,12 @@ use Rattle.picture_core.specs.Entry.{Entry, report}
 abbrev pub entry_by_row : TextKey → ℕ → List ℕ → Option TextRow → List Entry
 entry_by_row key version text None = []
 entry_by_row key version text (Some row) =
-    record { key = text_report key; version = version; until = version + row.life; value = report text } ∷ []
+    record {
+      key = text_report key;
+      version = version;
+      until = version + row.life;
+      value = report text;
+    } ∷ []
 
 abbrev pub entry_by_key : LifeTable → ℕ → List ℕ → Result TextKey KeyFault → List Entry
 entry_by_key table version text (Err fault) = []
@@ -23,7 +30,8 @@ report_entries table version text = entry_by_key table version text (text_key ta
 -- the entries of a payload of this product and version
 abbrev pub payload_entries : LifeTable → ℕ → ℕ → List ℕ → List Entry
 payload_entries table product version payload =
-    if product == text_product then flat_map (report_entries table version) (reports_of payload) else []
+    if product == text_product then flat_map (report_entries table version) (reports_of payload)
+    else []
 
 -- the life that a table gives a key
 abbrev pub life_of_row : Option TextRow → ℕ

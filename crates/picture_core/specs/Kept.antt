@@ -1,5 +1,7 @@
--- What may be kept in place of all entries that were brought: for each key the one entry that can still be shown.
-use Rattle.std.specs.Prelude.{◌≡◌, ℕ, ◌+◌, ◌<◌, ◌≤◌, nat_lt, if◌then◌else◌, List, [], ◌∷◌, ◌++◌, map, filter, find, Option}
+-- What may be kept in place of all entries that were brought: for each key the one entry that can
+-- still be shown.
+use Rattle.std.specs.Prelude.{◌≡◌, ℕ, ◌+◌, ◌<◌, ◌≤◌, nat_lt, if◌then◌else◌, List, [], ◌∷◌, ◌++◌}
+use Rattle.std.specs.Prelude.{map, filter, find, Option}
 use Rattle.std.specs.Ordering.{match_ordering}
 use Rattle.std.specs.declared.cmp.Ordering.TheVariants.{Less}
 use Rattle.list_members.specs.Membership.{IsIn}
@@ -31,7 +33,8 @@ kept_at key entries = find (λ entry. same_key key entry.key) entries
 abbrev pub put : Entry → List Entry → List Entry
 put entry [] = entry ∷ []
 put entry (kept ∷ more) =
-    match_ordering (key_cmp entry.key kept.key) (entry ∷ kept ∷ more) (newer_of kept entry ∷ more) (kept ∷ put entry more)
+    match_ordering (key_cmp entry.key kept.key) (entry ∷ kept ∷ more) (newer_of kept entry ∷ more)
+    (kept ∷ put entry more)
 
 abbrev pub put_all : List Entry → List Entry → List Entry
 put_all [] kept = kept
@@ -41,8 +44,8 @@ put_all (entry ∷ more) kept = put_all more (put entry kept)
 abbrev pub live_entries : ℕ → List Entry → List Entry
 live_entries moment kept = filter (λ entry. nat_lt moment entry.until) kept
 
--- The kept entries stand for what was brought, from a moment on: they rise by key, were brought, and those alive are the
--- picture of all, at that moment and at every later one.
+-- The kept entries stand for what was brought, from a moment on: they rise by key, were brought,
+-- and those alive are the picture of all, at that moment and at every later one.
 pub record IsStore (now : ℕ) (contents kept : List Entry) : Type 0 where
   pub rising : IsRising (keys kept)
   pub brought : (entry : Entry) → IsIn entry kept → IsIn entry contents
@@ -50,15 +53,18 @@ pub record IsStore (now : ℕ) (contents kept : List Entry) : Type 0 where
 
 -- of a key a newer entry does not end before an older one
 pub record IsMonotone (contents : List Entry) (entry : Entry) : Type 0 where
-  pub newer_lasts : (other : Entry) → IsIn other contents → other.key ≡ entry.key → other.version < entry.version
+  pub newer_lasts : (other : Entry) → IsIn other contents → other.key ≡ entry.key
+      → other.version < entry.version
       → other.until ≤ entry.until
-  pub older_ends : (other : Entry) → IsIn other contents → other.key ≡ entry.key → entry.version ≤ other.version
+  pub older_ends : (other : Entry) → IsIn other contents → other.key ≡ entry.key
+      → entry.version ≤ other.version
       → entry.until ≤ other.until
 
 -- the same of each further entry against all before it
 abbrev pub AreMonotone : List Entry → List Entry → Type 0
 AreMonotone contents [] = Unit {0}
-AreMonotone contents (entry ∷ more) = IsMonotone contents entry × AreMonotone (contents ++ entry ∷ []) more
+AreMonotone contents (entry ∷ more) =
+    IsMonotone contents entry × AreMonotone (contents ++ entry ∷ []) more
 
 -- the life of each entry is that of its key
 abbrev pub HasLife : (Key → ℕ) → Entry → Type 0

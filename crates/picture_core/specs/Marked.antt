@@ -1,4 +1,5 @@
--- What a picture holds: its entries in the order of their keys, and those of the mark, if one stands.
+-- What a picture holds: its entries in the order of their keys, and those of the mark, if one
+-- stands.
 use Rattle.std.specs.Prelude.{List, Option}
 use Rattle.picture_core.specs.Entry.{Entry}
 

@@ -10,9 +10,11 @@ pub record IsShown (entries : List Entry) (moment : ℕ) (key : Key) (entry : En
   pub there : IsIn entry entries
   pub own : entry.key ≡ key
   pub lives : moment < entry.until
-  pub most : (other : Entry) → IsIn other entries → other.key ≡ key → moment < other.until → other.version ≤ entry.version
+  pub most : (other : Entry) → IsIn other entries → other.key ≡ key → moment < other.until
+      → other.version ≤ entry.version
 
--- what is shown where later entries show something too: the newer of the two, the earlier one among equals
+-- what is shown where later entries show something too: the newer of the two, the earlier one among
+-- equals
 abbrev pub shown_with : Option Entry → Option Entry → Option Entry
 shown_with None later = later
 shown_with (Some entry) None = Some entry
@@ -23,14 +25,18 @@ abbrev pub IsOutdone : Option Entry → Entry → Type 0
 IsOutdone None entry = ⊥
 IsOutdone (Some shown) entry = entry.version ≤ shown.version
 
--- each entry of the key that lives at the moment is among the other ones, or is not above what is shown
+-- each entry of the key that lives at the moment is among the other ones, or is not above what is
+-- shown
 abbrev pub ReachNoFurther : ℕ → Key → Option Entry → List Entry → List Entry → Type 0
 ReachNoFurther moment key shown one other =
-    (entry : Entry) → IsIn entry one → entry.key ≡ key → moment < entry.until → IsIn entry other ⊎ IsOutdone shown entry
+    (entry : Entry) → IsIn entry one → entry.key ≡ key → moment < entry.until → IsIn entry other
+    ⊎ IsOutdone shown entry
 
--- Two lists that are added where this is shown at a key: they differ by entries alone that are not above it, and in the
--- first of them one version of the key is one entry.
-pub record AddsSame (moment : ℕ) (key : Key) (shown : Option Entry) (one other : List Entry) : Type 0 where
+-- Two lists that are added where this is shown at a key: they differ by entries alone that are not
+-- above it, and in the first of them one version of the key is one entry.
+pub record AddsSame (moment : ℕ) (key : Key) (shown : Option Entry)
+    (one other : List Entry) : Type 0 where
   pub there : ReachNoFurther moment key shown one other
   pub back : ReachNoFurther moment key shown other one
-  pub untied : (e f : Entry) → IsIn e one → IsIn f one → e.key ≡ key → f.key ≡ key → e.version ≡ f.version → e ≡ f
+  pub untied : (e f : Entry) → IsIn e one → IsIn f one → e.key ≡ key → f.key ≡ key
+      → e.version ≡ f.version → e ≡ f

@@ -34,12 +34,18 @@ entry_view entry = (key_view entry.key, entry.version, value_view entry.value)
 
 -- each value is cells exactly where its key names a block
 abbrev pub AreShownOfKind : List ShownEntry → Type 0
-AreShownOfKind entries = All (λ entry. IsOfKind (key_view entry.key) (value_view entry.value)) entries
+AreShownOfKind entries =
+    All (λ entry. IsOfKind (key_view entry.key) (value_view entry.value)) entries
 
 -- what is kept under a key
 abbrev pub kept_entry : NamedKey → Kept → Entry
 kept_entry key kept =
-    record { key = key_view key; version = kept.version; until = kept.until; value = value_view kept.value }
+    record {
+      key = key_view key;
+      version = kept.version;
+      until = kept.until;
+      value = value_view kept.value;
+    }
 
 abbrev pub pair_entry : NamedKey × Kept → Entry
 pair_entry pair = kept_entry pair.0 pair.1
@@ -54,7 +60,8 @@ marked_entries marked = record {
 -- each entry is so, and each at the mark too
 abbrev pub AreMarked : (Entry → Type 0) → MarkedEntries → Type 0
 AreMarked IsSo marked = ((entry : Entry) → IsIn entry marked.entries → IsSo entry)
-    × ((mark : List Entry) → marked.mark ≡ Some mark → (entry : Entry) → IsIn entry mark → IsSo entry)
+    × ((mark : List Entry) → marked.mark ≡ Some mark → (entry : Entry) → IsIn entry mark
+    → IsSo entry)
 
 -- the values are of the kinds of their keys
 abbrev pub AreMarkedOfKind : MarkedEntries → Type 0

@@ -9,4 +9,3 @@ mod tests;
 
 pub use laws::{degree_laws, end_zero_laws, few_roots, ring_laws, value_laws};
 pub use polynomial::Poly;
-pub use room::{add_multiple, value_of};

@@ -108,7 +108,8 @@ impl<const CAP: usize> Poly<CAP> {
 
     /// The product. Where neither factor is 0 their degrees sum to less than `CAP`.
     pub fn mul(&self, other: &Self) -> Self
-        requires { 0 < length self.now → 0 < length other.now → length self.now + length other.now ≤ CAP + 1 }
+        requires { 0 < length self.now → 0 < length other.now →
+            length self.now + length other.now ≤ CAP + 1 }
         ensures value { result ≡ trimmed (product_of self.now other.now) }
         ensures shape { IsPolynomial CAP result }
     {

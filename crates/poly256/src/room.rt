@@ -14,9 +14,9 @@ pub(crate) fn add_list(room: &mut [u8], list: &[u8])
     }
 }
 
-/// Adds `factor` times x^place times the polynomial `list` to the one in `room`.
+// Adds `factor` times x^place times the polynomial `list` to the one in `room`.
 #[inline]
-pub fn add_multiple(room: &mut [u8], place: usize, factor: Uat, list: &[u8])
+pub(crate) fn add_multiple(room: &mut [u8], place: usize, factor: Uat, list: &[u8])
     requires { place + length list.now ≤ length room.old }
     ensures { room.new ≡ sum_of room.old (raised place (scaled factor list.now)) }
 {
@@ -44,7 +44,8 @@ pub(crate) fn trimmed_len(list: &[u8]) -> usize
 #[inline]
 pub(crate) fn add_product(room: &mut [u8], first: &[u8], second: &[u8])
     requires first { length first.now ≤ length room.old }
-    requires product { 0 < length second.now → length first.now + length second.now ≤ length room.old + 1 }
+    requires product { 0 < length second.now →
+        length first.now + length second.now ≤ length room.old + 1 }
     ensures { room.new ≡ sum_of room.old (product_of first.now second.now) }
 {
     for (place, factor) in first.iter().enumerate() {
@@ -76,7 +77,9 @@ pub(crate) fn divide(rest: &mut [u8], quotient: &mut [u8], len: usize, divisor: 
     requires lead { 0 < slice_index divisor.now (length divisor.now - 1) }
     requires zeros { (k : ℕ) → slice_index quotient.old k ≡ 0 }
     requires past { (k : ℕ) → len ≤ k → slice_index rest.old k ≡ 0 }
-    ensures whole { (k : ℕ) → slice_index (sum_of (product_of quotient.new divisor.now) rest.new) k ≡ slice_index rest.old k }
+    ensures whole { (k : ℕ) →
+        slice_index (sum_of (product_of quotient.new divisor.now) rest.new) k
+        ≡ slice_index rest.old k }
     ensures lower { (k : ℕ) → length divisor.now - 1 ≤ k → slice_index rest.new k ≡ 0 }
     ensures short { (k : ℕ) → len ≤ k → slice_index quotient.new k ≡ 0 }
 {
@@ -92,9 +95,9 @@ pub(crate) fn divide(rest: &mut [u8], quotient: &mut [u8], len: usize, divisor: 
     }
 }
 
-/// The value of the polynomial `list` at an element: the coefficients are taken from the last to the first.
+// The value of the polynomial `list` at an element: the coefficients are taken from the last to the first.
 #[inline]
-pub fn value_of(list: &[u8], at: Uat) -> Uat
+pub(crate) fn value_of(list: &[u8], at: Uat) -> Uat
     ensures value { result ≡ value_at list.now at }
     ensures fits { result < 256 }
 {

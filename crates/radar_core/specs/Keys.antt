@@ -1,4 +1,5 @@
--- The keys of radar blocks, and the three bytes before a record (RTCA DO-358): run flag, hemisphere, scale, block number.
+-- The keys of radar blocks, and the three bytes before a record (RTCA DO-358): run flag,
+-- hemisphere, scale, block number.
 use Rattle.std.specs.Prelude.{ℕ, ◌^◌, ◌<◌, ◌≤◌, Bool, ◌==◌, List, [], ◌∷◌, take}
 use Rattle.std.specs.Int.{bytes_high_first}
 use Rattle.std.specs.Ordering.{nat_cmp, ordering_then}
@@ -8,7 +9,8 @@ use Rattle.radar_core.specs.declared.key.BlockKey.{BlockKey}
 
 -- keys stand in the order of product, scale, north before south, number
 abbrev pub block_key_cmp : BlockKey → BlockKey → Ordering
-block_key_cmp a b = ordering_then (nat_cmp a.product b.product) (ordering_then (nat_cmp a.scale b.scale)
+block_key_cmp a b =
+    ordering_then (nat_cmp a.product b.product) (ordering_then (nat_cmp a.scale b.scale)
     (ordering_then (nat_cmp (bit a.south) (bit b.south)) (nat_cmp a.number b.number)))
 
 -- the scale is 0 to 2, and the number fits its field
@@ -16,7 +18,8 @@ pub record FitsKey (key : BlockKey) : Type 0 where
   pub scale : key.scale ≤ 2
   pub number : key.number < 2 ^ 20
 
--- the three bytes before a record: 1 bit of run flag, 1 of hemisphere, 2 of scale, 20 of block number
+-- the three bytes before a record: 1 bit of run flag, 1 of hemisphere, 2 of scale, 20 of block
+-- number
 abbrev pub front_bytes : Bool → BlockKey → List ℕ
 front_bytes is_run key = bytes_high_first 3 (joined 0 (record { width = 1; number = bit is_run }
     ∷ record { width = 1; number = bit key.south } ∷ record { width = 2; number = key.scale }

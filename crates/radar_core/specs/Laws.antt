@@ -22,22 +22,26 @@ pub record RunRecordReadsBack (key : BlockKey) (cells : List ℕ) : Type 0 where
   pub size : HasLength 131 (run_record key cells)
 
 abbrev pub RunRecordsReadBack : Type 0
-RunRecordsReadBack = (key : BlockKey) (cells : List ℕ) → FitsKey key → IsCells cells → RunRecordReadsBack key cells
+RunRecordsReadBack =
+    (key : BlockKey) (cells : List ℕ) → FitsKey key → IsCells cells → RunRecordReadsBack key cells
 
 -- the empty record of a group reads back as the blocks of the group, and has 4 to 18 bytes
 pub record BlankRecordReadsBack (base : BlockKey) (further : List ℕ) : Type 0 where
-  pub same : radar_blocks base.product (blank_record base further) ≡ Ok (blank_blocks base (base.number ∷ further))
+  pub same : radar_blocks base.product (blank_record base further)
+      ≡ Ok (blank_blocks base (base.number ∷ further))
   pub size : HasLength 18 (blank_record base further)
 
 abbrev pub BlankRecordsReadBack : Type 0
-BlankRecordsReadBack = (base : BlockKey) (further : List ℕ) → base.scale ≤ 2 → base.number < 405000 → IsGroup base.number further
+BlankRecordsReadBack = (base : BlockKey) (further : List ℕ) → base.scale ≤ 2 → base.number < 405000
+    → IsGroup base.number further
     → BlankRecordReadsBack base further
 
 -- the longest runs of some intensities spell them, each fits its byte, and no fewer runs spell them
 pub record AreFewestRuns (cells : List ℕ) : Type 0 where
   pub spell : flat_map run_cells (longest_runs cells) ≡ cells
   pub fit : All FitsRun (longest_runs cells)
-  pub fewest : (runs : List Run) → All FitsRun runs → flat_map run_cells runs ≡ cells → length (longest_runs cells) ≤ length runs
+  pub fewest : (runs : List Run) → All FitsRun runs → flat_map run_cells runs ≡ cells
+      → length (longest_runs cells) ≤ length runs
 
 abbrev pub LongestRunsAreFewest : Type 0
 LongestRunsAreFewest = (cells : List ℕ) → All (λ cell. cell < 8) cells → AreFewestRuns cells
@@ -47,10 +51,12 @@ abbrev pub IsOneRecord : List ℕ → Type 0
 IsOneRecord [] = ⊥
 IsOneRecord (base ∷ further) = (base < 405000) × IsGroup base further
 
--- the groups of rising numbers, one after another, are those numbers, so each number is in one group; one record names each group
+-- the groups of rising numbers, one after another, are those numbers, so each number is in one
+-- group; one record names each group
 pub record IsGrouping (numbers : List ℕ) : Type 0 where
   pub all : concat (blank_groups numbers) ≡ numbers
   pub records : All IsOneRecord (blank_groups numbers)
 
 abbrev pub GroupsAreRecords : Type 0
-GroupsAreRecords = (numbers : List ℕ) → IsStrictlyIncreasing numbers → All (λ number. number < 405000) numbers → IsGrouping numbers
+GroupsAreRecords = (numbers : List ℕ) → IsStrictlyIncreasing numbers
+    → All (λ number. number < 405000) numbers → IsGrouping numbers

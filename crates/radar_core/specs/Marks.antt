@@ -12,4 +12,5 @@ abbrev pub bit_of : List Bool → ℕ → ℕ
 bit_of bits place = bit (slice_index_or bits place false)
 
 abbrev pub four_bits : List Bool → ℕ → ℕ
-four_bits bits place = bit_of bits place + 2 * bit_of bits (place + 1) + 4 * bit_of bits (place + 2) + 8 * bit_of bits (place + 3)
+four_bits bits place = bit_of bits place + 2 * bit_of bits (place + 1) + 4 * bit_of bits (place + 2)
+    + 8 * bit_of bits (place + 3)

@@ -1,8 +1,10 @@
 -- What a payload of product 63 or 64 says (RTCA DO-358), and the first reason why it says nothing.
-use Rattle.std.specs.Prelude.{ℕ, ◌==◌, nat_lt, nat_le, if◌then◌else◌, List, [], ◌∷◌, length, take, drop, map, Result, Ok, Err}
+use Rattle.std.specs.Prelude.{ℕ, ◌==◌, nat_lt, nat_le, if◌then◌else◌, List, [], ◌∷◌, length, take}
+use Rattle.std.specs.Prelude.{drop, map, Result, Ok, Err}
 use Rattle.radar_core.specs.declared.key.BlockKey.{BlockKey}
 use Rattle.radar_core.specs.declared.fault.RadarFault.{RadarFault}
-use Rattle.radar_core.specs.declared.fault.RadarFault.TheVariants.{Short, BadScale, RunsNot128, HighEmpty, BadBitmap}
+use Rattle.radar_core.specs.declared.fault.RadarFault.TheVariants.{Short, BadScale, RunsNot128}
+use Rattle.radar_core.specs.declared.fault.RadarFault.TheVariants.{HighEmpty, BadBitmap}
 use Rattle.radar_core.specs.Keys.{is_run_in, scale_in, key_in}
 use Rattle.radar_core.specs.Cells.{blank_cells}
 use Rattle.radar_core.specs.Runs.{cells_in}
@@ -25,14 +27,16 @@ named_blocks base bitmap = map (blank_block base) (named_offsets bitmap)
 
 -- the blocks of the bytes after the front. Bytes after the bitmap are not looked at
 abbrev pub read_runs : BlockKey → List ℕ → Result (List Block) RadarFault
-read_runs key runs = if length (cells_in runs) == 128 then Ok (run_blocks key runs) else Err RunsNot128
+read_runs key runs = if length (cells_in runs) == 128 then Ok (run_blocks key runs)
+    else Err RunsNot128
 
 abbrev pub read_bitmap : BlockKey → List ℕ → Result (List Block) RadarFault
 read_bitmap base bytes = if nat_le 405000 base.number then Err HighEmpty
     else (if nat_lt (length bytes) (bitmap_length bytes) then Err BadBitmap
     else Ok (named_blocks base (take (bitmap_length bytes) bytes)))
 
--- the blocks of a payload, or the first fault. `Spelling` says which blocks they are without looking for a field
+-- the blocks of a payload, or the first fault. `Spelling` says which blocks they are without
+-- looking for a field
 unfoldable pub radar_blocks : ℕ → List ℕ → Result (List Block) RadarFault
 radar_blocks product payload = if nat_lt (length payload) 4 then Err Short
     else (if scale_in payload == 3 then Err BadScale

@@ -6,7 +6,8 @@ use Rattle.radar_core.specs.Blanks.{is_named}
 
 -- the bits that name offsets in a byte of a bitmap, with bit 3 of byte 0 for the base
 abbrev pub names_at : List ℕ → ℕ → ℕ
-names_at bitmap place = if place == 0 then slice_index bitmap place / 16 * 16 + 8 else slice_index bitmap place
+names_at bitmap place = if place == 0 then slice_index bitmap place / 16 * 16 + 8
+    else slice_index bitmap place
 
 -- how many bits are set in a byte below a place
 unfoldable pub ones_below : ℕ → ℕ → ℕ

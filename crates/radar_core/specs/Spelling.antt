@@ -1,5 +1,7 @@
--- Which blocks a payload spells, as the format states it (RTCA DO-358): no field is looked for here.
-use Rattle.std.specs.Prelude.{◌≡◌, ℕ, ◌+◌, ◌*◌, ◌<◌, ◌≤◌, ◌↔◌, true, false, List, [], ◌∷◌, ◌++◌, length, take, map, flat_map, slice_index, All, Contains, Ok}
+-- Which blocks a payload spells, as the format states it (RTCA DO-358): no field is looked for
+-- here.
+use Rattle.std.specs.Prelude.{◌≡◌, ℕ, ◌+◌, ◌*◌, ◌<◌, ◌≤◌, ◌↔◌, true, false, List, [], ◌∷◌, ◌++◌}
+use Rattle.std.specs.Prelude.{length, take, map, flat_map, slice_index, All, Contains, Ok}
 use Rattle.std.specs.Int.{bit_at}
 use Rattle.std.specs.List.Sorted.{IsStrictlyIncreasing}
 use Rattle.bit_fields.specs.Bits.{AreBytes, joined}
@@ -21,11 +23,13 @@ pub record SpellsRuns (key : BlockKey) (payload : List ℕ) (blocks : List Block
 -- a bitmap names offset 0, and by bit j of its byte i the offset 8 i + j - 3, where that is above 0
 pub data Names (bitmap : List ℕ) (offset : ℕ) : Type 0 where
   base : offset ≡ 0 → Names bitmap offset
-  further : (place bit : ℕ) → place < length bitmap → bit < 8 → 1 ≤ offset → offset + 3 ≡ 8 * place + bit
+  further : (place bit : ℕ) → place < length bitmap → bit < 8 → 1 ≤ offset → offset + 3 ≡ 8 * place
+      + bit
       → bit_at (slice_index bitmap place) bit ≡ 1 → Names bitmap offset
 
--- the payload is an empty record of this base: after the front stand a bitmap of as many bytes as the low four bits of the
--- first byte say, and any others. The blocks are those of the named offsets, which rise
+-- the payload is an empty record of this base: after the front stand a bitmap of as many bytes as
+-- the low four bits of the first byte say, and any others. The blocks are those of the named
+-- offsets, which rise
 pub record SpellsBitmap (base : BlockKey) (payload : List ℕ) (blocks : List Block) : Type 0 where
   pub ring : base.number < 405000
   pub bitmap : List ℕ
@@ -33,7 +37,8 @@ pub record SpellsBitmap (base : BlockKey) (payload : List ℕ) (blocks : List Bl
   pub high : ℕ
   pub size : length bitmap < 16
   pub first : take 1 (bitmap ++ others)
-      ≡ joined 0 (record { width = 4; number = high } ∷ record { width = 4; number = length bitmap } ∷ []) ∷ []
+      ≡ joined 0 (record { width = 4; number = high } ∷ record { width = 4; number = length bitmap }
+      ∷ []) ∷ []
   pub bytes : payload ≡ front_bytes false base ++ (bitmap ++ others)
   pub offsets : List ℕ
   pub rise : IsStrictlyIncreasing offsets
@@ -42,8 +47,10 @@ pub record SpellsBitmap (base : BlockKey) (payload : List ℕ) (blocks : List Bl
 
 -- the payload spells these blocks
 pub data SpellsBlocks (product : ℕ) (payload : List ℕ) (blocks : List Block) : Type 0 where
-  of_runs : (key : BlockKey) → FitsKey key → key.product ≡ product → SpellsRuns key payload blocks → SpellsBlocks product payload blocks
-  of_bitmap : (base : BlockKey) → FitsKey base → base.product ≡ product → SpellsBitmap base payload blocks
+  of_runs : (key : BlockKey) → FitsKey key → key.product ≡ product → SpellsRuns key payload blocks
+      → SpellsBlocks product payload blocks
+  of_bitmap : (base : BlockKey) → FitsKey base → base.product ≡ product
+      → SpellsBitmap base payload blocks
       → SpellsBlocks product payload blocks
 
 -- a payload is read as blocks exactly where it spells blocks, and as those
@@ -59,5 +66,6 @@ pub record IsBlockOf (product : ℕ) (block : Block) : Type 0 where
 
 -- each block that a payload spells is one
 abbrev pub SpelledBlocksFit : Type 0
-SpelledBlocksFit = (product : ℕ) (payload : List ℕ) (blocks : List Block) → SpellsBlocks product payload blocks
+SpelledBlocksFit =
+    (product : ℕ) (payload : List ℕ) (blocks : List Block) → SpellsBlocks product payload blocks
     → All (IsBlockOf product) blocks

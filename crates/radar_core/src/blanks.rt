@@ -1,5 +1,6 @@
 //! The empty record of a group of blocks.
-ghost use Rattle.std.specs.Prelude.{◌≡◌, ◌+◌, ◌*◌, ◌<◌, ◌≤◌, false, EachIndex, ◌∷◌, ◌++◌, length, replicate, slice_index, take, drop, Ok};
+ghost use Rattle.std.specs.Prelude.{◌≡◌, ◌+◌, ◌*◌, ◌<◌, ◌≤◌, false, EachIndex, ◌∷◌, ◌++◌, length};
+ghost use Rattle.std.specs.Prelude.{replicate, slice_index, take, drop, Ok};
 ghost use Rattle.std.specs.List.{slice_index_or};
 ghost use Rattle.radar_core.specs.Blanks.{IsGroup, blank_record, bitmap_of, length_for};
 ghost use Rattle.radar_core.specs.Marks.{is_marked, four_bits};
@@ -72,7 +73,8 @@ fn marks_of(base: u32, further: &[u32]) -> [bool; 120]
     requires base { base < 405000 }
     requires group { IsGroup base further.now }
     ensures size { length result ≡ 120 }
-    ensures marks { EachIndex result (λ bit. slice_index_or result bit false ≡ is_marked base further.now bit) }
+    ensures marks { EachIndex result
+        (λ bit. slice_index_or result bit false ≡ is_marked base further.now bit) }
 {
     let mut marks = no_marks();
     for number in further {

@@ -1,5 +1,6 @@
 //! The groups of empty blocks, one record each.
-ghost use Rattle.std.specs.Prelude.{◌≡◌, ℕ, ◌+◌, ◌<◌, ◌≤◌, true, false, IfOk, All, length, slice_get, slice_index, Some};
+ghost use Rattle.std.specs.Prelude.{◌≡◌, ℕ, ◌+◌, ◌<◌, ◌≤◌, true, false, IfOk, All, length};
+ghost use Rattle.std.specs.Prelude.{slice_get, slice_index, Some};
 ghost use Rattle.std.specs.List.Sorted.{IsStrictlyIncreasing};
 ghost use Rattle.radar_core.specs.Groups.{blank_groups, is_joined};
 

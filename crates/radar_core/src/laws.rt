@@ -1,5 +1,6 @@
 //! Laws of the definitions, for the crates above: each is the contract of a function that does nothing.
-ghost use Rattle.radar_core.specs.Laws.{BlankRecordsReadBack, GroupsAreRecords, LongestRunsAreFewest, RunRecordsReadBack};
+ghost use Rattle.radar_core.specs.Laws.{BlankRecordsReadBack, GroupsAreRecords};
+ghost use Rattle.radar_core.specs.Laws.{LongestRunsAreFewest, RunRecordsReadBack};
 ghost use Rattle.radar_core.specs.Spelling.{BlocksAreSpelled, SpelledBlocksFit};
 
 /// The law that the run record of a block reads back as that block.

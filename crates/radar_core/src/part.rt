@@ -1,5 +1,6 @@
 //! The blocks of a payload, lent out of it.
-ghost use Rattle.std.specs.Prelude.{◌≡◌, ◌+◌, ◌<◌, ◌≤◌, length, replicate, take, drop, slice_get, ◌++◌};
+ghost use Rattle.std.specs.Prelude.{◌≡◌, ◌+◌, ◌<◌, ◌≤◌, length, replicate, take, drop, slice_get};
+ghost use Rattle.std.specs.Prelude.{◌++◌};
 ghost use Rattle.radar_core.specs.Radar.{blank_block};
 ghost use Rattle.radar_core.specs.Runs.{cells_in};
 
@@ -93,7 +94,8 @@ fn cells_of(runs: &[u8]) -> Cells
 /// Writes one intensity over so many cells from a place on.
 fn put_run(cells: &mut [u8; 128], place: usize, length: usize, cell: u8)
     requires { place + length ≤ 128 }
-    ensures { cells.new ≡ take place cells.old ++ (replicate length cell ++ drop (place + length) cells.old) }
+    ensures { cells.new ≡ take place cells.old
+        ++ (replicate length cell ++ drop (place + length) cells.old) }
 {
     cells[place..place + length].fill(cell);
 }

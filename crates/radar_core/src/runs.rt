@@ -1,5 +1,6 @@
 //! The run record of a block.
-ghost use Rattle.std.specs.Prelude.{◌≡◌, ◌+◌, ◌<◌, ◌≤◌, ◌^◌, true, false, [], ◌∷◌, ◌++◌, length, map, take, drop, slice_index, Ok};
+ghost use Rattle.std.specs.Prelude.{◌≡◌, ◌+◌, ◌<◌, ◌≤◌, ◌^◌, true, false, [], ◌∷◌, ◌++◌, length};
+ghost use Rattle.std.specs.Prelude.{map, take, drop, slice_index, Ok};
 ghost use Rattle.radar_core.specs.Cells.{IsCells};
 ghost use Rattle.radar_core.specs.Keys.{FitsKey, front_bytes};
 ghost use Rattle.radar_core.specs.Runs.{run_byte, longest_runs, run_record};
@@ -18,7 +19,8 @@ pub fn write_runs(key: &BlockKey, cells: &Cells, room: &mut [u8; 131]) -> usize
     ensures size { result ≡ length (run_record key.now cells.now) }
     ensures record { take result room.new ≡ run_record key.now cells.now }
     ensures rest { drop result room.new ≡ drop result room.old }
-    ensures reads_back { radar_blocks key.now.product (take result room.new) ≡ Ok ((key.now, cells.now) ∷ []) }
+    ensures reads_back { radar_blocks key.now.product (take result room.new)
+        ≡ Ok ((key.now, cells.now) ∷ []) }
 {
     put_front(true, key, room);
     put_runs(cells, room)

@@ -1,5 +1,5 @@
--- How much a receiver holds: no more than what can still live may have brought. A version lies at most a minute after the
--- reception that names it, and lives as long as the table says.
+-- How much a receiver holds: no more than what can still live may have brought. A version lies at
+-- most a minute after the reception that names it, and lives as long as the table says.
 use Rattle.std.specs.Prelude.{◌≡◌, ℕ, ◌+◌, ◌*◌, ◌≤◌, Bool, nat_lt, List, length, filter}
 use Rattle.uplink_frame.specs.UplinkFrame.{frame_room}
 use Rattle.life_table.specs.LifeTable.{LifeTable, greatest_life}
@@ -16,8 +16,9 @@ may_live table moment heard = nat_lt moment (heard.moment + greatest_life table 
 abbrev pub number_alive : LifeTable → ℕ → List Reception → ℕ
 number_alive table moment heard = length (filter (may_live table moment) heard)
 
--- For so many receptions, the bytes of all pieces, all segment numbers and all entries that are stored: a payload has 424
--- bytes of frames, a frame with segment fields takes nine of them at least, and a byte says five entries at most.
+-- For so many receptions, the bytes of all pieces, all segment numbers and all entries that are
+-- stored: a payload has 424 bytes of frames, a frame with segment fields takes nine of them at
+-- least, and a byte says five entries at most.
 pub record IsFewFor (held : Held) (number : ℕ) : Type 0 where
   pub bytes : pieces_size held.joiner.store.pieces ≤ frame_room * number
   pub numbers : length held.joiner.store.pieces ≤ 47 * number
@@ -25,7 +26,8 @@ pub record IsFewFor (held : Held) (number : ℕ) : Type 0 where
   -- no mark stands, for which anything else would be stored
   pub settled : IsSettled held
 
--- what is held for these receptions is little, by those of which something may live at the last of them
+-- what is held for these receptions is little, by those of which something may live at the last of
+-- them
 abbrev pub IsBounded : LifeTable → List Reception → Held → Type 0
 IsBounded table heard held = IsFewFor held (number_alive table (last_moment heard) heard)
 

@@ -1,6 +1,7 @@
--- What a receiver learns from the payloads that it hears (RTCA DO-358). Receptions have the newest first; arrivals, whole
--- payloads and entries have the oldest first.
-use Rattle.std.specs.Prelude.{ℕ, ◌+◌, Bool, false, ◌==◌, nat_lt, if◌then◌else◌, List, [], ◌∷◌, ◌++◌, flat_map, filter_map, Option, Some, None, Result, Ok, Err}
+-- What a receiver learns from the payloads that it hears (RTCA DO-358). Receptions have the newest
+-- first; arrivals, whole payloads and entries have the oldest first.
+use Rattle.std.specs.Prelude.{ℕ, ◌+◌, Bool, false, ◌==◌, nat_lt, if◌then◌else◌, List, [], ◌∷◌, ◌++◌}
+use Rattle.std.specs.Prelude.{flat_map, filter_map, Option, Some, None, Result, Ok, Err}
 use Rattle.std.specs.Result.{result_ok}
 use Rattle.fisb_time.specs.Naming.{named}
 use Rattle.uplink_frame.specs.declared.station.StationId.{StationId}
@@ -18,7 +19,9 @@ use Rattle.picture_core.specs.Contents.{payload_entries}
 use Rattle.picture_core.specs.Entry.{Entry}
 use Rattle.picture_core.specs.Picture.{picture}
 use Rattle.receiver_core.specs.declared.unread.UnreadReason.{UnreadReason}
-use Rattle.receiver_core.specs.declared.unread.UnreadReason.TheVariants.{Kind, Short, Flagged, Segment, Product, NoRow, Files, Time, Stale}
+use Rattle.receiver_core.specs.declared.unread.UnreadReason.TheVariants.{Kind, Short, Flagged}
+use Rattle.receiver_core.specs.declared.unread.UnreadReason.TheVariants.{Segment, Product, NoRow}
+use Rattle.receiver_core.specs.declared.unread.UnreadReason.TheVariants.{Files, Time, Stale}
 
 -- a payload, and the moment at which it was heard
 pub record Reception : Type 0 where
@@ -52,7 +55,8 @@ arrival_with_row station received a None = Err NoRow
 arrival_with_row station received a (Some life) = if is_large a.segmentation then Err Files
     else arrival_with_version station received a life (named a.form a.time received)
 
-abbrev pub arrival_of_apdu : LifeTable → StationId → ℕ → Result Apdu ApduFault → Result Arrival UnreadReason
+abbrev pub arrival_of_apdu : LifeTable → StationId → ℕ → Result Apdu ApduFault
+    → Result Arrival UnreadReason
 arrival_of_apdu table station received (Err fault) = Err (fault_reason fault)
 arrival_of_apdu table station received (Ok a) = if is_read_product a.product
     then arrival_with_row station received a (longest table a.product)
@@ -69,7 +73,8 @@ abbrev pub station_heard : Reception → StationId
 station_heard heard = station_of (header_in heard.payload)
 
 abbrev pub arrivals_in : LifeTable → Reception → List Arrival
-arrivals_in table heard = filter_map (λ frame. result_ok (arrival_in table (station_heard heard) heard.moment frame))
+arrivals_in table heard =
+    filter_map (λ frame. result_ok (arrival_in table (station_heard heard) heard.moment frame))
     (information_frames heard.payload)
 
 abbrev pub arrivals : LifeTable → List Reception → List Arrival

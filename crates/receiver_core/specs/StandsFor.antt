@@ -34,8 +34,8 @@ pub record IsSettled (held : Held) : Type 0 where
 abbrev pub last_moment : List Reception → ℕ
 last_moment heard = unwrap_or (clock_of heard) 0
 
--- A receiver stands for the receptions that it heard, the newest first: its joiner stands for what arrived, and its entries
--- are the picture of all that became whole, from the last reception on.
+-- A receiver stands for the receptions that it heard, the newest first: its joiner stands for what
+-- arrived, and its entries are the picture of all that became whole, from the last reception on.
 pub record StandsFor (table : LifeTable) (held : Held) (heard : List Reception) : Type 0 where
   pub reads_by : held.table ≡ table
   pub receptions : AreReceptions heard

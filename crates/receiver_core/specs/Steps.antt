@@ -1,5 +1,6 @@
 -- What the information frames of a reception bring one after another.
-use Rattle.std.specs.Prelude.{ℕ, if◌then◌else◌, List, [], ◌∷◌, ◌++◌, Option, Some, None, option_to_list, Result, Ok, Err}
+use Rattle.std.specs.Prelude.{ℕ, if◌then◌else◌, List, [], ◌∷◌, ◌++◌, Option, Some, None}
+use Rattle.std.specs.Prelude.{option_to_list, Result, Ok, Err}
 use Rattle.std.specs.Result.{result_ok}
 use Rattle.uplink_frame.specs.declared.station.StationId.{StationId}
 use Rattle.uplink_frame.specs.UplinkFrame.{InformationFrame}
@@ -20,7 +21,8 @@ use Rattle.receiver_core.specs.declared.unread.UnreadReason.TheVariants.{Stale}
 -- what is read counts where the longest life of its product has not passed
 abbrev pub arrival_in_time : Longest → ℕ → Result Arrived UnreadReason → Result Arrival UnreadReason
 arrival_in_time lives moment (Err reason) = Err reason
-arrival_in_time lives moment (Ok a) = if is_live lives moment a.product a.version then Ok (arrival_view a) else Err Stale
+arrival_in_time lives moment (Ok a) =
+    if is_live lives moment a.product a.version then Ok (arrival_view a) else Err Stale
 
 -- the payload that an answer makes whole
 abbrev pub whole_taken : Arrival → Taken → Option Whole
@@ -50,13 +52,17 @@ abbrev pub arrived_with : List Arrival → Result Arrival UnreadReason → List 
 arrived_with before arrived = before ++ option_to_list (result_ok arrived)
 
 -- of the information frames of a station, after the arrivals before them
-abbrev pub entries_after : LifeTable → StationId → ℕ → List Arrival → List InformationFrame → List Entry
+abbrev pub entries_after : LifeTable → StationId → ℕ → List Arrival → List InformationFrame
+    → List Entry
 entries_after table station moment before [] = []
 entries_after table station moment before (frame ∷ more) =
     let arrived = arrival_in table station moment frame in
-    frame_entries table before arrived ++ entries_after table station moment (arrived_with before arrived) more
+    frame_entries table before arrived
+    ++ entries_after table station moment (arrived_with before arrived) more
 
-abbrev pub arrivals_after : LifeTable → StationId → ℕ → List Arrival → List InformationFrame → List Arrival
+abbrev pub arrivals_after : LifeTable → StationId → ℕ → List Arrival → List InformationFrame
+    → List Arrival
 arrivals_after table station moment before [] = before
 arrivals_after table station moment before (frame ∷ more) =
-    arrivals_after table station moment (arrived_with before (arrival_in table station moment frame)) more
+    arrivals_after table station moment
+    (arrived_with before (arrival_in table station moment frame)) more

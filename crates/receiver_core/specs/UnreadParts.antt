@@ -1,5 +1,6 @@
 -- What a reception passes on unread, in the order in which it was found.
-use Rattle.std.specs.Prelude.{ℕ, ◌==◌, if◌then◌else◌, List, [], ◌∷◌, ◌++◌, map, flat_map, Option, Some, None, option_to_list, Result, Ok, Err, length}
+use Rattle.std.specs.Prelude.{ℕ, ◌==◌, if◌then◌else◌, List, [], ◌∷◌, ◌++◌, map, flat_map, Option}
+use Rattle.std.specs.Prelude.{Some, None, option_to_list, Result, Ok, Err, length}
 use Rattle.std.specs.Result.{result_ok}
 use Rattle.dlac_text.specs.Reports.{reports_of}
 use Rattle.uplink_frame.specs.declared.station.StationId.{StationId}
@@ -13,7 +14,8 @@ use Rattle.receiver_core.specs.Reception.{Reception, arrival_in, arrivals, stati
 use Rattle.receiver_core.specs.declared.unread.UnreadReason.{UnreadReason}
 use Rattle.receiver_core.specs.declared.unread.UnreadReason.TheVariants.{Words, Unlisted}
 
--- a part that is passed on: why, the type of its information frame, its product or 0, and the length of its body
+-- a part that is passed on: why, the type of its information frame, its product or 0, and the
+-- length of its body
 pub record UnreadPart : Type 0 where
   pub reason : UnreadReason
   pub kind : ℕ
@@ -40,13 +42,16 @@ whole_reasons table (Some whole) = if whole.product == text_product
     then flat_map (λ text. report_reasons (text_key table text)) (reports_of whole.payload)
     else []
 
--- an information frame that does not arrive, or the reports without a key of the payload that it makes whole
-abbrev pub frame_reasons : LifeTable → List Arrival → Result Arrival UnreadReason → List UnreadReason
+-- an information frame that does not arrive, or the reports without a key of the payload that it
+-- makes whole
+abbrev pub frame_reasons : LifeTable → List Arrival → Result Arrival UnreadReason
+    → List UnreadReason
 frame_reasons table before (Err reason) = reason ∷ []
 frame_reasons table before (Ok a) = whole_reasons table (completes before a a.segmentation)
 
 -- of the information frames of a station, after the arrivals before them
-abbrev pub unread_after : LifeTable → StationId → ℕ → List Arrival → List InformationFrame → List UnreadPart
+abbrev pub unread_after : LifeTable → StationId → ℕ → List Arrival → List InformationFrame
+    → List UnreadPart
 unread_after table station moment before [] = []
 unread_after table station moment before (frame ∷ more) =
     let arrived = arrival_in table station moment frame in
@@ -56,4 +61,5 @@ unread_after table station moment before (frame ∷ more) =
 -- the unread parts of a reception after those before it
 abbrev pub unread_parts : LifeTable → List Reception → Reception → List UnreadPart
 unread_parts table past heard =
-    unread_after table (station_heard heard) heard.moment (arrivals table past) (information_frames heard.payload)
+    unread_after table (station_heard heard) heard.moment (arrivals table past)
+    (information_frames heard.payload)

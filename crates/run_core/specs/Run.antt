@@ -50,7 +50,7 @@ is_end failed = false
 is_end full = false
 is_end stopped = false
 
--- the reading ended so, after so many bytes; no other read failed
+-- the reading ended so, after so many bytes; no read failed where it did not end at a failed one
 abbrev pub HasEnded : Ending → Ends → Ends → ℕ → Type 0
 HasEnded at_end old new size =
     IsAtEnd new.left × (new.reads ≡ old.reads) × (size ≤ input_limit)

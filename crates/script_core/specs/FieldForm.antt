@@ -1,8 +1,11 @@
 -- The forms of fields as the program names them, for the definitions.
 use Rattle.std.specs.Prelude.{ℕ, Bool, List}
 use Rattle.script_core.specs.declared.field_form.FieldForm.{FieldForm}
-use Rattle.script_core.specs.declared.field_form.FieldForm.TheVariants.{Moment, UpTo, Hemisphere, BlockNumber, Numbers, Cells, Hex}
-use Rattle.script_core.specs.Fields.{is_moment, is_up_to, is_hemisphere, is_block_number, is_numbers, is_cells, is_hex}
+use Rattle.script_core.specs.declared.field_form.FieldForm.TheVariants.{Moment, UpTo, Hemisphere}
+use Rattle.script_core.specs.declared.field_form.FieldForm.TheVariants.{BlockNumber, Numbers}
+use Rattle.script_core.specs.declared.field_form.FieldForm.TheVariants.{Cells, Hex}
+use Rattle.script_core.specs.Fields.{is_moment, is_up_to, is_hemisphere, is_block_number}
+use Rattle.script_core.specs.Fields.{is_numbers, is_cells, is_hex}
 
 abbrev pub form_test : FieldForm → List ℕ → Bool
 form_test Moment = is_moment

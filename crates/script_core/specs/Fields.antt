@@ -1,5 +1,7 @@
 -- The forms of the lines of a script: a word, and fields with exactly one space between them.
-use Rattle.std.specs.Prelude.{ℕ, ◌+◌, ◌-◌, ◌*◌, Bool, true, false, not, ◌&&◌, ◌||◌, ◌==◌, nat_lt, nat_le, if◌then◌else◌, List, [], ◌∷◌, length, fold, Option, Some, None, option_and_then, is_some, codes}
+use Rattle.std.specs.Prelude.{ℕ, ◌+◌, ◌-◌, ◌*◌, Bool, true, false, not, ◌&&◌, ◌||◌, ◌==◌}
+use Rattle.std.specs.Prelude.{nat_lt, nat_le, if◌then◌else◌, List, [], ◌∷◌, length, fold, codes}
+use Rattle.std.specs.Prelude.{Option, Some, None, option_and_then, is_some}
 use Rattle.std.specs.Char.{digit_value, is_ascii_digit, is_ascii_hexdigit, is_digit}
 use Rattle.std.specs.Int.{is_in_range}
 use Rattle.std.specs.List.{slice_split, join_with_byte, list_all, before_first, after_first}
@@ -26,14 +28,17 @@ has_leading_zero (b ∷ []) = false
 has_leading_zero (b ∷ c ∷ more) = b == 48
 
 abbrev pub is_number : List ℕ → Bool
-is_number field = nat_lt 0 (length field) && list_all is_ascii_digit field && not (has_leading_zero field)
+is_number field =
+    nat_lt 0 (length field) && list_all is_ascii_digit field && not (has_leading_zero field)
 
 abbrev pub digits_value : List ℕ → ℕ
 digits_value field = fold (λ value digit. 10 * value + (digit - 48)) 0 field
 
 -- the number that a field spells, where it spells one from low to high
 abbrev pub number_within : ℕ → ℕ → List ℕ → Option ℕ
-number_within low high field = if is_number field && nat_le low (digits_value field) && nat_le (digits_value field) high then Some (digits_value field) else None
+number_within low high field =
+    if is_number field && nat_le low (digits_value field) && nat_le (digits_value field) high
+    then Some (digits_value field) else None
 
 -- MOMENT and VERSION
 abbrev pub moment_in : List ℕ → Option ℕ
@@ -80,14 +85,16 @@ byte_in (high ∷ low ∷ []) = do
   Some (16 * h + l)
 byte_in (high ∷ low ∷ more ∷ others) = None
 
--- PLACE=XX: a place of a frame from `least` on, before the first equals sign, and the byte behind it
+-- PLACE=XX: a place of a frame from `least` on, before the first equals sign, and the byte
+-- behind it
 abbrev pub wrong_byte_in : ℕ → List ℕ → Option (ℕ × ℕ)
 wrong_byte_in least field = do
   place ← number_within least 551 (before_first (λ b. b == 61) field)
   byte ← byte_in (after_first (λ b. b == 61) field)
   Some (place, byte)
 
--- any number of PLACE=XX: the first place is from `least` on, and each other one above the place before it
+-- any number of PLACE=XX: the first place is from `least` on, and each other one above the place
+-- before it
 abbrev pub wrong_from : ℕ → List (List ℕ) → Option (List (ℕ × ℕ))
 wrong_from least [] = Some []
 wrong_from least (field ∷ others) = do
@@ -114,7 +121,8 @@ station_line (latitude ∷ longitude ∷ site ∷ []) = do
   Some (station a o s)
 station_line (latitude ∷ longitude ∷ site ∷ more ∷ others) = None
 
--- `text MOMENT VERSION REPORT`, where REPORT is all of the line behind the third space, UTF-8, and shows a text
+-- `text MOMENT VERSION REPORT`, where REPORT is all of the line behind the third space, UTF-8, and
+-- shows a text
 abbrev pub report_in : List ℕ → Option (List ℕ)
 report_in bytes = if is_utf8 bytes then unplained bytes else None
 
@@ -134,11 +142,15 @@ unbuilt_where is_form = if is_form then Some unbuilt else None
 
 -- `radar MOMENT VERSION PRODUCT SCALE HEMI NUMBER CELLS`
 abbrev pub is_radar : List (List ℕ) → Bool
-is_radar rest = have_forms (is_moment ∷ is_moment ∷ is_up_to 2047 ∷ is_up_to 3 ∷ is_hemisphere ∷ is_block_number ∷ is_cells ∷ []) rest
+is_radar rest =
+    have_forms (is_moment ∷ is_moment ∷ is_up_to 2047 ∷ is_up_to 3 ∷ is_hemisphere
+    ∷ is_block_number ∷ is_cells ∷ []) rest
 
 -- `blank MOMENT VERSION PRODUCT SCALE HEMI NUMBERS`
 abbrev pub is_blank : List (List ℕ) → Bool
-is_blank rest = have_forms (is_moment ∷ is_moment ∷ is_up_to 2047 ∷ is_up_to 3 ∷ is_hemisphere ∷ is_numbers ∷ []) rest
+is_blank rest =
+    have_forms (is_moment ∷ is_moment ∷ is_up_to 2047 ∷ is_up_to 3 ∷ is_hemisphere
+    ∷ is_numbers ∷ []) rest
 
 -- `turn MOMENT SLOT`
 abbrev pub turn_line : List (List ℕ) → Option Line
@@ -192,13 +204,15 @@ abbrev pub line_of : List ℕ → Option Line
 line_of [] = Some empty
 line_of (b ∷ bytes) = line_of_fields (fields (b ∷ bytes))
 
--- whether the line of some fields takes memory: a `text` line for its report, and a `hear` line for its wrong bytes
+-- whether the line of some fields takes memory: a `text` line for its report, and a `hear` line for
+-- its wrong bytes
 abbrev pub takes_memory : List (List ℕ) → Bool
 takes_memory [] = false
 takes_memory (word ∷ rest) =
     is_word word (codes "text") || (is_word word (codes "hear") && nat_lt 2 (length rest))
 
--- the parts between a separator's places in what is left of some bytes, and how many bytes are left; None where none is
+-- the parts between a separator's places in what is left of some bytes, and how many bytes are
+-- left; None where none is
 abbrev pub parts_left : ℕ → Option (List ℕ) → List (List ℕ)
 parts_left separator None = []
 parts_left separator (Some bytes) = slice_split (λ b. b == separator) bytes

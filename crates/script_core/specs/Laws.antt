@@ -6,4 +6,5 @@ use Rattle.script_core.specs.Script.{Line}
 
 -- what a line says is within its ranges
 abbrev pub LinesHaveRanges : Type 0
-LinesHaveRanges = (bytes : List ℕ) (line : Line) → line_of bytes ≡ Some line → HasRanges (length bytes) line
+LinesHaveRanges =
+    (bytes : List ℕ) (line : Line) → line_of bytes ≡ Some line → HasRanges (length bytes) line

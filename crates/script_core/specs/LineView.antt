@@ -19,9 +19,12 @@ line_view lines.Unbuilt = unbuilt
 -- the ranges of what a line of so many bytes says
 abbrev pub HasRanges : ℕ → Line → Type 0
 HasRanges size empty = Unit {0}
-HasRanges size (station latitude longitude site) = (latitude < 2 ^ 23) × (longitude < 2 ^ 24) × (site < 16)
-HasRanges size (text moment version report) = IsMoment moment × IsMoment version × IsUtf8 report × (length report ≤ size)
+HasRanges size (station latitude longitude site) =
+    (latitude < 2 ^ 23) × (longitude < 2 ^ 24) × (site < 16)
+HasRanges size (text moment version report) =
+    IsMoment moment × IsMoment version × IsUtf8 report × (length report ≤ size)
 HasRanges size (turn moment slot) = IsMoment moment × (slot < 32)
-HasRanges size (hear moment frame wrong) = IsMoment moment × (frame < 2 ^ 32) × All (λ one. (one.0 < 552) × (one.1 < 256)) wrong
+HasRanges size (hear moment frame wrong) =
+    IsMoment moment × (frame < 2 ^ 32) × All (λ one. (one.0 < 552) × (one.1 < 256)) wrong
 HasRanges size (show moment) = IsMoment moment
 HasRanges size unbuilt = Unit {0}

@@ -25,7 +25,8 @@ pub(crate) fn next_field(rest: Option<&[u8]>) -> Option<(&[u8], Option<&[u8]>)>
     ensures fields { MatchOption result
         (fields_left (option_copied rest.entry) ≡ [])
         (λ r. fields_left (option_copied rest.entry) ≡ r.0.now ∷ fields_left (option_copied r.1)) }
-    ensures size { IfSome result (λ r. bytes_left (option_copied r.1) ≤ bytes_left (option_copied rest.entry)) }
+    ensures size { IfSome result (λ r.
+        bytes_left (option_copied r.1) ≤ bytes_left (option_copied rest.entry)) }
 {
     match rest {
         Some(bytes) => Some(cut_at(bytes, b' ')),
@@ -35,9 +36,11 @@ pub(crate) fn next_field(rest: Option<&[u8]>) -> Option<(&[u8], Option<&[u8]>)>
 
 /// What stands before the first byte that is the separator, and what stands behind that byte, where there is one.
 pub(crate) fn cut_at(bytes: &[u8], separator: u8) -> (&[u8], Option<&[u8]>)
-    ensures parts { slice_split (λ b. b == separator) bytes.now ≡ result.0.now ∷ parts_left separator (option_copied result.1) }
+    ensures parts { slice_split (λ b. b == separator) bytes.now
+        ≡ result.0.now ∷ parts_left separator (option_copied result.1) }
     ensures front { result.0.now ≡ before_first (λ b. b == separator) bytes.now }
-    ensures behind { unwrap_or (option_copied result.1) [] ≡ after_first (λ b. b == separator) bytes.now }
+    ensures behind { unwrap_or (option_copied result.1) []
+        ≡ after_first (λ b. b == separator) bytes.now }
     ensures size { bytes_left (option_copied result.1) ≤ length bytes.now }
 {
     match bytes.iter().position(|byte| *byte == separator) {

@@ -55,7 +55,8 @@ pub(crate) fn is_rx(rest: Option<&[u8]>) -> bool
 
 /// Whether there are as many fields as forms, and each is of its form.
 fn have_forms(rest: Option<&[u8]>, forms: &[FieldForm]) -> bool
-    ensures { result ≡ have_forms (map form_test forms.now) (fields_left (option_copied rest.entry)) }
+    ensures { result
+        ≡ have_forms (map form_test forms.now) (fields_left (option_copied rest.entry)) }
 {
     let mut rest = rest;
     let mut forms = forms;

@@ -16,9 +16,12 @@ const LAST_PLACE: u64 = 551;
 
 /// `hear MOMENT FRAME` and any number of ` PLACE=XX`
 pub(crate) fn read_hear(alloc: Global, rest: Option<&[u8]>) -> Result<Line, LineFault>
-    ensures line { IfOk result (λ read. hear_line (fields_left (option_copied rest.entry)) ≡ Some (line_view read)) }
-    ensures syntax { result ≡ Err LineFault.Syntax → hear_line (fields_left (option_copied rest.entry)) ≡ None }
-    ensures no_memory { result ≡ Err LineFault.NoMemory → 2 < length (fields_left (option_copied rest.entry)) }
+    ensures line { IfOk result (λ read.
+        hear_line (fields_left (option_copied rest.entry)) ≡ Some (line_view read)) }
+    ensures syntax { result ≡ Err LineFault.Syntax →
+        hear_line (fields_left (option_copied rest.entry)) ≡ None }
+    ensures no_memory { result ≡ Err LineFault.NoMemory →
+        2 < length (fields_left (option_copied rest.entry)) }
     ensures ranges { (size : ℕ) → IfOk result (λ read. HasRanges size (line_view read)) }
 {
     let Some((moment, rest)) = next_field(rest) else {
@@ -45,9 +48,12 @@ pub(crate) fn read_hear(alloc: Global, rest: Option<&[u8]>) -> Result<Line, Line
 
 /// The wrong bytes that the fields spell which are left: each place is above the one before it.
 fn read_wrong(alloc: Global, rest: Option<&[u8]>) -> Result<Wrong, LineFault>
-    ensures wrong { IfOk result (λ wrong. wrong_from 0 (fields_left (option_copied rest.entry)) ≡ Some wrong) }
-    ensures syntax { result ≡ Err LineFault.Syntax → wrong_from 0 (fields_left (option_copied rest.entry)) ≡ None }
-    ensures no_memory { result ≡ Err LineFault.NoMemory → 0 < length (fields_left (option_copied rest.entry)) }
+    ensures wrong { IfOk result (λ wrong.
+        wrong_from 0 (fields_left (option_copied rest.entry)) ≡ Some wrong) }
+    ensures syntax { result ≡ Err LineFault.Syntax →
+        wrong_from 0 (fields_left (option_copied rest.entry)) ≡ None }
+    ensures no_memory { result ≡ Err LineFault.NoMemory →
+        0 < length (fields_left (option_copied rest.entry)) }
     ensures ranges { IfOk result (λ wrong. All (λ one. (one.0 < 552) × (one.1 < 256)) wrong) }
 {
     let mut items = Vec::new(alloc);

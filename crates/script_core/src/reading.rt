@@ -44,8 +44,10 @@ pub fn read_line(alloc: Global, line: &[u8]) -> Result<Line, LineFault>
 
 /// `text MOMENT VERSION REPORT`
 fn read_text(alloc: Global, rest: Option<&[u8]>) -> Result<Line, LineFault>
-    ensures line { IfOk result (λ read. text_line (fields_left (option_copied rest.entry)) ≡ Some (line_view read)) }
-    ensures syntax { result ≡ Err LineFault.Syntax → text_line (fields_left (option_copied rest.entry)) ≡ None }
+    ensures line { IfOk result (λ read.
+        text_line (fields_left (option_copied rest.entry)) ≡ Some (line_view read)) }
+    ensures syntax { result ≡ Err LineFault.Syntax →
+        text_line (fields_left (option_copied rest.entry)) ≡ None }
     ensures ranges { (size : ℕ) → bytes_left (option_copied rest.entry) ≤ size
         → IfOk result (λ read. HasRanges size (line_view read)) }
 {
@@ -91,7 +93,8 @@ fn read_report(alloc: Global, bytes: &[u8]) -> Result<String, LineFault>
 
 /// A line of another word than `text` and `hear`.
 fn read_other(word: &[u8], rest: Option<&[u8]>) -> Option<Line>
-    ensures line { option_map line_view result ≡ other_line word.now (fields_left (option_copied rest.entry)) }
+    ensures line { option_map line_view result
+        ≡ other_line word.now (fields_left (option_copied rest.entry)) }
     ensures ranges { (size : ℕ) → IfSome result (λ read. HasRanges size (line_view read)) }
 {
     if is_word(word, "station") {

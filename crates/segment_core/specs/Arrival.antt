@@ -1,5 +1,6 @@
 -- What arrives of files, and the payloads that become whole by it. What arrived first stands first.
-use Rattle.std.specs.Prelude.{ℕ, Bool, false, not, ◌&&◌, ◌==◌, if◌then◌else◌, List, [], ◌∷◌, ◌++◌, filter, find}
+use Rattle.std.specs.Prelude.{ℕ, Bool, false, not, ◌&&◌, ◌==◌, if◌then◌else◌, List, [], ◌∷◌, ◌++◌}
+use Rattle.std.specs.Prelude.{filter, find}
 use Rattle.std.specs.Prelude.{flat_map, filter_map, Option, Some, None}
 use Rattle.std.specs.List.{list_any, list_all, range_with_len}
 use Rattle.apdu_core.specs.declared.unit.Seg.{Seg}
@@ -16,7 +17,8 @@ pub record Arrival : Type 0 where
 
 -- a file is named by station, product, version, file number and count
 abbrev pub same_file : Arrival → Seg → Arrival → Seg → Bool
-same_file a s b t = same_station a.station b.station && (a.product == b.product) && (a.version == b.version)
+same_file a s b t =
+    same_station a.station b.station && (a.product == b.product) && (a.version == b.version)
     && (s.file == t.file) && (s.count == t.count)
 
 abbrev pub is_piece : Arrival → Seg → ℕ → Arrival → Option Seg → Bool
@@ -39,7 +41,8 @@ bytes_of_piece (Some b) = b.payload
 
 -- the first pieces of the file in the order of their numbers
 abbrev pub joined_payload : List Arrival → Arrival → Seg → List ℕ
-joined_payload arrived a s = flat_map (λ number. bytes_of_piece (first_piece arrived a s number)) (range_with_len 1 s.count)
+joined_payload arrived a s =
+    flat_map (λ number. bytes_of_piece (first_piece arrived a s number)) (range_with_len 1 s.count)
 
 -- a payload that is whole
 pub record Whole : Type 0 where
@@ -50,11 +53,12 @@ pub record Whole : Type 0 where
 abbrev pub whole_with : Arrival → List ℕ → Whole
 whole_with a payload = record { product = a.product; version = a.version; payload = payload }
 
--- An arrival completes its file where its number is new and each other number stands before it; an arrival without
--- segment fields is whole.
+-- An arrival completes its file where its number is new and each other number stands before it; an
+-- arrival without segment fields is whole.
 abbrev pub completes : List Arrival → Arrival → Option Seg → Option Whole
 completes before a None = Some (whole_with a a.payload)
-completes before a (Some s) = if not (has_piece before a s s.number) && list_all (has_piece before a s) (other_numbers s)
+completes before a (Some s) =
+    if not (has_piece before a s s.number) && list_all (has_piece before a s) (other_numbers s)
     then Some (whole_with a (joined_payload (before ++ a ∷ []) a s))
     else None
 
@@ -62,7 +66,8 @@ completes before a (Some s) = if not (has_piece before a s s.number) && list_all
 abbrev pub completed_after : List Arrival → List Arrival → List Whole
 completed_after before [] = []
 completed_after before (a ∷ later) =
-    filter_map (completes before a) (a.segmentation ∷ []) ++ completed_after (before ++ a ∷ []) later
+    filter_map (completes before a) (a.segmentation ∷ [])
+    ++ completed_after (before ++ a ∷ []) later
 
 abbrev pub completed : List Arrival → List Whole
 completed arrived = completed_after [] arrived

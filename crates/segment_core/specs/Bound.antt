@@ -1,5 +1,6 @@
 -- How much a store holds: no more than the arrivals of files that are not stale.
-use Rattle.std.specs.Prelude.{◌≡◌, ℕ, ◌≤◌, true, List, [], ◌∷◌, length, filter, Option, Some, None, is_some}
+use Rattle.std.specs.Prelude.{◌≡◌, ℕ, ◌≤◌, true, List, [], ◌∷◌, length, filter, Option, Some, None}
+use Rattle.std.specs.Prelude.{is_some}
 use Rattle.std.specs.List.{sum_by}
 use Rattle.std.specs.Map.{values_of}
 use Rattle.std.specs.Option.{option_map}
@@ -37,10 +38,12 @@ live_arrivals longest moment taken = filter (λ a. is_live longest moment a.prod
 -- numbers and bytes are at most those of the arrivals that are not stale
 pub record IsBounded (store : Store) (moment : ℕ) (taken : List Arrival) : Type 0 where
   pub numbers : length store.pieces ≤ length (live_arrivals store.longest moment taken)
-  pub bytes : pieces_size store.pieces ≤ sum_by (λ a. length a.payload) (live_arrivals store.longest moment taken)
+  pub bytes : pieces_size store.pieces
+      ≤ sum_by (λ a. length a.payload) (live_arrivals store.longest moment taken)
 
 abbrev pub StoresAreBounded : Type 0
-StoresAreBounded = (store : Store) (moment : ℕ) (taken : List Arrival) → StandsFor store taken → IsPurged store moment
+StoresAreBounded = (store : Store) (moment : ℕ) (taken : List Arrival) → StandsFor store taken
+    → IsPurged store moment
     → IsBounded store moment taken
 
 -- the payload of an answer that says that one is whole
@@ -53,4 +56,5 @@ payload_made_whole Stale = None
 -- an answer says that a payload is whole exactly where the arrival completes it
 abbrev pub AnswersComplete : Type 0
 AnswersComplete = (taken : List Arrival) (a : Arrival)
-    → completes taken a a.segmentation ≡ option_map (whole_with a) (payload_made_whole (live_answer taken a a.segmentation))
+    → completes taken a a.segmentation
+    ≡ option_map (whole_with a) (payload_made_whole (live_answer taken a a.segmentation))

@@ -1,5 +1,7 @@
--- A payload as it is sent, in one APDU or cut into segments (RTCA DO-358, the segmentation of a file).
-use Rattle.std.specs.Prelude.{ℕ, zero, suc, ◌+◌, ◌-◌, ◌/◌, Bool, true, false, not, nat_le, if◌then◌else◌, List, [], ◌∷◌}
+-- A payload as it is sent, in one APDU or cut into segments (RTCA DO-358, the segmentation of a
+-- file).
+use Rattle.std.specs.Prelude.{ℕ, zero, suc, ◌+◌, ◌-◌, ◌/◌, Bool, true, false, not, nat_le}
+use Rattle.std.specs.Prelude.{if◌then◌else◌, List, [], ◌∷◌}
 use Rattle.std.specs.Prelude.{length, take, drop, Option, Some, None}
 use Rattle.std.specs.List.{range_with_len, slice_index_or}
 use Rattle.fisb_time.specs.declared.form.TimeForm.{TimeForm}
@@ -19,7 +21,8 @@ pub record File : Type 0 where
 abbrev pub body_limit : ℕ
 body_limit = 422
 
--- the most bytes of a payload that is sent whole, and of a segment of a longer one: what the header leaves
+-- the most bytes of a payload that is sent whole, and of a segment of a longer one: what the header
+-- leaves
 abbrev pub whole_limit : TimeForm → ℕ
 whole_limit form = body_limit - header_length form false
 

@@ -1,9 +1,11 @@
 -- What a segment brings among the pieces that are held.
-use Rattle.std.specs.Prelude.{ℕ, Bool, ◌&&◌, ◌==◌, nat_le, if◌then◌else◌, List, [], flat_map, Option, Some, None, is_some}
+use Rattle.std.specs.Prelude.{ℕ, Bool, ◌&&◌, ◌==◌, nat_le, if◌then◌else◌, List, [], flat_map}
+use Rattle.std.specs.Prelude.{Option, Some, None, is_some}
 use Rattle.std.specs.List.{list_all, range_with_len}
 use Rattle.apdu_core.specs.declared.unit.Seg.{Seg}
 use Rattle.segment_core.specs.Arrival.{Arrival, other_numbers}
-use Rattle.segment_core.specs.Kept.{Pieces, kept_under, with_number, piece_name, fields_of, same_piece}
+use Rattle.segment_core.specs.Kept.{Pieces, kept_under, with_number, piece_name, fields_of}
+use Rattle.segment_core.specs.Kept.{same_piece}
 use Rattle.segment_core.specs.declared.piece_name.PieceName.{PieceName}
 use Rattle.segment_core.specs.declared.arrived.Taken.{Taken}
 use Rattle.segment_core.specs.declared.arrived.Taken.TheVariants.{Whole, Waits, Again}
@@ -21,11 +23,13 @@ held_bytes (Some (Some bytes)) = bytes
 
 abbrev pub bytes_at : Pieces → PieceName → List ℕ → ℕ → List ℕ
 bytes_at pieces name payload number =
-    if number == name.number then payload else held_bytes (kept_under pieces (with_number name number))
+    if number == name.number then payload
+    else held_bytes (kept_under pieces (with_number name number))
 
 -- the pieces of the file in the order of their numbers, with this one
 abbrev pub joined_held : Pieces → PieceName → List ℕ → List ℕ
-joined_held pieces name payload = flat_map (bytes_at pieces name payload) (range_with_len 1 name.count)
+joined_held pieces name payload =
+    flat_map (bytes_at pieces name payload) (range_with_len 1 name.count)
 
 abbrev pub held_answer : Pieces → PieceName → List ℕ → Taken
 held_answer pieces name payload = if is_some (kept_under pieces name) then Again
@@ -33,16 +37,19 @@ held_answer pieces name payload = if is_some (kept_under pieces name) then Again
 
 abbrev pub is_number_of : PieceName → PieceName → Bool
 is_number_of name other =
-    same_piece other (with_number name other.number) && nat_le 1 other.number && nat_le other.number name.count
+    same_piece other (with_number name other.number) && nat_le 1 other.number
+    && nat_le other.number name.count
 
 -- what is held under a name, with this segment
 abbrev pub held_with : Pieces → PieceName → List ℕ → PieceName → Option (Option (List ℕ))
-held_with pieces name payload other = if is_some (kept_under pieces name) then kept_under pieces other
+held_with pieces name payload other =
+    if is_some (kept_under pieces name) then kept_under pieces other
     else (if others_held pieces name
     then (if is_number_of name other then Some None else kept_under pieces other)
     else (if same_piece other name then Some (Some payload) else kept_under pieces other))
 
--- what an arrival brings, and what is held under a name with it; without segment fields it is whole, and nothing is held of it
+-- what an arrival brings, and what is held under a name with it; without segment fields it is
+-- whole, and nothing is held of it
 abbrev pub arrival_answer : Pieces → Arrival → Option Seg → Taken
 arrival_answer pieces a None = Whole a.payload
 arrival_answer pieces a (Some s) = held_answer pieces (piece_name a s) a.payload

@@ -1,5 +1,5 @@
--- Joining undoes cutting: of segments that arrive, in whatever order and however often, exactly the files become whole of
--- which each segment has arrived, and their payloads are those that were cut.
+-- Joining undoes cutting: of segments that arrive, in whatever order and however often, exactly the
+-- files become whole of which each segment has arrived, and their payloads are those that were cut.
 use Rattle.std.specs.Prelude.{◌≡◌, ℕ, ◌≤◌, true, false, List, ◌++◌, length, map}
 use Rattle.list_members.specs.Membership.{IsIn}
 use Rattle.uplink_frame.specs.declared.station.StationId.{StationId}
@@ -35,8 +35,10 @@ whole_of f = record { product = f.product; version = f.version; payload = f.payl
 -- two files in segments of one station, product, version and number are one
 abbrev pub AreApart : List Segment → Type 0
 AreApart sent = (a b : Segment) → IsIn a sent → IsIn b sent
-    → is_segmented a.file.form a.file.payload ≡ true → is_segmented b.file.form b.file.payload ≡ true
-    → a.station ≡ b.station → a.file.product ≡ b.file.product → a.file.version ≡ b.file.version → a.file.number ≡ b.file.number
+    → is_segmented a.file.form a.file.payload ≡ true
+    → is_segmented b.file.form b.file.payload ≡ true
+    → a.station ≡ b.station → a.file.product ≡ b.file.product → a.file.version ≡ b.file.version
+    → a.file.number ≡ b.file.number
     → a.file ≡ b.file
 
 pub record AreSent (sent : List Segment) : Type 0 where
@@ -45,9 +47,11 @@ pub record AreSent (sent : List Segment) : Type 0 where
 
 -- each segment of the file stands among these
 abbrev pub HasAll : List Segment → StationId → File → Type 0
-HasAll sent station file = (number : ℕ) → 1 ≤ number → number ≤ length (parts_of file) → IsIn (segment station file number) sent
+HasAll sent station file = (number : ℕ) → 1 ≤ number → number ≤ length (parts_of file)
+    → IsIn (segment station file number) sent
 
--- a whole payload of what came now is that of a file of which each segment has arrived, and one of them now
+-- a whole payload of what came now is that of a file of which each segment has arrived, and one of
+-- them now
 pub record IsOfFile (before now : List Segment) (whole : Whole) : Type 0 where
   pub station : StationId
   pub file : File
@@ -58,20 +62,26 @@ pub record IsOfFile (before now : List Segment) (whole : Whole) : Type 0 where
 
 abbrev pub OnlyFilesComplete : Type 0
 OnlyFilesComplete = (before now : List Segment) (whole : Whole) → AreSent (before ++ now)
-    → IsIn whole (completed_after (map arrival_of before) (map arrival_of now)) → IsOfFile before now whole
+    → IsIn whole (completed_after (map arrival_of before) (map arrival_of now))
+    → IsOfFile before now whole
 
--- a file in segments is whole with what came now, where each segment has arrived and not each had before
+-- a file in segments is whole with what came now, where each segment has arrived and not each had
+-- before
 abbrev pub FilesComplete : Type 0
-FilesComplete = (before now : List Segment) (station : StationId) (file : File) → AreSent (before ++ now)
-    → is_segmented file.form file.payload ≡ true → HasAll (before ++ now) station file → (HasAll before station file → ⊥)
+FilesComplete =
+    (before now : List Segment) (station : StationId) (file : File) → AreSent (before ++ now)
+    → is_segmented file.form file.payload ≡ true → HasAll (before ++ now) station file
+    → (HasAll before station file → ⊥)
     → IsIn (whole_of file) (completed_after (map arrival_of before) (map arrival_of now))
 
 -- a file that is sent whole is whole whenever it comes
 abbrev pub WholeFilesComplete : Type 0
-WholeFilesComplete = (before now : List Segment) (station : StationId) (file : File) → AreSent (before ++ now)
+WholeFilesComplete =
+    (before now : List Segment) (station : StationId) (file : File) → AreSent (before ++ now)
     → is_segmented file.form file.payload ≡ false → IsIn (segment station file 1) now
     → IsIn (whole_of file) (completed_after (map arrival_of before) (map arrival_of now))
 
 -- what further arrivals complete stands after what was complete before
 abbrev pub CompletedGrows : Type 0
-CompletedGrows = (before now : List Arrival) → completed (before ++ now) ≡ completed before ++ completed_after before now
+CompletedGrows = (before now : List Arrival) → completed (before ++ now) ≡ completed before
+    ++ completed_after before now

@@ -1,5 +1,5 @@
--- What is kept of the segments that arrived: of each number of a file the first piece, and once the file was whole the
--- number alone.
+-- What is kept of the segments that arrived: of each number of a file the first piece, and once the
+-- file was whole the number alone.
 use Rattle.std.specs.Prelude.{ℕ, ◌≤◌, Bool, ◌&&◌, ◌==◌, if◌then◌else◌, List, [], Option, Some, None}
 use Rattle.std.specs.List.{list_all, range_with_len}
 use Rattle.std.specs.Map.{lookup}
@@ -44,7 +44,8 @@ arrival_named name = record {
 }
 
 abbrev pub same_piece : PieceName → PieceName → Bool
-same_piece a b = same_station a.station b.station && (a.product == b.product) && (a.version == b.version)
+same_piece a b =
+    same_station a.station b.station && (a.product == b.product) && (a.version == b.version)
     && (a.file == b.file) && (a.count == b.count) && (a.number == b.number)
 
 -- the number is one of the file
@@ -60,12 +61,14 @@ kept_under pieces name = lookup (same_piece name) pieces
 
 -- each number of the file has arrived
 abbrev pub was_whole : List Arrival → PieceName → Bool
-was_whole taken name = list_all (has_piece taken (arrival_named name) (fields_of name)) (range_with_len 1 name.count)
+was_whole taken name =
+    list_all (has_piece taken (arrival_named name) (fields_of name)) (range_with_len 1 name.count)
 
 abbrev pub kept_piece : Bool → Arrival → Option (List ℕ)
 kept_piece is_whole a = if is_whole then None else Some a.payload
 
 -- what is kept under a name, after these arrivals
 abbrev pub kept_of : List Arrival → PieceName → Option (Option (List ℕ))
-kept_of taken name = option_map (kept_piece (was_whole taken name)) (first_piece taken (arrival_named name)
+kept_of taken name =
+    option_map (kept_piece (was_whole taken name)) (first_piece taken (arrival_named name)
     (fields_of name) name.number)

@@ -1,5 +1,6 @@
 -- What a joiner holds, and the arrivals for which it stands.
-use Rattle.std.specs.Prelude.{◌≡◌, ℕ, ◌+◌, ◌≤◌, Bool, true, ◌==◌, nat_lt, if◌then◌else◌, List, [], ◌∷◌, ◌++◌}
+use Rattle.std.specs.Prelude.{◌≡◌, ℕ, ◌+◌, ◌≤◌, Bool, true, ◌==◌, nat_lt, if◌then◌else◌, List, []}
+use Rattle.std.specs.Prelude.{◌∷◌, ◌++◌}
 use Rattle.std.specs.Prelude.{filter, Option, Some, None, is_some}
 use Rattle.std.specs.List.{list_all}
 use Rattle.apdu_core.specs.declared.unit.Seg.{Seg}
@@ -35,12 +36,15 @@ abbrev pub is_live_at : Longest → Option ℕ → PieceName → Bool
 is_live_at longest None name = true
 is_live_at longest (Some moment) name = is_live longest moment name.product name.version
 
--- A store stands for the arrivals that were taken: of each file that is not stale it holds the first piece of each number,
--- or the number alone once the file was whole; and it holds no numbers but those of files.
+-- A store stands for the arrivals that were taken: of each file that is not stale it holds the
+-- first piece of each number, or the number alone once the file was whole; and it holds no numbers
+-- but those of files.
 pub record StandsFor (store : Store) (taken : List Arrival) : Type 0 where
-  pub keeps : (name : PieceName) → IsNumbered name → is_live_at store.longest store.clock name ≡ true
+  pub keeps : (name : PieceName) → IsNumbered name
+      → is_live_at store.longest store.clock name ≡ true
       → kept_under store.pieces name ≡ kept_of taken name
-  pub numbered : (name : PieceName) → is_some (kept_under store.pieces name) ≡ true → IsNumbered name
+  pub numbered : (name : PieceName) → is_some (kept_under store.pieces name) ≡ true
+      → IsNumbered name
 
 -- the last moment, where this one is below it
 abbrev pub last_above : Option ℕ → ℕ → Option ℕ
@@ -60,7 +64,8 @@ FitsFile (Some s) = (1 ≤ s.number) × (s.number ≤ s.count) × (s.count ≤ m
 abbrev pub live_answer : List Arrival → Arrival → Option Seg → Taken
 live_answer taken a None = Whole a.payload
 live_answer taken a (Some s) = if has_piece taken a s s.number then Again
-    else (if list_all (has_piece taken a s) (other_numbers s) then Whole (joined_payload (taken ++ a ∷ []) a s) else Waits)
+    else (if list_all (has_piece taken a s) (other_numbers s)
+    then Whole (joined_payload (taken ++ a ∷ []) a s) else Waits)
 
 abbrev pub answer_of : Longest → ℕ → List Arrival → Arrival → Taken
 answer_of longest moment taken a =
@@ -68,8 +73,10 @@ answer_of longest moment taken a =
 
 -- an arrival that is not stale is taken
 abbrev pub taken_with : Longest → ℕ → List Arrival → Arrival → List Arrival
-taken_with longest moment taken a = if is_live longest moment a.product a.version then taken ++ a ∷ [] else taken
+taken_with longest moment taken a =
+    if is_live longest moment a.product a.version then taken ++ a ∷ [] else taken
 
 -- the pieces of files that are not stale
 abbrev pub live_pieces : Longest → ℕ → Pieces → Pieces
-live_pieces longest moment pieces = filter (λ e. is_live longest moment e.0.product e.0.version) pieces
+live_pieces longest moment pieces =
+    filter (λ e. is_live longest moment e.0.product e.0.version) pieces

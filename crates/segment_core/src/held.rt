@@ -1,5 +1,6 @@
 //! The pieces that are held, and what a segment brings among them.
-ghost use Rattle.std.specs.Prelude.{◌≡◌, ℕ, ◌+◌, ◌-◌, ◌^◌, ◌<◌, ◌≤◌, List, IfOk, OnErr, None, map, is_some};
+ghost use Rattle.std.specs.Prelude.{◌≡◌, ℕ, ◌+◌, ◌-◌, ◌^◌, ◌<◌, ◌≤◌, List, IfOk, OnErr, None, map};
+ghost use Rattle.std.specs.Prelude.{is_some};
 ghost use Rattle.undo_map.specs.Ends.{HasLeft, KeepsPlaces, due_places};
 ghost use Rattle.std.specs.List.{range_with_len};
 ghost use Rattle.std.specs.Option.{option_copied};

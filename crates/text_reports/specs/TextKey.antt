@@ -1,5 +1,7 @@
 -- What names a report: its type, its place, and for some types a third word.
-use Rattle.std.specs.Prelude.{◌≡◌, ℕ, ◌≤◌, Bool, true, false, ◌&&◌, ◌||◌, ◌==◌, nat_lt, if◌then◌else◌, List, [], ◌∷◌, length, filter, Option, Some, None, Result, Ok, Err}
+use Rattle.std.specs.Prelude.{◌≡◌, ℕ, ◌≤◌, Bool, true, false, ◌&&◌, ◌||◌, ◌==◌, nat_lt}
+use Rattle.std.specs.Prelude.{if◌then◌else◌, List, [], ◌∷◌, length, filter, Option, Some, None}
+use Rattle.std.specs.Prelude.{Result, Ok, Err}
 use Rattle.std.specs.List.{slice_split, All}
 use Rattle.std.specs.Str.{bytes_eq}
 use Rattle.std.specs.Cmp.Lexicographic.{slice_cmp}
@@ -32,8 +34,10 @@ words_of text = filter (λ word. nat_lt 0 (length word)) (slice_split is_blank t
 
 -- the key of a row's report with a second word and further ones
 abbrev pub row_key : TextRow → List ℕ → List (List ℕ) → Result TextKey KeyFault
-row_key row place [] = if row.words == 3 then Err few_words else Ok (record { kind = row.kind; place = place; third = None })
-row_key row place (third ∷ more) = Ok (record { kind = row.kind; place = place; third = if row.words == 3 then Some third else None })
+row_key row place [] = if row.words == 3 then Err few_words
+    else Ok (record { kind = row.kind; place = place; third = None })
+row_key row place (third ∷ more) = Ok
+    (record { kind = row.kind; place = place; third = if row.words == 3 then Some third else None })
 
 abbrev pub listed_key : Option TextRow → List ℕ → List (List ℕ) → Result TextKey KeyFault
 listed_key None place more = Err unlisted
@@ -57,6 +61,9 @@ same_third (Some v) (Some w) = bytes_eq v w
 abbrev pub same_text_key : TextKey → TextKey → Bool
 same_text_key a b = bytes_eq a.kind b.kind && bytes_eq a.place b.place && same_third a.third b.third
 
--- keys stand in the order of the bytes of type, place and third word, a key without a third word before those with one
+-- keys stand in the order of the bytes of type, place and third word, a key without a third word
+-- before those with one
 abbrev pub text_key_cmp : TextKey → TextKey → Ordering
-text_key_cmp a b = ordering_then (slice_cmp nat_cmp a.kind b.kind) (ordering_then (slice_cmp nat_cmp a.place b.place) (option_cmp (slice_cmp nat_cmp) a.third b.third))
+text_key_cmp a b = ordering_then (slice_cmp nat_cmp a.kind b.kind)
+    (ordering_then (slice_cmp nat_cmp a.place b.place)
+    (option_cmp (slice_cmp nat_cmp) a.third b.third))

@@ -1,5 +1,6 @@
 -- What the keys and faults of the code stand for.
-use Rattle.std.specs.Prelude.{◌≡◌, ⊤, ℕ, ◌==◌, if◌then◌else◌, List, [], ◌∷◌, Option, Some, None, Result, Ok, Err}
+use Rattle.std.specs.Prelude.{◌≡◌, ⊤, ℕ, ◌==◌, if◌then◌else◌, List, [], ◌∷◌, Option, Some, None}
+use Rattle.std.specs.Prelude.{Result, Ok, Err}
 use Rattle.text_reports.specs.TextKey.{TextKey, KeyFault, few_words, unlisted}
 use Rattle.text_reports.specs.declared.key.TextKey.{TextKey as Key}
 use Rattle.text_reports.specs.declared.key.KeyFault.{KeyFault as Fault}

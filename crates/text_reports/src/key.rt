@@ -83,7 +83,8 @@ pub fn key_of(alloc: Global, table: &LifeTable, text: &str) -> Result<TextKey, K
 /// The third word of a key of so many words, of the text behind the second.
 fn third_word(alloc: Global, words: u8, behind: &str) -> Result<Option<Word>, KeyFault>
     ensures third { IfOk result (λ third. third_of words (words_of behind.now) ≡ Ok third) }
-    ensures fault { IfErr result (λ fault. IsThirdFault fault (third_of words (words_of behind.now))) }
+    ensures fault { IfErr result
+        (λ fault. IsThirdFault fault (third_of words (words_of behind.now))) }
 {
     let third = first_word(behind);
     if words != 3 {

@@ -1,10 +1,12 @@
 //! The words of a text, one after another.
-ghost use Rattle.std.specs.Prelude.{◌≡◌, ℕ, ◌<◌, ◌≤◌, false, not, [], ◌∷◌, length, slice_index, MatchOption, IfSome};
+ghost use Rattle.std.specs.Prelude.{◌≡◌, ℕ, ◌<◌, ◌≤◌, false, not, [], ◌∷◌, length, slice_index};
+ghost use Rattle.std.specs.Prelude.{MatchOption, IfSome};
 ghost use Rattle.text_reports.specs.TextKey.{IsWord, is_blank, words_of};
 
 /// The first word of a text and what follows it, where the text has a word.
 pub(crate) fn first_word(text: &str) -> Option<(&str, &str)>
-    ensures words { MatchOption result (words_of text.now ≡ []) (λ w. words_of text.now ≡ w.0.now ∷ words_of w.1.now) }
+    ensures words { MatchOption result (words_of text.now ≡ [])
+        (λ w. words_of text.now ≡ w.0.now ∷ words_of w.1.now) }
     ensures word { IfSome result (λ w. IsWord w.0.now) }
 {
     let text = without_blanks(text);

@@ -70,47 +70,33 @@ impl Lasting for Visit {
     }
 }
 
-/// The names that a map keeps, each with the version of its value.
-fn versions<K: Duplicate>(
+/// How many values are left of one that is replaced by one that lasts longer, and of one that is
+/// replaced by one that is over sooner, when both first ones would be over, and when all are.
+fn left<K: Duplicate>(
     alloc: Global,
-    map: &LastingMap<K, Visit>,
-) -> Result<Vec<u64>, AllocError> {
-    let mut versions = Vec::new(alloc);
-    for (_, visit) in map.iter() {
-        versions.push(visit.0)?;
-    }
-    Ok(versions)
+    longer: K,
+    longer_again: K,
+    sooner: K,
+    sooner_again: K,
+) -> Result<(usize, usize), AllocError> {
+    let mut map = LastingMap::new(alloc);
+    map.put(longer, Visit(1, 1_000))?;
+    map.put(sooner, Visit(1, 1_000))?;
+    map.mark();
+    map.put(longer_again, Visit(2, 3_000))?;
+    map.put(sooner_again, Visit(2, 500))?;
+    map.settle();
+    map.purge(1_000);
+    let some = map.len();
+    map.purge(3_000);
+    let rest = map.len();
+    Ok((some, rest))
 }
 
 #[test]
 fn newer_values_last_to_their_own_end(rt: HostRuntime) -> Result<(), Fail> {
-    let mut map = LastingMap::new(rt.alloc());
-    for number in 0..100 {
-        map.put(Name(number), Visit(u64::from(number), 1_000))?;
-    }
-    map.put(Name(7), Visit(7, 5_000))?;
-    map.put(Name(8), Visit(1_008, 2_000))?;
-    map.put(Name(9), Visit(1_009, 500))?;
-    map.mark();
-    map.put(Name(10), Visit(1_010, 3_000))?;
-    map.put(Name(200), Visit(1_200, 3_000))?;
-    map.undo();
-    map.mark();
-    map.put(Name(201), Visit(1_201, 3_000))?;
-    map.settle();
-    map.purge(499);
-    assert_eq!(rt; map.len(), 101);
-    map.purge(500);
-    assert_eq!(rt; map.len(), 100);
-    map.purge(1_000);
-    assert_eq!(rt;
-        versions(rt.alloc(), &map)?.as_slice(),
-        [1_008, 1_201].as_slice()
-    );
-    map.purge(2_999);
-    assert_eq!(rt; versions(rt.alloc(), &map)?.as_slice(), [1_201].as_slice());
-    map.purge(3_000);
-    assert_eq!(rt; map.len(), 0);
+    let left = left(rt.alloc(), Name(7), Name(7), Name(8), Name(8))?;
+    assert_eq!(rt; left, (1, 0));
     Ok(())
 }
 

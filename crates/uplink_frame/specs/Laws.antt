@@ -1,9 +1,11 @@
 -- The laws of headers and information frames.
-use Rattle.std.specs.Prelude.{◌≡◌, ℕ, ◌≤◌, ◌+◌, ◌<◌, ◌↔◌, IsTrue, true, List, length, drop, map, sum_by, All}
+use Rattle.std.specs.Prelude.{◌≡◌, ℕ, ◌≤◌, ◌+◌, ◌<◌, ◌↔◌, IsTrue, true, List, length, drop, map}
+use Rattle.std.specs.Prelude.{sum_by, All}
 use Rattle.bit_fields.specs.Bits.{AreBytes}
 use Rattle.uplink_frame.specs.declared.header.UplinkHeader.{UplinkHeader}
 use Rattle.uplink_frame.specs.UplinkFrame.{InformationFrame, FitsFrame, FitsHeader, header_in}
-use Rattle.uplink_frame.specs.UplinkFrame.{information_frames, spelled_frames, payload_of, fisb_frame}
+use Rattle.uplink_frame.specs.UplinkFrame.{information_frames, spelled_frames, payload_of}
+use Rattle.uplink_frame.specs.UplinkFrame.{fisb_frame}
 use Rattle.uplink_frame.specs.UplinkFrame.{frame_room, payload_length}
 use Rattle.uplink_frame.specs.declared.station.StationId.{StationId}
 use Rattle.uplink_frame.specs.Station.{station_of, header_of, same_station, FitsStation}
@@ -43,14 +45,16 @@ pub record BodiesReadBack (station : StationId) (slot : ℕ) (bodies : List (Lis
   pub payload : ReadsBack (header_of station slot) (map fisb_frame bodies)
   pub station_back :
       station_of (header_in (payload_of (header_of station slot) (map fisb_frame bodies))) ≡ station
-  pub slot_back : (header_in (payload_of (header_of station slot) (map fisb_frame bodies))).slot ≡ slot
+  pub slot_back : (header_in (payload_of (header_of station slot) (map fisb_frame bodies))).slot
+      ≡ slot
   pub valid :
       (header_in (payload_of (header_of station slot) (map fisb_frame bodies))).app_valid ≡ true
 
 -- bodies that fit a payload read back from that of a station, in a slot from 0 to 31
 abbrev pub BodiesComeBack : Type 0
 BodiesComeBack = (station : StationId) (slot : ℕ) (bodies : List (List ℕ))
-    → FitsStation station → slot < 32 → All IsBody bodies → frames_size bodies ≤ frame_room → BodiesReadBack station slot bodies
+    → FitsStation station → slot < 32 → All IsBody bodies → frames_size bodies ≤ frame_room
+    → BodiesReadBack station slot bodies
 
 -- the bytes of FIS-B frames are as many as that
 abbrev pub FramesHaveSize : Type 0

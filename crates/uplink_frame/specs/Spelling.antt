@@ -1,9 +1,10 @@
--- Which information frames some bytes begin with, as the format states it: no field is looked for here.
+-- Which information frames some bytes begin with, as the format states it: no field is looked for
+-- here.
 use Rattle.std.specs.Prelude.{◌≡◌, ℕ, ◌<◌, ◌^◌, List, [], ◌∷◌, ◌++◌, length}
 use Rattle.uplink_frame.specs.UplinkFrame.{InformationFrame, frame_front}
 
--- the bytes begin with two that have this length and this type, with any reserved bits between them,
--- and others stand behind
+-- the bytes begin with two that have this length and this type, with any reserved bits between
+-- them, and others stand behind
 pub record BeginsWith (size kind : ℕ) (bytes behind : List ℕ) : Type 0 where
   pub size_fits : size < 2 ^ 9
   pub kind_fits : kind < 2 ^ 4
@@ -11,8 +12,8 @@ pub record BeginsWith (size kind : ℕ) (bytes behind : List ℕ) : Type 0 where
   pub reserved_fits : reserved < 2 ^ 3
   pub bits : bytes ≡ frame_front size reserved kind ++ behind
 
--- the list of frames ends here: fewer than two bytes are left, or length and type are both 0, or the
--- length is more than the bytes left after the two
+-- the list of frames ends here: fewer than two bytes are left, or length and type are both 0, or
+-- the length is more than the bytes left after the two
 pub data IsEnd (bytes : List ℕ) : Type 0 where
   few_left : length bytes < 2 → IsEnd bytes
   zeros : (behind : List ℕ) → BeginsWith 0 0 bytes behind → IsEnd bytes

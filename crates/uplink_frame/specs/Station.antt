@@ -30,7 +30,8 @@ same_flag a b = if a then b else not b
 -- whether two stations are the same in each field
 abbrev pub same_station : StationId → StationId → Bool
 same_station a b =
-    a.lat == b.lat && a.lon == b.lon && same_flag a.position_valid b.position_valid && a.site == b.site
+    a.lat == b.lat && a.lon == b.lon && same_flag a.position_valid b.position_valid
+    && a.site == b.site
 
 -- each number fits its field of a header
 pub record FitsStation (station : StationId) : Type 0 where

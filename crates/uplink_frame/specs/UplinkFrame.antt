@@ -105,7 +105,8 @@ spelled_frames frames = flat_map information_frame frames
 
 -- the application data of information frames: what they leave of the room is zeros
 abbrev pub application_data : List InformationFrame → List ℕ
-application_data frames = spelled_frames frames ++ replicate (frame_room - length (spelled_frames frames)) 0
+application_data frames =
+    spelled_frames frames ++ replicate (frame_room - length (spelled_frames frames)) 0
 
 -- the payload of a header and of information frames
 unfoldable pub payload_of : UplinkHeader → List InformationFrame → List ℕ

@@ -39,7 +39,9 @@ fn with_data(data: &[u8]) -> [u8; 432] {
 
 // What each information frame of a payload is, as its type and the length of its body.
 fn outlines(alloc: Global, payload: &[u8; 432]) -> Result<Vec<(u8, usize)>, AllocError>
-    ensures { IfOk result (λ found. found.items ≡ map (λ f. (f.kind, length f.body)) (information_frames payload.now)) }
+    ensures { IfOk result
+        (λ found. found.items
+        ≡ map (λ f. (f.kind, length f.body)) (information_frames payload.now)) }
 {
     let mut found = Vec::new(alloc);
     for frame in frames(payload) {

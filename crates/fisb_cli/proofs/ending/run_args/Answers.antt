@@ -1,5 +1,5 @@
 use Rattle.std.proofs.Common.{IsSomeAnd, map, string_bytes, refl, sym, ◌∙◌, subst}
-use Rattle.fisb_app.specs.Command.{command_named, IsUnbuilt}
+use Rattle.fisb_app.specs.Command.{command_named, RefusesInWriting}
 use Rattle.run_core.specs.Run.{ends, task_of}
 use Rattle.fisb_app.specs.Work.{link_work, ground_work, promised_work}
 use Rattle.run_core.specs.declared.status.Status.TheVariants.{NoMemory}
@@ -11,7 +11,7 @@ pub returns-in-Ok-words-clause-unbuilt : goal.returns-in-Ok-words-clause-unbuilt
 returns-in-Ok-words-clause-unbuilt g c =
     rw c.in-Ok.is (λ is_unbuilt.
     let words = c.as_slice.ensures.value ∙ c.in-Ok-words.ensures in
-    let refused = of-the-value _ c.run.ensures.unbuilt (subst (λ ws. IsSomeAnd (command_named (map string_bytes ws)) IsUnbuilt) (sym words) is_unbuilt) in
+    let refused = of-the-value _ c.run.ensures.unbuilt (subst (λ ws. IsSomeAnd (command_named (map string_bytes ws)) RefusesInWriting) (sym words) is_unbuilt) in
     (refused.0, (c.run.result, c.code.ensures, refused.1)))
 
 pub returns-in-Err-words-clause-unbuilt : goal.returns-in-Err-words-clause-unbuilt
