@@ -29,8 +29,8 @@ pub record CountsDifferences : Type 0 where
   pub none : (word : List ℕ) → differences word word ≡ 0
   pub window :
       (first many : ℕ) (word other : List ℕ) → length word ≡ length other
-      → ((k : ℕ) → k < length word → (k < first) ⊎ (first + many ≤ k)
-      → slice_index word k ≡ slice_index other k)
+      → ((k : ℕ) → k < length word → (k < first) ⊎ (first + many ≤ k) →
+      slice_index word k ≡ slice_index other k)
       → differences word other ≤ many
 
 -- at most one code word is near a word

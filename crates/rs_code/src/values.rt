@@ -84,10 +84,8 @@ pub(crate) fn add_errors<const N: usize>(
     requires first { first ≤ 255 }
     ensures { (errors : List ℕ) → length errors ≡ length places.now →
         ((i : ℕ) → slice_index errors i < 256) →
-        ((i : ℕ) → i < length errors →
-        element_product (slice_index errors i)
-        (element_power 2 (first * slice_index places.now i))
-        ≡ slice_index values.now i) →
+        ((i : ℕ) → i < length errors → element_product (slice_index errors i)
+        (element_power 2 (first * slice_index places.now i)) ≡ slice_index values.now i) →
         word.new ≡ with_errors word.old places.now errors }
 {
     field_laws::<UatTables>();
