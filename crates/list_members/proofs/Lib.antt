@@ -1,3 +1,4 @@
 pub mod Members
 pub mod ListMembers
 pub mod Ranges
+pub mod Tests

@@ -11,6 +11,7 @@ use Rattle.std.proofs.lemmas.Bool.Decides.{eqb_tells}
 use Rattle.list_members.proofs.Ranges.{all_in}
 use Rattle.undo_map.specs.Ends.{HasAdded, HasLeft, KeepsPlaces}
 use Rattle.undo_map.specs.Marked.{Marked}
+use Rattle.uplink_frame.specs.Laws.{StationsAreTold}
 use Rattle.segment_core.specs.Arrival.{other_numbers}
 use Rattle.segment_core.specs.Ends.{HaveMarkedPlaces, HavePlaces, has_place}
 use Rattle.segment_core.specs.HeldPieces.{held_with, is_held, is_number_of, others_held}
@@ -26,10 +27,7 @@ use Rattle.segment_core.proofs.PieceNames.{agrees, same-is, same-self}
 abbrev pub MarkedPieces : Type 0
 MarkedPieces = Marked PieceName (Option (List ℕ))
 
--- what is held in the first entry, and what in the others
-held-first : (e : PieceName × Option (List ℕ)) (es : Pieces) → is_some (kept_under (e ∷ es) e.0) ≡ true
-held-first e es = rw (same-self e.0) refl
-
+-- what is held in the other entries
 held-later : (e : PieceName × Option (List ℕ)) (es : Pieces) (q : PieceName) → is_some (kept_under es q) ≡ true
     → is_some (kept_under (e ∷ es) q) ≡ true
 held-later e es q some = elim (cases_Bool (same_piece q e.0)) [
@@ -53,68 +51,10 @@ later-place longest moment (p ∷ places) q all some =
       | inr more ↦ later-place longest moment places q all.1 more
     ]
 
--- and so all pieces live
-pub none-stale : (longest : Longest) (moment : ℕ) (places : List (ℕ × PieceName)) (pieces : Pieces)
-    → AllByRecursion (λ place. moment < place.0) places → HavePlaces longest places pieces
-    → live_pieces longest moment pieces ≡ pieces
-none-stale longest moment places [] all placed = refl
-none-stale longest moment places (e ∷ es) all placed =
-    let before = later-place longest moment places e.0 all (placed e.0 (held-first e es)) in
-    let lives : is_live longest moment e.0.product e.0.version ≡ true =
-    lt-ltb moment (e.0.version + longest_of longest e.0.product) before in
-    rw lives
-    (ap (λ (more : Pieces). e ∷ more)
-    (none-stale longest moment places es all (λ q some. placed q (held-later e es q some))))
-
 pub places-kept : (longest : Longest) (old new : List (ℕ × PieceName)) (pieces : Pieces) → KeepsPlaces old new
     → HavePlaces longest old pieces → HavePlaces longest new pieces
 places-kept longest old new pieces kept placed q some =
     kept (λ place. same_piece q place.1 && nat_le place.0 (q.version + longest_of longest q.product)) (placed q some)
-
--- a place that is added for a name is its place
-pub place-added : (longest : Longest) (end : ℕ) (name : PieceName) (places : List (ℕ × PieceName))
-    → end ≤ name.version + longest_of longest name.product → HasAdded (end, name) places
-    → has_place longest places name ≡ true
-place-added longest end name places before added =
-    added (λ place. same_piece name place.1 && nat_le place.0 (name.version + longest_of longest name.product))
-    (rw (same-self name) (le-leb end (name.version + longest_of longest name.product) before))
-
--- what holds of a name, and of each that was held, holds of each that is held with it
-each-with : (P : PieceName → Type 0) (pieces : Pieces) (name q : PieceName) (payload : List ℕ) → P name
-    → ((k : PieceName) → is_some (kept_under pieces k) ≡ true → P k)
-    → is_some (held_with pieces name payload q) ≡ true → P q
-each-with P pieces name q payload own before some = elim (cases_Bool (is_some (kept_under pieces name))) [
-  | inl old ↦ before q (sym (ap is_some (cond-true _ (kept_under pieces q) _ old)) ∙ some)
-  | inr new ↦ elim (cases_Bool (others_held pieces name)) [
-    | inl all ↦ elim (cases_Bool (is_number_of name q)) [
-      | inl is ↦
-          let both = and_parts _ _ is in
-          let parts = and_parts _ _ both.0 in
-          let same : q ≡ with_number name q.number = same-is q (with_number name q.number) parts.0 in
-          subst P (sym same) (elim (eqb_tells q.number name.number) [
-            | inl this ↦ subst P (sym (ap (with_number name) this.1)) own
-            | inr other ↦
-                let there = others-in (fields_of name) q.number (leb-true 1 q.number parts.1) (leb-true q.number name.count both.1)
-                other.1 in
-                before (with_number name q.number)
-                (all_in (is_held pieces name) q.number (other_numbers (fields_of name)) all there)
-          ])
-      | inr not ↦ before q (let was = rw (new, all, not) at some in was)
-    ]
-    | inr waits ↦ elim (cases_Bool (same_piece q name)) [
-      | inl is ↦ subst P (sym (same-is q name is)) own
-      | inr not ↦ before q (let was = rw (new, waits, not) at some in was)
-    ]
-  ]
-]
-
-pub places-with : (longest : Longest) (old new : List (ℕ × PieceName)) (pieces later : Pieces) (name : PieceName)
-    (payload : List ℕ)
-    → ((q : PieceName) → kept_under later q ≡ held_with pieces name payload q) → KeepsPlaces old new
-    → has_place longest new name ≡ true → HavePlaces longest old pieces → HavePlaces longest new later
-places-with longest old new pieces later name payload becomes kept own placed q some =
-    each-with (λ (k : PieceName). has_place longest new k ≡ true) pieces name q payload own
-    (places-kept longest old new pieces kept placed) (ap is_some (sym (becomes q)) ∙ some)
 
 -- a name that is removed, by the order of the names
 removed-found : (name : PieceName) (pieces : Pieces)
@@ -129,63 +69,126 @@ removed-found name (e ∷ es) = elim (cases_Bool (same_piece name e.0)) [
       rw (other, not) (ap (λ (more : Pieces). e ∷ more) (removed-found name es))
 ]
 
-stale-removed : (longest : Longest) (moment : ℕ) (name : PieceName) (pieces : Pieces)
-    → is_live longest moment name.product name.version ≡ false
-    → live_pieces longest moment (remove_entry (same_piece name) pieces) ≡ live_pieces longest moment pieces
-stale-removed longest moment name [] stale = refl
-stale-removed longest moment name (e ∷ es) stale = elim (cases_Bool (same_piece name e.0)) [
-  | inl is ↦
-      let own : is_live longest moment e.0.product e.0.version ≡ false =
-      subst (λ (k : PieceName). is_live longest moment k.product k.version ≡ false) (same-is name e.0 is) stale in
-      rw (is, own) refl
-  | inr not ↦ rw not (elim (cases_Bool (is_live longest moment e.0.product e.0.version)) [
-    | inl lives ↦ rw lives (ap (λ (more : Pieces). e ∷ more) (stale-removed longest moment name es stale))
-    | inr over ↦ rw over (stale-removed longest moment name es stale)
-  ])
-]
-
-pub live-removed : (longest : Longest) (moment : ℕ) (name : PieceName) (pieces later : Pieces)
-    → is_live longest moment name.product name.version ≡ false
-    → later ≡ remove_entry (is_at (order.ghosts.cmp name)) pieces
-    → live_pieces longest moment later ≡ live_pieces longest moment pieces
-live-removed longest moment name pieces later stale is =
-    ap (live_pieces longest moment) (is ∙ removed-found name pieces) ∙ stale-removed longest moment name pieces stale
-
 -- the places of the others, where one of a name is taken out
 other-left : (longest : Longest) (end : ℕ) (name q : PieceName) (old new : List (ℕ × PieceName)) → HasLeft (end, name) old new
     → same_piece q name ≡ false → has_place longest old q ≡ true → has_place longest new q ≡ true
 other-left longest end name q old new left not some =
     left (λ place. same_piece q place.1 && nat_le place.0 (q.version + longest_of longest q.product)) (rw not refl) some
 
--- the name is removed
-pub places-removed : (longest : Longest) (end : ℕ) (name : PieceName) (old new : List (ℕ × PieceName)) (pieces later : Pieces)
-    → IsStrictlySortedBy order.ghosts.cmp (keys_of pieces) → later ≡ remove_entry (is_at (order.ghosts.cmp name)) pieces
-    → HasLeft (end, name) old new → HavePlaces longest old pieces → HavePlaces longest new later
-places-removed longest end name old new pieces later sorted is left placed q some =
-    let without = held-without name q pieces (once-sorted pieces sorted) in
-    let held : is_some (cond (same_piece name q) None (kept_under pieces q)) ≡ true =
-    sym (ap is_some (ap (λ (ps : Pieces). kept_under ps q) (is ∙ removed-found name pieces) ∙ without)) ∙ some in
-    elim (cases_Bool (same_piece name q)) [
-      | inl same ↦ let none : false ≡ true = rw same at held in cc none
-      | inr other ↦
-          let was : is_some (kept_under pieces q) ≡ true = rw other at held in
-          let turned : same_piece q name ≡ false = same-turned q name ∙ other in
-          other-left longest end name q old new left turned (placed q was)
-    ]
+module _ (told : StationsAreTold) where
+  -- what is held in the first entry
+  held-first : (e : PieceName × Option (List ℕ)) (es : Pieces) → is_some (kept_under (e ∷ es) e.0) ≡ true
+  held-first e es = rw (same-self told e.0) refl
 
--- the name is given a place again
-pub places-again : (longest : Longest) (end again : ℕ) (name : PieceName) (old left new : List (ℕ × PieceName)) (pieces : Pieces)
-    → again ≤ name.version + longest_of longest name.product → HasLeft (end, name) old left → KeepsPlaces left new
-    → HasAdded (again, name) new → HavePlaces longest old pieces → HavePlaces longest new pieces
-places-again longest end again name old left new pieces before taken kept added placed q some =
-    elim (cases_Bool (same_piece q name)) [
-      | inl same ↦
-          subst (λ (k : PieceName). has_place longest new k ≡ true) (sym (same-is q name same))
-          (place-added longest again name new before added)
-      | inr other ↦
-          kept (λ place. same_piece q place.1 && nat_le place.0 (q.version + longest_of longest q.product))
-          (other-left longest end name q old left taken other (placed q some))
+  -- and so all pieces live
+  pub none-stale : (longest : Longest) (moment : ℕ) (places : List (ℕ × PieceName)) (pieces : Pieces)
+      → AllByRecursion (λ place. moment < place.0) places → HavePlaces longest places pieces
+      → live_pieces longest moment pieces ≡ pieces
+  none-stale longest moment places [] all placed = refl
+  none-stale longest moment places (e ∷ es) all placed =
+      let before = later-place longest moment places e.0 all (placed e.0 (held-first e es)) in
+      let lives : is_live longest moment e.0.product e.0.version ≡ true =
+      lt-ltb moment (e.0.version + longest_of longest e.0.product) before in
+      rw lives
+      (ap (λ (more : Pieces). e ∷ more)
+      (none-stale longest moment places es all (λ q some. placed q (held-later e es q some))))
+
+  -- a place that is added for a name is its place
+  pub place-added : (longest : Longest) (end : ℕ) (name : PieceName) (places : List (ℕ × PieceName))
+      → end ≤ name.version + longest_of longest name.product → HasAdded (end, name) places
+      → has_place longest places name ≡ true
+  place-added longest end name places before added =
+      added (λ place. same_piece name place.1 && nat_le place.0 (name.version + longest_of longest name.product))
+      (rw (same-self told name) (le-leb end (name.version + longest_of longest name.product) before))
+
+  -- what holds of a name, and of each that was held, holds of each that is held with it
+  each-with : (P : PieceName → Type 0) (pieces : Pieces) (name q : PieceName) (payload : List ℕ) → P name
+      → ((k : PieceName) → is_some (kept_under pieces k) ≡ true → P k)
+      → is_some (held_with pieces name payload q) ≡ true → P q
+  each-with P pieces name q payload own before some = elim (cases_Bool (is_some (kept_under pieces name))) [
+    | inl old ↦ before q (sym (ap is_some (cond-true _ (kept_under pieces q) _ old)) ∙ some)
+    | inr new ↦ elim (cases_Bool (others_held pieces name)) [
+      | inl all ↦ elim (cases_Bool (is_number_of name q)) [
+        | inl is ↦
+            let both = and_parts _ _ is in
+            let parts = and_parts _ _ both.0 in
+            let same : q ≡ with_number name q.number = same-is told q (with_number name q.number) parts.0 in
+            subst P (sym same) (elim (eqb_tells q.number name.number) [
+              | inl this ↦ subst P (sym (ap (with_number name) this.1)) own
+              | inr other ↦
+                  let there = others-in (fields_of name) q.number (leb-true 1 q.number parts.1) (leb-true q.number name.count both.1)
+                  other.1 in
+                  before (with_number name q.number)
+                  (all_in (is_held pieces name) q.number (other_numbers (fields_of name)) all there)
+            ])
+        | inr not ↦ before q (let was = rw (new, all, not) at some in was)
+      ]
+      | inr waits ↦ elim (cases_Bool (same_piece q name)) [
+        | inl is ↦ subst P (sym (same-is told q name is)) own
+        | inr not ↦ before q (let was = rw (new, waits, not) at some in was)
+      ]
     ]
+  ]
+
+  pub places-with : (longest : Longest) (old new : List (ℕ × PieceName)) (pieces later : Pieces) (name : PieceName)
+      (payload : List ℕ)
+      → ((q : PieceName) → kept_under later q ≡ held_with pieces name payload q) → KeepsPlaces old new
+      → has_place longest new name ≡ true → HavePlaces longest old pieces → HavePlaces longest new later
+  places-with longest old new pieces later name payload becomes kept own placed q some =
+      each-with (λ (k : PieceName). has_place longest new k ≡ true) pieces name q payload own
+      (places-kept longest old new pieces kept placed) (ap is_some (sym (becomes q)) ∙ some)
+
+  stale-removed : (longest : Longest) (moment : ℕ) (name : PieceName) (pieces : Pieces)
+      → is_live longest moment name.product name.version ≡ false
+      → live_pieces longest moment (remove_entry (same_piece name) pieces) ≡ live_pieces longest moment pieces
+  stale-removed longest moment name [] stale = refl
+  stale-removed longest moment name (e ∷ es) stale = elim (cases_Bool (same_piece name e.0)) [
+    | inl is ↦
+        let own : is_live longest moment e.0.product e.0.version ≡ false =
+        subst (λ (k : PieceName). is_live longest moment k.product k.version ≡ false) (same-is told name e.0 is) stale in
+        rw (is, own) refl
+    | inr not ↦ rw not (elim (cases_Bool (is_live longest moment e.0.product e.0.version)) [
+      | inl lives ↦ rw lives (ap (λ (more : Pieces). e ∷ more) (stale-removed longest moment name es stale))
+      | inr over ↦ rw over (stale-removed longest moment name es stale)
+    ])
+  ]
+
+  pub live-removed : (longest : Longest) (moment : ℕ) (name : PieceName) (pieces later : Pieces)
+      → is_live longest moment name.product name.version ≡ false
+      → later ≡ remove_entry (is_at (order.ghosts.cmp name)) pieces
+      → live_pieces longest moment later ≡ live_pieces longest moment pieces
+  live-removed longest moment name pieces later stale is =
+      ap (live_pieces longest moment) (is ∙ removed-found name pieces) ∙ stale-removed longest moment name pieces stale
+
+  -- the name is removed
+  pub places-removed : (longest : Longest) (end : ℕ) (name : PieceName) (old new : List (ℕ × PieceName)) (pieces later : Pieces)
+      → IsStrictlySortedBy order.ghosts.cmp (keys_of pieces) → later ≡ remove_entry (is_at (order.ghosts.cmp name)) pieces
+      → HasLeft (end, name) old new → HavePlaces longest old pieces → HavePlaces longest new later
+  places-removed longest end name old new pieces later sorted is left placed q some =
+      let without = held-without told name q pieces (once-sorted pieces sorted) in
+      let held : is_some (cond (same_piece name q) None (kept_under pieces q)) ≡ true =
+      sym (ap is_some (ap (λ (ps : Pieces). kept_under ps q) (is ∙ removed-found name pieces) ∙ without)) ∙ some in
+      elim (cases_Bool (same_piece name q)) [
+        | inl same ↦ let none : false ≡ true = rw same at held in cc none
+        | inr other ↦
+            let was : is_some (kept_under pieces q) ≡ true = rw other at held in
+            let turned : same_piece q name ≡ false = same-turned told q name ∙ other in
+            other-left longest end name q old new left turned (placed q was)
+      ]
+
+  -- the name is given a place again
+  pub places-again : (longest : Longest) (end again : ℕ) (name : PieceName) (old left new : List (ℕ × PieceName)) (pieces : Pieces)
+      → again ≤ name.version + longest_of longest name.product → HasLeft (end, name) old left → KeepsPlaces left new
+      → HasAdded (again, name) new → HavePlaces longest old pieces → HavePlaces longest new pieces
+  places-again longest end again name old left new pieces before taken kept added placed q some =
+      elim (cases_Bool (same_piece q name)) [
+        | inl same ↦
+            subst (λ (k : PieceName). has_place longest new k ≡ true) (sym (same-is told q name same))
+            (place-added longest again name new before added)
+        | inr other ↦
+            kept (λ place. same_piece q place.1 && nat_le place.0 (q.version + longest_of longest q.product))
+            (other-left longest end name q old left taken other (placed q some))
+      ]
 
 pub marked-taken : (longest : Longest) (before places : List (ℕ × PieceName)) (old new : MarkedPieces) → KeepsPlaces before places
     → new.mark ≡ old.mark → HavePlaces longest places new.entries

@@ -10,6 +10,7 @@ use Rattle.std.proofs.lemmas.List.Folds.{find-append, list_any-append}
 use Rattle.list_members.specs.Membership.{IsIn}
 use Rattle.apdu_core.specs.declared.unit.Seg.{Seg}
 use Rattle.uplink_frame.specs.Station.{same_station}
+use Rattle.uplink_frame.specs.Laws.{StationsAreTold}
 use Rattle.segment_core.specs.Arrival.{Arrival, is_piece, first_piece, has_piece, bytes_of_piece, joined_payload, other_numbers}
 use Rattle.segment_core.specs.Kept.{Pieces, IsNumbered, kept_under, kept_of, kept_piece, was_whole, with_number, piece_name}
 use Rattle.segment_core.specs.Kept.{arrival_named, fields_of, same_piece}
@@ -107,7 +108,7 @@ pub record IsKnown (pieces : Pieces) (taken : List Arrival) (a : Arrival) (s : S
   pub keeps : (n : ℕ) → 1 ≤ n → n ≤ s.count → kept_under pieces (with_number (piece_name a s) n)
       ≡ kept_of taken (with_number (piece_name a s) n)
 
-module _ (pieces : Pieces) (taken : List Arrival) (a : Arrival) (s : Seg) (known : IsKnown pieces taken a s) where
+module _ (told : StationsAreTold) (pieces : Pieces) (taken : List Arrival) (a : Arrival) (s : Seg) (known : IsKnown pieces taken a s) where
   held-has : (n : ℕ) → 1 ≤ n → n ≤ s.count → is_held pieces (piece_name a s) n ≡ has taken (piece_name a s) n
   held-has n least most = ap is_some (known.keeps n least most)
       ∙ mapped_some (kept_piece (was_whole taken (with_number (piece_name a s) n))) (first taken (piece_name a s) n)
@@ -123,13 +124,13 @@ module _ (pieces : Pieces) (taken : List Arrival) (a : Arrival) (s : Seg) (known
   is-own : (n : ℕ) → is (piece_name a s) n a ≡ (n == s.number)
   is-own n = bool_same (is (piece_name a s) n a) (n == s.number)
       (λ (e : is (piece_name a s) n a ≡ true).
-      let same = same-is (with_number (piece_name a s) n) (piece_name a s)
+      let same = same-is told (with_number (piece_name a s) n) (piece_name a s)
       (sym (is-named (piece_name a s) n a s known.segmentation_is) ∙ e) in
       eq-eqb n s.number (ap (λ (p : PieceName). p.number) same))
       (λ (e : (n == s.number) ≡ true).
       is-named (piece_name a s) n a s known.segmentation_is
       ∙ ap (λ (k : ℕ). same_piece (with_number (piece_name a s) k) (piece_name a s)) (eqb-true n s.number e)
-      ∙ same-self (piece_name a s))
+      ∙ same-self told (piece_name a s))
 
   -- with others missing, no number of the file was whole before
   not_whole : has taken (piece_name a s) s.number ≡ false → was_whole taken (piece_name a s) ≡ false
@@ -237,7 +238,7 @@ module _ (pieces : Pieces) (taken : List Arrival) (a : Arrival) (s : Seg) (known
       let some : is_some (first (taken ++ a ∷ []) (piece_name a s) n) ≡ true = has-first (taken ++ a ∷ [])
       (piece_name a s) n ∙ each n least most in
       let is_number : is_number_of (piece_name a s) (with_number (piece_name a s) n) ≡ true =
-      and_from _ _ (and_from _ _ (same-self (with_number (piece_name a s) n)) (le-leb 1 n least)) (le-leb n s.count most) in
+      and_from _ _ (and_from _ _ (same-self told (with_number (piece_name a s) n)) (le-leb 1 n least)) (le-leb n s.count most) in
       rw (here, new, others, all, is_number, whole) (sym (alone_kept (first (taken ++ a ∷ []) (piece_name a s) n) some))
 
   keeps_waits : has taken (piece_name a s) s.number ≡ false → list_all (has taken (piece_name a s)) (other_numbers s) ≡ false
@@ -254,7 +255,7 @@ module _ (pieces : Pieces) (taken : List Arrival) (a : Arrival) (s : Seg) (known
         | inl own ↦
             let at : n ≡ s.number = eqb-true n s.number own in
             let same : same_piece (with_number (piece_name a s) n) (piece_name a s) ≡ true =
-            ap (λ (k : ℕ). same_piece (with_number (piece_name a s) k) (piece_name a s)) at ∙ same-self (piece_name a s) in
+            ap (λ (k : ℕ). same_piece (with_number (piece_name a s) k) (piece_name a s)) at ∙ same-self told (piece_name a s) in
             let first_is : first (taken ++ a ∷ []) (piece_name a s) n ≡ Some a =
             ap (first (taken ++ a ∷ []) (piece_name a s)) at ∙ first-own new in
             rw (here, new, others, waits, same, unwhole, first_is) refl

@@ -21,6 +21,7 @@ use fisb_time::Moment;
 use fisb_wire::Bytes;
 use std::alloc::{AllocError, Global};
 use undo_map::{EndQueue, UndoMap};
+use uplink_frame::stations_are_told;
 
 /// Takes an arrival that is not stale: what it brings, and what is held then.
 pub(crate) fn take_live(
@@ -76,6 +77,7 @@ fn take_piece(
     ensures placed { HavePlaces longest.now ends.old.places pieces.old.entries
         → HavePlaces longest.now ends.new.places pieces.new.entries }
 {
+    stations_are_told();
     if is_held(pieces, &name) {
         return Ok(Taken::Again);
     }
@@ -238,6 +240,7 @@ pub(crate) fn drop_stale(
     while let Some((_, name)) = ends.take_ended(now) {
         drop_name(pieces, ends, longest, name, moment);
     }
+    stations_are_told();
     names_stand_once(pieces);
 }
 
@@ -261,6 +264,7 @@ fn drop_name(
         → HavePlaces longest.now ends.new.places pieces.new.entries }
     ensures due { due_places moment ends.new.places ≡ due_places moment ends.old.places }
 {
+    stations_are_told();
     if is_live(longest, moment, name.product, name.version) {
         ends.add_again(end_of(longest, name.product, name.version), name);
         return;

@@ -30,6 +30,6 @@ returns-clause-pieces c =
     subst (λ (m : ℕ). All (λ (place : ℕ × PieceName). m < place.0) places) c.seconds-now.ensures.value
     (subst (All (λ (place : ℕ × PieceName). c.seconds-now.result < place.0)) c.in_default.ensures.unchanged
     c.in_default.ensures.none) in
-    sym (none-stale c.args.longest.now c.args.moment places c.loop-name.pieces.entries
+    sym (none-stale c.stations_are_told.ensures c.args.longest.now c.args.moment places c.loop-name.pieces.entries
     (recursion_from_All (λ (place : ℕ × PieceName). c.args.moment < place.0) places none) c.loop-name.invariant.placed)
     ∙ c.loop-name.invariant.pieces
