@@ -4,6 +4,7 @@ use Rattle.std.specs.Ordering.{nat_cmp, is_eq}
 use Rattle.std.specs.BTreeMap.{is_at}
 use Rattle.std.proofs.lemmas.Bool.{cases_Bool}
 use Rattle.std.proofs.lemmas.Bool.Decides.{nat_tests}
+use Rattle.list_members.proofs.Tests.{tied_numbers}
 use Rattle.text_reports.specs.TextKey.{TextKey, same_text_key}
 use Rattle.picture_core.specs.Key.{Key, radar_block, text_report}
 use Rattle.radar_core.specs.declared.key.BlockKey.{BlockKey}
@@ -16,7 +17,7 @@ use Rattle.ground_core.specs.declared.numbered_key.NumberedKey.{NumberedKey}
 use Rattle.ground_core.specs.contracts.numbered_key.NumberedKeyOrd.TheImpl as numbered
 use Rattle.ground_core.specs.declared.newest.Given.{Given}
 use Rattle.ground_core.proofs.KeyLemmas.{KeyLaws, text_key_is}
-use Rattle.ground_core.proofs.MapKeys.{eq_then, eq_numbers}
+use Rattle.ground_core.proofs.MapKeys.{eq_then}
 
 -- the key of the map that has another report's key
 abbrev pub with_key : NumberedKey → TextKey → NumberedKey
@@ -37,7 +38,7 @@ key_at keys a k =
       | inl t ↦ (
           let same : report_key a ≡ k = text_key_is keys (report_key a) k t in
           let numbers : a.number ≡ place_number k.place = a.numbered ∙ ap (λ (x : TextKey). place_number x.place) same in
-          rw t (and_true first ∙ eq_numbers a.number (place_number k.place) ∙ same_number a.number (place_number k.place) numbers))
+          rw t (and_true first ∙ sym (tied_numbers a.number (place_number k.place)) ∙ same_number a.number (place_number k.place) numbers))
       | inr f ↦ rw f (and_false first)
     ]) where
       and_true : (b : Bool) → (b && true) ≡ b

@@ -8,6 +8,7 @@ use Rattle.std.proofs.lemmas.List.Elements.{filter-append}
 use Rattle.life_table.specs.LifeTable.{LifeTable}
 use Rattle.uplink_frame.specs.declared.station.StationId.{StationId}
 use Rattle.uplink_frame.specs.Station.{same_station}
+use Rattle.uplink_frame.specs.Laws.{StationsAreTold}
 use Rattle.picture_core.specs.Key.{Key}
 use Rattle.ground_core.specs.Item.{Weather, Item, Segment, segments_of, segment_of, same_item, same_segment, room_of}
 use Rattle.ground_core.specs.History.{Event, accepted, fill, items, new_items, items_made, item_of}
@@ -104,11 +105,11 @@ pub record IsFilled (table : LifeTable) (station : StationId) (past : List Event
       ≡ map piece_of (waiting (items table station (fill moment slot ∷ past)) (log table station (fill moment slot ∷ past)) moment)
 
 -- what waits behind a fill: what was left, and then what was aired
-pub waiting_filled : (table : LifeTable) (station : StationId) (past : List Event) (moment slot : ℕ)
+pub waiting_filled : StationsAreTold → (table : LifeTable) (station : StationId) (past : List Event) (moment slot : ℕ)
     → waiting (items table station (fill moment slot ∷ past)) (log table station (fill moment slot ∷ past)) moment
     ≡ left 424 (waiting (items table station past) (log table station past) moment)
     ++ airing (items table station past) (log table station past) moment
-waiting_filled table station past moment slot =
+waiting_filled told table station past moment slot =
     let all : List Item = items table station past in
     let before : List Segment = segments_in (log table station past) in
     let now : List Segment = waiting all (log table station past) moment in
@@ -118,15 +119,15 @@ waiting_filled table station past moment slot =
     waiting_is (all ++ []) (log table station (fill moment slot ∷ past)) moment
     ∙ ap (λ is. filter (λ s. is_live is moment s.item) (last_places (segments_in (log table station (fill moment slot ∷ past))))) (append-nil all)
     ∙ ap (λ l. filter live (last_places l)) (log_filled table station past moment slot)
-    ∙ turned live before front (left 424 now) cut
+    ∙ turned told live before front (left 424 now) cut
 
-pub filled : KeyLaws → (table : LifeTable) (station : StationId) (past : List Event) (clock moment slot : ℕ) (old new : List Piece) → clock ≤ moment
+pub filled : StationsAreTold → KeyLaws → (table : LifeTable) (station : StationId) (past : List Event) (clock moment slot : ℕ) (old new : List Piece) → clock ≤ moment
     → filter (live_by (latest_of (items table station past)) clock) old ≡ map piece_of (waiting (items table station past) (log table station past) clock)
     → filter (live_by (latest_of (items table station past)) moment) new
     ≡ left_pieces 424 (filter (live_by (latest_of (items table station past)) moment) old)
     ++ fitting_pieces 424 (filter (live_by (latest_of (items table station past)) moment) old)
     → IsFilled table station past moment slot old new
-filled keys table station past clock moment slot old new le e n =
+filled told keys table station past clock moment slot old new le e n =
     let all : List Item = items table station past in
     let now : List Segment = waiting all (log table station past) moment in
     let live : filter (live_by (latest_of all) moment) old ≡ map piece_of now = line_later keys table station past clock moment old le e in
@@ -136,7 +137,7 @@ filled keys table station past clock moment slot old new le e n =
           ∙ ap (λ l. l ++ fitting_pieces 424 (map piece_of now)) (sym (left_pieces_are 424 now))
           ∙ ap (λ l. map piece_of (left 424 now) ++ l) (sym (fitting_pieces_are 424 now))
           ∙ sym (map-append piece_of (left 424 now) (fitting 424 now))
-          ∙ ap (map piece_of) (sym (waiting_filled table station past moment slot));
+          ∙ ap (map piece_of) (sym (waiting_filled told table station past moment slot));
     }
 
 and_false : (a b : Bool) → b ≡ false → (a && b) ≡ false
