@@ -1,7 +1,7 @@
 -- What is live of the queue is what waits: at a later moment, behind a frame that was filled, and behind an item that was given.
 use Rattle.std.proofs.Common.{◌≡◌, ℕ, zero, suc, ◌+◌, ◌-◌, ◌<◌, ◌≤◌, Bool, true, false, not, ◌&&◌, ◌==◌, nat_lt, nat_le, if◌then◌else◌, List, [], ◌∷◌, ◌++◌, length, map, filter, flat_map, Option, Some, None, refl, sym, ap, ◌∙◌, inl, inr, arith, append-nil}
 use Rattle.std.specs.List.{range_with_len}
-use Rattle.std.proofs.lemmas.Bool.{cases_Bool, lt-ltb, ltb-true, and_parts, and_from}
+use Rattle.std.proofs.lemmas.Bool.{cases_Bool, lt-ltb, ltb-true, and_parts, and_from, and_right}
 use Rattle.std.proofs.lemmas.Bool.Decides.{nat_tests}
 use Rattle.std.proofs.lemmas.List.{map-append}
 use Rattle.std.proofs.lemmas.List.Elements.{filter-append}
@@ -140,15 +140,11 @@ filled told keys table station past clock moment slot old new le e n =
           ∙ ap (map piece_of) (sym (waiting_filled told table station past moment slot));
     }
 
-and_false : (a b : Bool) → b ≡ false → (a && b) ≡ false
-and_false true b h = h
-and_false false b h = refl
-
 -- segments of one item are told apart by their numbers
 none_below : (item : Item) (low at n : ℕ) → low < at → stands_in (map (segment_of item) (range_with_len at n)) (segment_of item low) ≡ false
 none_below item low at zero lt = refl
 none_below item low at (suc n) lt =
-    let head : same_segment (segment_of item low) (segment_of item at) ≡ false = and_false (same_item item item) (low == at) (grind (arith, nat_tests)) in
+    let head : same_segment (segment_of item low) (segment_of item at) ≡ false = and_right (same_item item item) (low == at) (grind (arith, nat_tests)) in
     rw head (none_below item low (at + 1) n (omega arith))
 
 once_numbers : (item : Item) (at n : ℕ) → Once (map (segment_of item) (range_with_len at n))
@@ -160,7 +156,7 @@ none_of_item : (s : Segment) (serial : ℕ) (xs : List Segment) → s.item.seria
 none_of_item s serial [] lt h = refl
 none_of_item s serial (x ∷ xs) lt h =
     let other : (s.item.serial == x.item.serial) ≡ false = rw h.0 (grind (arith, nat_tests)) in
-    let head : same_segment s x ≡ false = ap (λ b. b && (s.number == x.number)) (and_false (same_station s.item.station x.item.station) (s.item.serial == x.item.serial) other) in
+    let head : same_segment s x ≡ false = ap (λ b. b && (s.number == x.number)) (and_right (same_station s.item.station x.item.station) (s.item.serial == x.item.serial) other) in
     rw head (none_of_item s serial xs lt h.1)
 
 item_of_each : (item : Item) → Each (λ x. x.item.serial ≡ item.serial) (segments_of item)

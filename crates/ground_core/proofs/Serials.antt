@@ -1,6 +1,7 @@
 -- Items are numbered by their place, and what is logged are segments of items that were given.
 use Rattle.std.proofs.Common.{◌≡◌, ℕ, ◌+◌, ◌-◌, ◌<◌, ◌≤◌, Bool, true, false, not, ◌&&◌, ◌==◌, nat_lt, nat_le, if◌then◌else◌, List, [], ◌∷◌, ◌++◌, length, map, flat_map, Option, Some, None, refl, sym, ap, subst, ◌∙◌, inl, inr, arith, length-append}
 use Rattle.std.specs.List.{list_any}
+use Rattle.std.proofs.Math.Bool.{and-false}
 use Rattle.std.proofs.lemmas.Bool.{cases_Bool, lt-ltb}
 use Rattle.std.proofs.lemmas.Bool.Decides.{nat_tests}
 use Rattle.std.proofs.lemmas.List.{map-append}
@@ -132,10 +133,6 @@ logged table station (fill moment slot ∷ past) =
     (Each-append _ (segments_in (log table station past)) _ before
     (Each-fitting _ frame_room _ (Each-waiting _ all (log table station past) moment before))))
 
-and_false : (b : Bool) → (b && false) ≡ false
-and_false true = refl
-and_false false = refl
-
 abbrev has_serial : ℕ → Option Latest → Bool
 has_serial serial None = false
 has_serial serial (Some latest) = latest.serial == serial
@@ -193,10 +190,10 @@ ends_as serial until key (o ∷ more) before h e =
 
 lives_split : (moment serial until : ℕ) (latest : Option Latest) → EndsAs serial until latest
     → lives_as moment serial latest ≡ (nat_lt moment until && has_serial serial latest)
-lives_split moment serial until None h = sym (and_false (nat_lt moment until))
+lives_split moment serial until None h = sym (and-false (nat_lt moment until))
 lives_split moment serial until (Some latest) h = elim (cases_Bool (latest.serial == serial)) [
   | inl t ↦ ap (λ n. nat_lt moment n && (latest.serial == serial)) (h (grind (arith, nat_tests)))
-  | inr f ↦ rw f (and_false (nat_lt moment latest.until) ∙ sym (and_false (nat_lt moment until)))
+  | inr f ↦ rw f (and-false (nat_lt moment latest.until) ∙ sym (and-false (nat_lt moment until)))
 ]
 
 any_and : {X : Type 0} (b : Bool) (p : X → Bool) (xs : List X) → list_any (λ x. b && p x) xs ≡ (b && list_any p xs)
