@@ -3,8 +3,8 @@ use Rattle.std.proofs.Common.{◌≡◌, ℕ, ◌≤◌, Bool, true, false, ◌&
 use Rattle.std.proofs.Math.Path.{fun_ext}
 use Rattle.std.proofs.lemmas.Bool.{cases_Bool, le-ltb, ltb-false}
 use Rattle.picture_core.specs.Key.{Key}
+use Rattle.list_members.proofs.Ranges.{list_any_same}
 use Rattle.ground_core.specs.Piece.{Piece, Latest, HasEnded, IsKept, while_living, lives_as, live_by}
-use Rattle.ground_core.proofs.ListLemmas.{list_any-same, Each-all}
 
 ended_later : (clock moment : ℕ) (latest : Option Latest) → clock ≤ moment → HasEnded clock latest → HasEnded moment latest
 ended_later clock moment None le h = tt
@@ -44,5 +44,5 @@ lives_kept moment serial last kept (inr h) = ap (lives_as moment serial) h.0 ∙
 -- the same pieces are live
 pub live_kept : (moment : ℕ) (last kept : Key → Option Latest) → ((key : Key) → IsKept moment (last key) (kept key)) → live_by kept moment ≡ live_by last moment
 live_kept moment last kept h = fun_ext (λ (p : Piece).
-    list_any-same (λ key. lives_as moment p.serial (kept key)) (λ key. lives_as moment p.serial (last key)) p.keys
-    (Each-all _ (λ key. lives_kept moment p.serial (last key) (kept key) (h key)) p.keys))
+    list_any_same (λ key. lives_as moment p.serial (kept key)) (λ key. lives_as moment p.serial (last key)) p.keys
+    (λ key there. lives_kept moment p.serial (last key) (kept key) (h key)))

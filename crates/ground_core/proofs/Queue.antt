@@ -1,13 +1,14 @@
 -- What is live of the queue is what waits: at a later moment, behind a frame that was filled, and behind an item that was given.
 use Rattle.std.proofs.Common.{◌≡◌, ℕ, zero, suc, ◌+◌, ◌-◌, ◌<◌, ◌≤◌, Bool, true, false, not, ◌&&◌, ◌==◌, nat_lt, nat_le, if◌then◌else◌, List, [], ◌∷◌, ◌++◌, length, map, filter, flat_map, Option, Some, None, refl, sym, ap, ◌∙◌, inl, inr, arith, append-nil}
 use Rattle.std.specs.List.{range_with_len}
-use Rattle.std.proofs.lemmas.Bool.{cases_Bool, lt-ltb, ltb-true, and_parts, and_from}
+use Rattle.std.proofs.lemmas.Bool.{cases_Bool, lt-ltb, ltb-true, and_parts, and_from, and_right}
 use Rattle.std.proofs.lemmas.Bool.Decides.{nat_tests}
 use Rattle.std.proofs.lemmas.List.{map-append}
 use Rattle.std.proofs.lemmas.List.Elements.{filter-append}
 use Rattle.life_table.specs.LifeTable.{LifeTable}
 use Rattle.uplink_frame.specs.declared.station.StationId.{StationId}
 use Rattle.uplink_frame.specs.Station.{same_station}
+use Rattle.uplink_frame.specs.Laws.{StationsAreTold}
 use Rattle.picture_core.specs.Key.{Key}
 use Rattle.ground_core.specs.Item.{Weather, Item, Segment, segments_of, segment_of, same_item, same_segment, room_of}
 use Rattle.ground_core.specs.History.{Event, accepted, fill, items, new_items, items_made, item_of}
@@ -104,11 +105,11 @@ pub record IsFilled (table : LifeTable) (station : StationId) (past : List Event
       ≡ map piece_of (waiting (items table station (fill moment slot ∷ past)) (log table station (fill moment slot ∷ past)) moment)
 
 -- what waits behind a fill: what was left, and then what was aired
-pub waiting_filled : (table : LifeTable) (station : StationId) (past : List Event) (moment slot : ℕ)
+pub waiting_filled : StationsAreTold → (table : LifeTable) (station : StationId) (past : List Event) (moment slot : ℕ)
     → waiting (items table station (fill moment slot ∷ past)) (log table station (fill moment slot ∷ past)) moment
     ≡ left 424 (waiting (items table station past) (log table station past) moment)
     ++ airing (items table station past) (log table station past) moment
-waiting_filled table station past moment slot =
+waiting_filled told table station past moment slot =
     let all : List Item = items table station past in
     let before : List Segment = segments_in (log table station past) in
     let now : List Segment = waiting all (log table station past) moment in
@@ -118,15 +119,15 @@ waiting_filled table station past moment slot =
     waiting_is (all ++ []) (log table station (fill moment slot ∷ past)) moment
     ∙ ap (λ is. filter (λ s. is_live is moment s.item) (last_places (segments_in (log table station (fill moment slot ∷ past))))) (append-nil all)
     ∙ ap (λ l. filter live (last_places l)) (log_filled table station past moment slot)
-    ∙ turned live before front (left 424 now) cut
+    ∙ turned told live before front (left 424 now) cut
 
-pub filled : KeyLaws → (table : LifeTable) (station : StationId) (past : List Event) (clock moment slot : ℕ) (old new : List Piece) → clock ≤ moment
+pub filled : StationsAreTold → KeyLaws → (table : LifeTable) (station : StationId) (past : List Event) (clock moment slot : ℕ) (old new : List Piece) → clock ≤ moment
     → filter (live_by (latest_of (items table station past)) clock) old ≡ map piece_of (waiting (items table station past) (log table station past) clock)
     → filter (live_by (latest_of (items table station past)) moment) new
     ≡ left_pieces 424 (filter (live_by (latest_of (items table station past)) moment) old)
     ++ fitting_pieces 424 (filter (live_by (latest_of (items table station past)) moment) old)
     → IsFilled table station past moment slot old new
-filled keys table station past clock moment slot old new le e n =
+filled told keys table station past clock moment slot old new le e n =
     let all : List Item = items table station past in
     let now : List Segment = waiting all (log table station past) moment in
     let live : filter (live_by (latest_of all) moment) old ≡ map piece_of now = line_later keys table station past clock moment old le e in
@@ -136,18 +137,14 @@ filled keys table station past clock moment slot old new le e n =
           ∙ ap (λ l. l ++ fitting_pieces 424 (map piece_of now)) (sym (left_pieces_are 424 now))
           ∙ ap (λ l. map piece_of (left 424 now) ++ l) (sym (fitting_pieces_are 424 now))
           ∙ sym (map-append piece_of (left 424 now) (fitting 424 now))
-          ∙ ap (map piece_of) (sym (waiting_filled table station past moment slot));
+          ∙ ap (map piece_of) (sym (waiting_filled told table station past moment slot));
     }
-
-and_false : (a b : Bool) → b ≡ false → (a && b) ≡ false
-and_false true b h = h
-and_false false b h = refl
 
 -- segments of one item are told apart by their numbers
 none_below : (item : Item) (low at n : ℕ) → low < at → stands_in (map (segment_of item) (range_with_len at n)) (segment_of item low) ≡ false
 none_below item low at zero lt = refl
 none_below item low at (suc n) lt =
-    let head : same_segment (segment_of item low) (segment_of item at) ≡ false = and_false (same_item item item) (low == at) (grind (arith, nat_tests)) in
+    let head : same_segment (segment_of item low) (segment_of item at) ≡ false = and_right (same_item item item) (low == at) (grind (arith, nat_tests)) in
     rw head (none_below item low (at + 1) n (omega arith))
 
 once_numbers : (item : Item) (at n : ℕ) → Once (map (segment_of item) (range_with_len at n))
@@ -159,7 +156,7 @@ none_of_item : (s : Segment) (serial : ℕ) (xs : List Segment) → s.item.seria
 none_of_item s serial [] lt h = refl
 none_of_item s serial (x ∷ xs) lt h =
     let other : (s.item.serial == x.item.serial) ≡ false = rw h.0 (grind (arith, nat_tests)) in
-    let head : same_segment s x ≡ false = ap (λ b. b && (s.number == x.number)) (and_false (same_station s.item.station x.item.station) (s.item.serial == x.item.serial) other) in
+    let head : same_segment s x ≡ false = ap (λ b. b && (s.number == x.number)) (and_right (same_station s.item.station x.item.station) (s.item.serial == x.item.serial) other) in
     rw head (none_of_item s serial xs lt h.1)
 
 item_of_each : (item : Item) → Each (λ x. x.item.serial ≡ item.serial) (segments_of item)

@@ -6,6 +6,7 @@ use Rattle.list_members.specs.Membership.{IsIn}
 use Rattle.list_members.proofs.Members.{IsIn-before, IsIn-after, IsIn-from_filter}
 use Rattle.life_table.specs.LifeTable.{LifeTable}
 use Rattle.uplink_frame.specs.declared.station.StationId.{StationId}
+use Rattle.uplink_frame.specs.Laws.{StationsAreTold}
 use Rattle.segment_core.specs.Cutting.{PartsFitFrames}
 use Rattle.ground_core.specs.Item.{Weather, Item, Segment, room_of, segments_of, file_of, end_of}
 use Rattle.ground_core.specs.Update.{Update, text, weather_of}
@@ -252,15 +253,15 @@ logged_later : (table : LifeTable) (station : StationId) (past later : List Even
 logged_later table station past [] s h = h
 logged_later table station past (event ∷ later) s h = logged_more (items table station (later ++ past)) _ s (logged_later table station past later s h)
 
-placed : KeyLaws → PartsFitFrames → (table : LifeTable) (station : StationId) (past later : List Event) (at : ℕ) (s : Segment) (before after : List Segment)
+placed : StationsAreTold → KeyLaws → PartsFitFrames → (table : LifeTable) (station : StationId) (past later : List Event) (at : ℕ) (s : Segment) (before after : List Segment)
     → IsHistory table station (later ++ past) → AreFrom at later → IsLogged (items table station past) s
     → waiting_after table station past at ≡ before ++ s ∷ after → WaitsStill table station past s later
     → (moment : ℕ) → IsLater at moment later → is_live (items table station (later ++ past)) moment s.item ≡ true
     → IsPlaced (fills later) (bytes_of before) s (waiting_after table station (later ++ past) moment)
-placed keys fit table station past [] at s before after h f l e w moment le t =
+placed told keys fit table station past [] at s before after h f l e w moment le t =
     subst (IsPlaced 0 (bytes_of before) s) (sym (waiting_later table station past at moment le))
     (placed-filter 0 (bytes_of before) s _ (waiting_after table station past at) t (record { before = before; after = after; line_is = e; near = inl (omega arith) }))
-placed keys fit table station past (accepted given (text version chars) ∷ later) at s before after h f l e w moment le t =
+placed told keys fit table station past (accepted given (text version chars) ∷ later) at s before after h f l e w moment le t =
     let history : List Event = later ++ past in
     let all : List Item = items table station history in
     let c = clear table all given version chars h.0.is_accepted.1 in
@@ -272,40 +273,40 @@ placed keys fit table station past (accepted given (text version chars) ∷ late
     = live_before keys all item moment s refl (numbered_items table station history) m (logged_later table station past later s l)
     (ap (λ is. is_live is moment s.item) (sym items_are) ∙ t) in
     let g = waiting_given keys table station history given moment (text version chars) (text_weather c.key c.row version chars) we in
-    let old = placed keys fit table station past later at s before after h.1 f.1 l e w moment (later_more at given moment past later (accepted given (text version chars)) le h.0.not_before f.0) lived in
+    let old = placed told keys fit table station past later at s before after h.1 f.1 l e w moment (later_more at given moment past later (accepted given (text version chars)) le h.0.not_before f.0) lived in
     subst (IsPlaced (fills later) (bytes_of before) s) (sym g.1) (placed-more (fills later) (bytes_of before) s _ g.0 (placed-filter (fills later) (bytes_of before) s _ _ t old))
-placed keys fit table station past (fill now slot ∷ later) at s before after h f l e w moment le t =
+placed told keys fit table station past (fill now slot ∷ later) at s before after h f l e w moment le t =
     let history : List Event = later ++ past in
     let all : List Item = items table station history in
     let line : List Segment = waiting_after table station history now in
     let lived : is_live all now s.item ≡ true
     = (IsIn-from_filter (λ x. is_live all now x.item) s _ (subst (IsIn s) (waiting_is all (log table station history) now) w.0)).1 in
-    let old = placed keys fit table station past later at s before after h.1 f.1 l e w.2 now (later_now at past later (fill now slot) h.0.not_before f.0) lived in
+    let old = placed told keys fit table station past later at s before after h.1 f.1 l e w.2 now (later_now at past later (fill now slot) h.0.not_before f.0) lived in
     let new = placed-filled (fills later) (bytes_of before) s line (rooms_fit fit table station history now) w.1 old in
     subst (IsPlaced (fills later + 1) (bytes_of before) s) (sym (waiting_later table station (fill now slot ∷ history) now moment le))
     (placed-filter (fills later + 1) (bytes_of before) s _ _ t
-    (subst (IsPlaced (fills later + 1) (bytes_of before) s) (sym (waiting_filled table station history now slot)) (placed-more (fills later + 1) (bytes_of before) s (left 424 line) _ new)))
+    (subst (IsPlaced (fills later + 1) (bytes_of before) s) (sym (waiting_filled told table station history now slot)) (placed-more (fills later + 1) (bytes_of before) s (left 424 line) _ new)))
 
 few_left : (count bytes : ℕ) → 425 * count ≤ 2 * bytes → count + 1 < 2 * bytes / 425 + 2
 few_left count bytes h = omega arith
 
-run : KeyLaws → PartsFitFrames → (table : LifeTable) (station : StationId) (past later : List Event) (at : ℕ) (s : Segment) (before after : List Segment)
+run : StationsAreTold → KeyLaws → PartsFitFrames → (table : LifeTable) (station : StationId) (past later : List Event) (at : ℕ) (s : Segment) (before after : List Segment)
     → IsHistory table station (later ++ past) → AreFrom at later → IsLogged (items table station past) s
     → waiting_after table station past at ≡ before ++ s ∷ after → WaitsStill table station past s later
     → fills later < 2 * bytes_of before / 425 + 2
-run keys fit table station past [] at s before after h f l e w = omega arith
-run keys fit table station past (accepted given update ∷ later) at s before after h f l e w = run keys fit table station past later at s before after h.1 f.1 l e w
-run keys fit table station past (fill now slot ∷ later) at s before after h f l e w =
+run told keys fit table station past [] at s before after h f l e w = omega arith
+run told keys fit table station past (accepted given update ∷ later) at s before after h f l e w = run told keys fit table station past later at s before after h.1 f.1 l e w
+run told keys fit table station past (fill now slot ∷ later) at s before after h f l e w =
     let history : List Event = later ++ past in
     let all : List Item = items table station history in
     let lived : is_live all now s.item ≡ true
     = (IsIn-from_filter (λ x. is_live all now x.item) s _ (subst (IsIn s) (waiting_is all (log table station history) now) w.0)).1 in
-    let old = placed keys fit table station past later at s before after h.1 f.1 l e w.2 now (later_now at past later (fill now slot) h.0.not_before f.0) lived in
+    let old = placed told keys fit table station past later at s before after h.1 f.1 l e w.2 now (later_now at past later (fill now slot) h.0.not_before f.0) lived in
     let new = placed-filled (fills later) (bytes_of before) s (waiting_after table station history now) (rooms_fit fit table station history now) w.1 old in
     few_left (fills later) (bytes_of before) (few_fills (fills later) (bytes_of before) s _ new)
 
-pub no_starvation : KeyLaws → PartsFitFrames → NoStarvation
-no_starvation keys fit table station past later at s before after h f e w =
+pub no_starvation : StationsAreTold → KeyLaws → PartsFitFrames → NoStarvation
+no_starvation told keys fit table station past later at s before after h f e w =
     let here : IsIn s (waiting_after table station past at) = subst (IsIn s) (sym e) (IsIn-after s before (s ∷ after) (inl refl)) in
     let l = Each-at _ (waiting_after table station past at) s (Each-waiting _ (items table station past) (log table station past) at (logged table station past)) here in
-    run keys fit table station past later at s before after h f l e w
+    run told keys fit table station past later at s before after h f l e w

@@ -8,10 +8,12 @@ use Rattle.std.proofs.lemmas.List.Elements.{filter-append}
 use Rattle.list_members.specs.Membership.{IsIn}
 use Rattle.list_members.proofs.Members.{IsIn-before, IsIn-after, IsIn-either}
 use Rattle.list_members.proofs.ListMembers.{in_map}
+use Rattle.list_members.proofs.Ranges.{map_same}
 use Rattle.fisb_time.specs.Moment.{IsMoment}
 use Rattle.fisb_time.specs.declared.form.TimeForm.{TimeForm}
 use Rattle.life_table.specs.LifeTable.{LifeTable, TextRow, text_row, greatest_life}
 use Rattle.uplink_frame.specs.declared.station.StationId.{StationId}
+use Rattle.uplink_frame.specs.Laws.{StationsAreTold}
 use Rattle.text_reports.specs.TextKey.{TextKey}
 use Rattle.ground_core.specs.NumberedKeys.{report_key}
 use Rattle.segment_core.specs.File.{parts_of}
@@ -122,25 +124,25 @@ pub record IsTaken (old : Ground) (moment : ℕ) (new : Ground) : Type 0 where
   pub placed : ArePlaced (latest_at old.newest) (pieces_in old.line) → ArePlaced (latest_at new.newest) (pieces_in new.line)
   pub among : (p : Piece) → IsIn p (pieces_in new.line) → IsIn p (pieces_in old.line)
 
-pub filled_of : KeyLaws → (table : LifeTable) (station : StationId) (history : List Event) (moment slot : ℕ) (old : Ground) (new : List Piece) → StandsFor table station old history
+pub filled_of : StationsAreTold → KeyLaws → (table : LifeTable) (station : StationId) (history : List Event) (moment slot : ℕ) (old : Ground) (new : List Piece) → StandsFor table station old history
     → last_above (clock_of history) moment ≡ None
     → filter (live_by (latest_at old.newest) moment) new
     ≡ left_pieces 424 (filter (live_by (latest_at old.newest) moment) (pieces_in old.line))
     ++ fitting_pieces 424 (filter (live_by (latest_at old.newest) moment) (pieces_in old.line))
     → IsFilled table station history moment slot (pieces_in old.line) new
-filled_of keys table station history moment slot old new s e n =
-    filled keys table station history (moment_now history) moment slot (pieces_in old.line) new (clock_below history moment e)
+filled_of told keys table station history moment slot old new s e n =
+    filled told keys table station history (moment_now history) moment slot (pieces_in old.line) new (clock_below history moment e)
     (line_of table station history old s)
     (subst (λ f. filter f new ≡ left_pieces 424 (filter f (pieces_in old.line)) ++ fitting_pieces 424 (filter f (pieces_in old.line)))
     (lives_same table station history moment old s (clock_below history moment e)) n)
 
-pub fill_stands : KeyLaws → (table : LifeTable) (station : StationId) (history : List Event) (moment slot : ℕ) (old new : Ground) → StandsFor table station old history
+pub fill_stands : StationsAreTold → KeyLaws → (table : LifeTable) (station : StationId) (history : List Event) (moment slot : ℕ) (old new : Ground) → StandsFor table station old history
     → last_above (clock_of history) moment ≡ None → slot < 32 → IsMoment moment → IsTaken old moment new
     → StandsFor table station new (fill moment slot ∷ history)
-fill_stands keys table station history moment slot old new s e lt m t =
+fill_stands told keys table station history moment slot old new s e lt m t =
     let all : List Item = items table station history in
     let same : items table station (fill moment slot ∷ history) ≡ all = append-nil all in
-    let f = filled_of keys table station history moment slot old (pieces_in new.line) s e t.line in
+    let f = filled_of told keys table station history moment slot old (pieces_in new.line) s e t.line in
     let le : moment_now history ≤ moment = clock_below history moment e in
     let life : old.life ≡ greatest_life table = old.longest ∙ ap greatest_life s.table_is in
     record {
@@ -178,10 +180,6 @@ number_shown : (segmented : Bool) (number : Option ℕ) (count : ℕ) → (segme
     → (if segmented then count else 0) ≡ unwrap_or (if segmented then number else None) 0
 number_shown true number count f = sym (ap (λ o. unwrap_or o 0) (f refl))
 number_shown false number count f = refl
-
-map_same : (f g : ℕ → Piece) (xs : List ℕ) → ((n : ℕ) → f n ≡ g n) → map f xs ≡ map g xs
-map_same f g [] h = refl
-map_same f g (x ∷ xs) h = rw (h x) (ap (λ l. g x ∷ l) (map_same f g xs h))
 
 map_map : (f : ℕ → Segment) (xs : List ℕ) → map piece_of (map f xs) ≡ map (λ n. piece_of (f n)) xs
 map_map f [] = refl
@@ -242,7 +240,7 @@ is_made table station history moment version chars old item law s le none i =
       until = until;
       product = i.product;
       segmented = segmented;
-      pieces = map_same (piece_at item) (λ n. piece_of (segment_of spec n)) (range_with_len 1 item.count) one
+      pieces = map_same (piece_at item) (λ n. piece_of (segment_of spec n)) (range_with_len 1 item.count) (λ n there. one n)
           ∙ ap (λ n. map (λ m. piece_of (segment_of spec m)) (range_with_len 1 n)) size
           ∙ sym (map_map (segment_of spec) (range_with_len 1 (length (parts_of (file_of spec)))));
     }

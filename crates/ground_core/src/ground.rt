@@ -26,7 +26,7 @@ use picture_core::laws::keys_are_ordered;
 use segment_core::{is_segmented, part_count};
 use std::alloc::Global;
 use std::rc::Rc;
-use uplink_frame::{AppData, StationId};
+use uplink_frame::{AppData, StationId, stations_are_told};
 
 /// The product of reports.
 const REPORTS: u16 = 413;
@@ -153,6 +153,7 @@ impl Ground {
     {
         apdu_reads_back();
         keys_are_ordered();
+        stations_are_told();
         if let Some(kept) = self.later_clock(moment) {
             return Err(FillFault::Clock { kept });
         }

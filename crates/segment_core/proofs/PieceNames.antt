@@ -1,18 +1,20 @@
 -- The order of the names of pieces finds equal exactly those that are the same, and what is held after writes.
-use Rattle.std.proofs.Common.{◌≡◌, ℕ, ◌+◌, Bool, true, false, ◌&&◌, ◌==◌, cond, nat_lt, List, []}
+use Rattle.std.proofs.Common.{◌≡◌, ℕ, ◌+◌, Bool, true, false, ◌&&◌, ◌==◌, cond, List, []}
 use Rattle.std.proofs.Common.{◌∷◌, map, ◌++◌, Option, Some, None, is_some, refl, sym, ap, ◌∙◌, inl, inr, arith}
 use Rattle.std.specs.BTreeMap.{insert_entry, is_at}
 use Rattle.std.specs.Cmp.{both_tied}
 use Rattle.std.specs.List.{list_any, range_with_len}
 use Rattle.std.specs.Map.{lookup}
-use Rattle.std.specs.Ordering.{is_eq, nat_cmp, bool_cmp}
+use Rattle.std.specs.Ordering.{is_eq, bool_cmp}
 use Rattle.std.specs.declared.cmp.Ordering.{Ordering}
 use Rattle.std.specs.declared.cmp.Ordering.TheVariants.{Less, Equal, Greater}
 use Rattle.std.proofs.lemmas.List.FromFn.{map-range_with_len_more}
 use Rattle.std.proofs.lemmas.Bool.{cases_Bool, and_parts, and_from}
-use Rattle.std.proofs.lemmas.Bool.{eqb-true, eq-eqb, ne_eqb, ltb-true, leb-true, le-leb}
+use Rattle.std.proofs.lemmas.Bool.{eqb-true, eq-eqb, leb-true, le-leb}
 use Rattle.std.proofs.lemmas.Bool.{false_from_ne_true}
+use Rattle.std.proofs.Math.Bool.{and_assoc}
 use Rattle.list_members.proofs.ListMembers.{any_in, in_any}
+use Rattle.list_members.proofs.Tests.{tied_numbers}
 use Rattle.uplink_frame.specs.Station.{same_flag}
 use Rattle.uplink_frame.specs.Laws.{StationsAreTold}
 use Rattle.undo_map.specs.Marked.{with_all}
@@ -27,27 +29,11 @@ bool_same true b f g = sym (f refl)
 bool_same false true f g = g refl
 bool_same false false f g = refl
 
-tied_numbers : (x y : ℕ) → (x == y) ≡ is_eq (nat_cmp x y)
-tied_numbers x y = elim (cases_Bool (nat_lt x y)) [
-  | inl less ↦
-      let below = ltb-true x y less in
-      let other : (x == y) ≡ false = ne_eqb x y (omega arith) in
-      rw (other, less) refl
-  | inr more ↦ elim (cases_Bool (x == y)) [
-    | inl same ↦ rw (more, same) refl
-    | inr other ↦ rw (more, other) refl
-  ]
-]
-
 tied_flags : (a b : Bool) → same_flag a b ≡ is_eq (bool_cmp a b)
 tied_flags true true = refl
 tied_flags true false = refl
 tied_flags false true = refl
 tied_flags false false = refl
-
-and_assoc : (a b c : Bool) → (a && b && c) ≡ (a && (b && c))
-and_assoc true b c = refl
-and_assoc false b c = refl
 
 regroup : (a b c d e f g h i : Bool) → (a && b && c && d && e && f && g && h && i)
     ≡ (a && (b && (c && d)) && (e && (f && (g && (h && i)))))

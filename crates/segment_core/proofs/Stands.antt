@@ -7,6 +7,7 @@ use Rattle.std.specs.Option.{option_map, option_or}
 use Rattle.std.proofs.lemmas.Bool.{cases_Bool, cond-true, cond-false, and_from, or_left}
 use Rattle.std.proofs.lemmas.Bool.{or_right, or_from, eqb-true, eqb-false, eq-eqb, ne_eqb, le-leb}
 use Rattle.std.proofs.lemmas.List.Folds.{find-append, list_any-append}
+use Rattle.std.proofs.Math.Bool.{or-false}
 use Rattle.list_members.specs.Membership.{IsIn}
 use Rattle.apdu_core.specs.declared.unit.Seg.{Seg}
 use Rattle.uplink_frame.specs.Station.{same_station}
@@ -20,24 +21,13 @@ use Rattle.segment_core.specs.Store.{live_answer}
 use Rattle.segment_core.specs.declared.piece_name.PieceName.{PieceName}
 use Rattle.segment_core.specs.declared.arrived.Taken.TheVariants.{Whole}
 use Rattle.list_members.proofs.Ranges.{in_range, range_has, all_in, in_all, not_all, not_all_in, list_all_same, flat_map_same}
+use Rattle.list_members.proofs.Tests.{none_from, mapped_some}
 use Rattle.segment_core.proofs.Completed.{in-others, others-in}
 use Rattle.segment_core.proofs.PieceNames.{bool_same, same-is, same-self}
 
 found_some : {A : Type 0} (p : A → Bool) (xs : List A) → is_some (find p xs) ≡ list_any p xs
 found_some p [] = refl
 found_some p (x ∷ xs) = elim (cases_Bool (p x)) [ inl t ↦ rw t refl | inr f ↦ rw f (found_some p xs) ]
-
-or_false : (a : Bool) → (a || false) ≡ a
-or_false true = refl
-or_false false = refl
-
-mapped_some : {A B : Type 0} (f : A → B) (o : Option A) → is_some (option_map f o) ≡ is_some o
-mapped_some f None = refl
-mapped_some f (Some x) = refl
-
-none_from : {A : Type 0} (o : Option A) → is_some o ≡ false → o ≡ None
-none_from None e = refl
-none_from (Some x) e = absurd (cc)
 
 some_or : {A : Type 0} (o p : Option A) → is_some o ≡ true → option_or o p ≡ o
 some_or None p e = absurd (cc)
@@ -61,7 +51,7 @@ has-first : (xs : List Arrival) (q : PieceName) (n : ℕ) → is_some (first xs 
 has-first xs q n = found_some (is q n) xs
 
 has-with : (xs : List Arrival) (a : Arrival) (q : PieceName) (n : ℕ) → has (xs ++ a ∷ []) q n ≡ (has xs q n || is q n a)
-has-with xs a q n = list_any-append (is q n) xs (a ∷ []) ∙ ap (λ (b : Bool). has xs q n || b) (or_false (is q n a))
+has-with xs a q n = list_any-append (is q n) xs (a ∷ []) ∙ ap (λ (b : Bool). has xs q n || b) (or-false (is q n a))
 
 first-with : (xs : List Arrival) (a : Arrival) (q : PieceName) (n : ℕ) → first (xs ++ a ∷ []) q n ≡ option_or (first xs q n)
     (cond (is q n a) (Some a) None)
@@ -99,7 +89,7 @@ pub kept_other : (xs : List Arrival) (a : Arrival) (q : PieceName) → ((n : ℕ
     → kept_of (xs ++ a ∷ []) q ≡ kept_of xs q
 kept_other xs a q none = kept_same (xs ++ a ∷ []) xs q
     (first-with xs a q q.number ∙ rw (none q.number) (or_none (first xs q q.number)))
-    (λ n. has-with xs a q n ∙ rw (none n) (or_false (has xs q n)))
+    (λ n. has-with xs a q n ∙ rw (none n) (or-false (has xs q n)))
 
 -- what is known where a segment is taken: the pieces of its file are those kept of the arrivals
 pub record IsKnown (pieces : Pieces) (taken : List Arrival) (a : Arrival) (s : Seg) : Type 0 where
@@ -207,7 +197,7 @@ module _ (told : StationsAreTold) (pieces : Pieces) (taken : List Arrival) (a : 
         | inl own ↦
             let was : has taken (piece_name a s) k ≡ true = ap (has taken (piece_name a s)) (eqb-true k s.number own) ∙ again in
             rw was refl
-        | inr other ↦ rw other (or_false (has taken (piece_name a s) k))
+        | inr other ↦ rw other (or-false (has taken (piece_name a s) k))
       ] in
       let same_first : first (taken ++ a ∷ []) (piece_name a s) n ≡ first taken (piece_name a s) n =
       elim (cases_Bool (n == s.number)) [
