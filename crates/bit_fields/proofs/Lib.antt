@@ -1,2 +1,3 @@
 pub mod BytesAsNumbers
 pub mod BitsBack
+pub mod Xors

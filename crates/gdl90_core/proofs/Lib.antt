@@ -1,4 +1,3 @@
-pub mod Sums
 pub mod LongDivision
 pub mod RemainderRows
 pub mod Streams

@@ -4,31 +4,31 @@ use Rattle.std.proofs.Common.{◌≡◌, ℕ, zero, suc, ◌+◌, ◌-◌, ◌*�
 use Rattle.std.proofs.Common.{List, [], ◌∷◌, refl, sym, ◌∙◌, ap, subst, arith, lit<}
 use Rattle.std.proofs.Math.Path.{ap₂}
 use Rattle.std.proofs.Math.Nat.{mul_right_comm, zero-add}
-use Rattle.std.specs.Int.Bits.{bit_xor, xor_block}
+use Rattle.std.specs.Int.Bits.{bit_xor, xor_block, xor_zero_l}
 use Rattle.std.proofs.lemmas.Nat.{xor_lt, pow_pos, pow-add}
 use Rattle.std.proofs.lemmas.Bool.{ltb-true, ltb-false, cases_lt}
 use Rattle.std.proofs.lemmas.List.Elements.{All-head, All-tail}
 use Rattle.bit_fields.specs.Bits.{number_of, AreBytes}
 use Rattle.gdl90_core.specs.CheckSequence.{multiple, IsRest, with_bit, with_byte, remainder}
 use Rattle.gdl90_core.specs.Laws.{OneRemainder}
-use Rattle.gdl90_core.proofs.Sums.{xor_shuffle, zero-xor, xor_equal, xor_exchange, xor_twice, xor_shift, xor_low}
+use Rattle.bit_fields.proofs.Xors.{xor-shuffle, xor-equal, xor-swap, xor-same_right, xor-shift, xor-low}
 
 pub multiple-xor : (a b : ℕ) → multiple (bit_xor a b) ≡ bit_xor (multiple a) (multiple b)
 multiple-xor a b =
-    ap₂ bit_xor (sym (xor_shift 16 a b))
-    (ap₂ bit_xor (sym (xor_shift 12 a b))
-    (ap (λ (x : ℕ). bit_xor x (bit_xor a b)) (sym (xor_shift 5 a b)) ∙ xor_shuffle (a * 2 ^ 5) (b * 2 ^ 5) a b)
-    ∙ xor_shuffle (a * 2 ^ 12) (b * 2 ^ 12) (bit_xor (a * 2 ^ 5) a) (bit_xor (b * 2 ^ 5) b))
-    ∙ xor_shuffle (a * 2 ^ 16) (b * 2 ^ 16)
+    ap₂ bit_xor (sym (xor-shift 16 a b))
+    (ap₂ bit_xor (sym (xor-shift 12 a b))
+    (ap (λ (x : ℕ). bit_xor x (bit_xor a b)) (sym (xor-shift 5 a b)) ∙ xor-shuffle (a * 2 ^ 5) (b * 2 ^ 5) a b)
+    ∙ xor-shuffle (a * 2 ^ 12) (b * 2 ^ 12) (bit_xor (a * 2 ^ 5) a) (bit_xor (b * 2 ^ 5) b))
+    ∙ xor-shuffle (a * 2 ^ 16) (b * 2 ^ 16)
     (bit_xor (a * 2 ^ 12) (bit_xor (a * 2 ^ 5) a)) (bit_xor (b * 2 ^ 12) (bit_xor (b * 2 ^ 5) b))
 
 pub multiple-shift : (k a : ℕ) → multiple (a * 2 ^ k) ≡ multiple a * 2 ^ k
 multiple-shift k a =
     ap₂ bit_xor (mul_right_comm a (2 ^ k) (2 ^ 16))
     (ap₂ bit_xor (mul_right_comm a (2 ^ k) (2 ^ 12))
-    (ap (λ (x : ℕ). bit_xor x (a * 2 ^ k)) (mul_right_comm a (2 ^ k) (2 ^ 5)) ∙ xor_shift k (a * 2 ^ 5) a)
-    ∙ xor_shift k (a * 2 ^ 12) (bit_xor (a * 2 ^ 5) a))
-    ∙ xor_shift k (a * 2 ^ 16) (bit_xor (a * 2 ^ 12) (bit_xor (a * 2 ^ 5) a))
+    (ap (λ (x : ℕ). bit_xor x (a * 2 ^ k)) (mul_right_comm a (2 ^ k) (2 ^ 5)) ∙ xor-shift k (a * 2 ^ 5) a)
+    ∙ xor-shift k (a * 2 ^ 12) (bit_xor (a * 2 ^ 5) a))
+    ∙ xor-shift k (a * 2 ^ 16) (bit_xor (a * 2 ^ 12) (bit_xor (a * 2 ^ 5) a))
 
 -- the highest digit of a number
 highest_below : (n d : ℕ) → 0 < d → d < 2 ^ n → (k : ℕ) × (2 ^ k ≤ d) × (d < 2 ^ suc k)
@@ -81,17 +81,17 @@ rest_unique number r s R S =
     let d : ℕ = bit_xor R.times S.times in
     let e : multiple d ≡ bit_xor r s =
     multiple-xor R.times S.times
-    ∙ xor_exchange (multiple R.times) r (multiple S.times) s (sym R.whole ∙ S.whole) in
+    ∙ xor-swap (multiple R.times) r (multiple S.times) s (sym R.whole ∙ S.whole) in
     let small : bit_xor r s < 2 ^ 16 = xor_lt 16 r s R.fits S.fits in
     let none : d ≡ 0 = multiple_small d (let P : ℕ → Type 0 = λ n. n < 65536 in subst P (sym e) small) in
-    xor_equal r s (sym e ∙ ap multiple none)
+    xor-equal r s (sym e ∙ ap multiple none)
 
 bit_times :
     (number r times bit : ℕ) → number ≡ bit_xor (multiple times) r → bit < 2
     → 2 * number + bit ≡ bit_xor (multiple (times * 2)) (2 * r + bit)
 bit_times number r times bit whole h =
     let e : bit_xor (multiple times * 2 ^ 1) (r * 2 ^ 1 + bit) ≡ bit_xor (multiple times) r * 2 ^ 1 + bit =
-    xor_low 1 (multiple times) r bit h in
+    xor-low 1 (multiple times) r bit h in
     let left : 2 * number + bit ≡ number * 2 + bit = omega arith in
     let right : r * 2 + bit ≡ 2 * r + bit = omega arith in
     left ∙ ap (λ (n : ℕ). n * 2 + bit) whole ∙ sym e ∙ ap₂ bit_xor (sym (multiple-shift 1 times)) right
@@ -114,7 +114,7 @@ rest_bit number r bit R h =
     let even : 2 * number + bit ≡ bit_xor (multiple (R.times * 2)) longer = bit_times number r R.times bit R.whole h in
     let odd : bit_xor (multiple (bit_xor (R.times * 2) 1)) (bit_xor longer 0x11021) ≡ bit_xor (multiple (R.times * 2)) longer =
     ap (λ (x : ℕ). bit_xor x (bit_xor longer 0x11021)) (multiple-xor (R.times * 2) 1)
-    ∙ xor_twice (multiple (R.times * 2)) longer 0x11021 in
+    ∙ xor-same_right (multiple (R.times * 2)) longer 0x11021 in
     rest_bit_at number longer R.times (nat_lt longer 65536) refl (let f : r < 65536 = R.fits in omega arith) even odd
   where
     rest_bit_at :
@@ -170,7 +170,7 @@ rest_fold (byte ∷ more) number r R bytes =
 
 -- a polynomial of degree below 16 is its own remainder
 pub rest_itself : (r : ℕ) → r < 65536 → IsRest r r
-rest_itself r h = record { fits = h; times = 0; whole = sym (zero-xor r) }
+rest_itself r h = record { fits = h; times = 0; whole = sym (xor_zero_l r) }
 
 -- long division gives the remainder
 pub remainder_is_rest : (message : List ℕ) → AreBytes message → IsRest (number_of message) (remainder message)

@@ -9,7 +9,7 @@ use Rattle.std.proofs.lemmas.List.Elements.{All-cons, All-nil}
 use Rattle.bit_fields.specs.Bits.{number_of, AreBytes}
 use Rattle.gdl90_core.specs.declared.remainders.TheConstants.{REMAINDERS}
 use Rattle.gdl90_core.specs.CheckSequence.{multiple, IsRest, with_byte, remainder}
-use Rattle.gdl90_core.proofs.Sums.{xor_low}
+use Rattle.bit_fields.proofs.Xors.{xor-low}
 use Rattle.gdl90_core.proofs.LongDivision.{rest_unique, rest_byte, rest_itself, remainder_is_rest}
 
 -- the row at each place, from `place` on, is the remainder of the place and two bytes 0
@@ -61,7 +61,7 @@ row_step r byte fits h =
     let split : 256 * r + byte ≡ r / 256 * 2 ^ 16 + low = omega arith in
     let plain : 0 * 2 ^ 16 + low ≡ low = omega arith in
     let apart : bit_xor (r / 256 * 2 ^ 16) low ≡ r / 256 * 2 ^ 16 + low =
-    ap (bit_xor (r / 256 * 2 ^ 16)) (sym plain) ∙ xor_low 16 (r / 256) 0 low low_fits
+    ap (bit_xor (r / 256 * 2 ^ 16)) (sym plain) ∙ xor-low 16 (r / 256) 0 low low_fits
     ∙ ap (λ (n : ℕ). n * 2 ^ 16 + low) (xor_zero_r (r / 256)) in
     rest_unique (256 * r + byte) (bit_xor row low) (with_byte r byte)
     (record {

@@ -1,7 +1,7 @@
 -- The laws of a field, from those of the tables.
 use Rattle.std.proofs.Common.{◌≡◌, ℕ, zero, suc, ◌+◌, ◌-◌, ◌%◌, ◌<◌, List, get_or, refl, sym, ◌∙◌, ap, ap₂, arith, inl, inr, ◌⊎◌, lit<}
 use Rattle.std.proofs.lemmas.Bool.{cases_eq, cases_lt}
-use Rattle.std.specs.Int.Bits.{xor_zero_r, xor_self, xor_assoc}
+use Rattle.std.specs.Int.Bits.{bit_xor, xor_zero_r, xor_self, xor_assoc}
 use Rattle.std.proofs.lemmas.Nat.{xor_lt, xor_comm, mod_below}
 use Rattle.gf256_core.specs.Field.{product, power, IsField}
 use Rattle.gf256_core.specs.Tables.{AreTables}
@@ -220,4 +220,7 @@ field_from_tables {p} {powers} {logarithms} t = record {
   product_is_remainder = λ a b h. product-IsRemainder p a b (degree_of t) h;
   zero_factor = zero_factor t;
   inverse = λ a low high. inverse_of t a low high;
+  product_zero_right = product-zero_right p;
+  distributive_right = λ a b c. comm t a (bit_xor b c) ∙ product-xor_left p b c a ∙ ap₂ bit_xor (comm t b a) (comm t c a);
+  product_turned = λ a b c. sym (assoc t a b c) ∙ ap (λ (x : ℕ). product p x c) (comm t a b) ∙ assoc t b a c;
 }

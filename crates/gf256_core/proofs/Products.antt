@@ -4,8 +4,9 @@ use Rattle.std.proofs.Math.Nat.{zero-mul, one-mul, mul-zero, mod-mod, mod-eq_of_
 use Rattle.std.proofs.Math.Pow.{pow_mono, mod-mod-pow}
 use Rattle.std.specs.Int.Bits.{bit_xor, xor_zero_r, xor_mod, xor_block, xor_assoc, xor_self}
 use Rattle.std.proofs.lemmas.Nat.{xor_lt, field_of, pow_pos, mod_below}
+use Rattle.bit_fields.proofs.Xors.{xor-shuffle}
 use Rattle.gf256_core.specs.Field.{plain_product, remainder, product, IsRemainder}
-use Rattle.gf256_core.proofs.Sums.{xor_double, xor_shuffle, bit_cases, times_bit_xor}
+use Rattle.gf256_core.proofs.Sums.{xor_double, bit_cases, times_bit_xor}
 use Rattle.gf256_core.proofs.Remainders.{pow_twice, pow_eight, remainder-xor, remainder-small, remainder-multiple, remainder-fits, remainder-zero, step, step-is, remainder-suc, step-below}
 
 -- the modulus has degree 8
@@ -20,7 +21,7 @@ plain-xor zero a b c = refl
 plain-xor (suc n) a b c =
     ap₂ bit_xor (times_bit_xor c a b)
     (ap (λ (x : ℕ). 2 * x) (plain-xor n a b (c / 2)) ∙ sym (xor_double (plain_product n a (c / 2)) (plain_product n b (c / 2))))
-    ∙ xor_shuffle (c % 2 * a) (c % 2 * b) (2 * plain_product n a (c / 2)) (2 * plain_product n b (c / 2))
+    ∙ xor-shuffle (c % 2 * a) (c % 2 * b) (2 * plain_product n a (c / 2)) (2 * plain_product n b (c / 2))
 
 plain-zero_left : (n b : ℕ) → plain_product n 0 b ≡ 0
 unfolding plain_product

@@ -6,8 +6,9 @@ use Rattle.std.specs.Int.Bits.{bit_xor, xor_zero_r, xor_self, xor_shr, xor_mod, 
 use Rattle.std.proofs.lemmas.Nat.{xor_lt, pow-add, pow_pos, div-mul-add, shl_below}
 use Rattle.std.proofs.lemmas.Bool.{cases_eq, cases_lt}
 use Rattle.std.proofs.Math.Pow.{pow_mono}
+use Rattle.bit_fields.proofs.Xors.{xor-shuffle}
 use Rattle.gf256_core.specs.Field.{remainder}
-use Rattle.gf256_core.proofs.Sums.{xor_shuffle, bit_times_xor}
+use Rattle.gf256_core.proofs.Sums.{bit_times_xor}
 
 -- one step of the remainder
 pub step : ℕ → ℕ → ℕ → ℕ
@@ -29,7 +30,7 @@ step-xor n p a b =
     ap (λ (x : ℕ). x % 2) (xor_shr a b (8 + n)) ∙ xor_mod (a / 2 ^ (8 + n)) (b / 2 ^ (8 + n)) 1 in
     ap (λ (x : ℕ). bit_xor (bit_xor a b) (x * (p * 2 ^ n))) bits
     ∙ ap (bit_xor (bit_xor a b)) (sym (bit_times_xor (a / 2 ^ (8 + n)) (b / 2 ^ (8 + n)) (p * 2 ^ n)))
-    ∙ xor_shuffle a b _ _
+    ∙ xor-shuffle a b _ _
 
 pub remainder-xor : (n p a b : ℕ) → remainder n p (bit_xor a b) ≡ bit_xor (remainder n p a) (remainder n p b)
 unfolding remainder

@@ -4,6 +4,7 @@ use Rattle.std.proofs.Common.{◌≡◌, ℕ, zero, suc, ◌+◌, ◌-◌, ◌%�
 use Rattle.std.proofs.lemmas.Bool.{cases_eq, cases_lt}
 use Rattle.std.specs.Int.Bits.{bit_xor, xor_zero_r, xor_self, xor_assoc}
 use Rattle.std.proofs.lemmas.Nat.{xor_lt}
+use Rattle.bit_fields.proofs.Xors.{xor-cancel, xor-equal}
 use Rattle.gf256_core.specs.Field.{product}
 use Rattle.gf256_core.specs.Tables.{AreTables}
 use Rattle.gf256_core.proofs.Products.{HasDegreeEight, times_x, times_x-xor, times_x-zero, times_x-fits, product-two, product-one_left, product-times_x}
@@ -111,13 +112,6 @@ row_not_zero :
     {p : ℕ} {powers logarithms : List ℕ} (t : AreTables p powers logarithms) (i : ℕ) → i < 255 → 0 < shifted p i 1
 row_not_zero {p} {powers} t i h =
     let n : 0 < get_or powers i 0 = t.not_zero i h in let r : get_or powers i 0 ≡ shifted p i 1 = row-shifted t i h in omega arith
-
-xor-equal : (a b : ℕ) → bit_xor a b ≡ 0 → a ≡ b
-xor-equal a b e =
-    sym (xor_zero_r a) ∙ ap (bit_xor a) (sym (xor_self b)) ∙ sym (xor_assoc a b b) ∙ ap (λ (x : ℕ). bit_xor x b) e
-
-xor-cancel : (a b : ℕ) → bit_xor a (bit_xor a b) ≡ b
-xor-cancel a b = sym (xor_assoc a a b) ∙ ap (λ (x : ℕ). bit_xor x b) (xor_self a)
 
 shifted-one : (p : ℕ) → shifted p 1 1 ≡ times_x p 1
 unfolding shifted

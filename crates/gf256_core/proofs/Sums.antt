@@ -1,21 +1,15 @@
 -- Sums of polynomials over two elements, beside doubling and bits.
-use Rattle.std.proofs.Common.{◌≡◌, ℕ, ◌+◌, ◌*◌, ◌%◌, sym, ◌∙◌, ap, arith, inl, inr, ◌⊎◌, lit<}
-use Rattle.std.specs.Int.Bits.{bit_xor, xor_zero_r, xor_self, xor_assoc, xor_block}
-use Rattle.std.proofs.lemmas.Nat.{xor_comm}
+use Rattle.std.proofs.Common.{◌≡◌, ℕ, ◌+◌, ◌*◌, ◌%◌, ◌^◌, arith, inl, inr, ◌⊎◌}
+use Rattle.std.specs.Int.Bits.{bit_xor, xor_zero_r, xor_self}
+use Rattle.bit_fields.proofs.Xors.{xor-shift}
 
 pub xor_double : (a b : ℕ) → bit_xor (2 * a) (2 * b) ≡ 2 * bit_xor a b
 xor_double a b =
-    let e : bit_xor (a * 2 + 0) (b * 2 + 0) ≡ bit_xor a b * 2 + 0 = xor_block 1 a b 0 0 (lit< tt) (lit< tt) in
-    let ea : a * 2 + 0 ≡ 2 * a = omega arith in
-    let eb : b * 2 + 0 ≡ 2 * b = omega arith in
-    let ec : bit_xor a b * 2 + 0 ≡ 2 * bit_xor a b = omega arith in
+    let e : bit_xor (a * 2 ^ 1) (b * 2 ^ 1) ≡ bit_xor a b * 2 ^ 1 = xor-shift 1 a b in
+    let ea : a * 2 ^ 1 ≡ 2 * a = omega arith in
+    let eb : b * 2 ^ 1 ≡ 2 * b = omega arith in
+    let ec : bit_xor a b * 2 ^ 1 ≡ 2 * bit_xor a b = omega arith in
     cc
-
-pub xor_shuffle : (a b c d : ℕ) → bit_xor (bit_xor a b) (bit_xor c d) ≡ bit_xor (bit_xor a c) (bit_xor b d)
-xor_shuffle a b c d =
-    xor_assoc a b (bit_xor c d)
-    ∙ ap (bit_xor a) (sym (xor_assoc b c d) ∙ ap (λ (x : ℕ). bit_xor x d) (xor_comm b c) ∙ xor_assoc c b d)
-    ∙ sym (xor_assoc a c (bit_xor b d))
 
 -- a bit is 0 or 1
 pub bit_cases : (n : ℕ) → (n % 2 ≡ 0) ⊎ (n % 2 ≡ 1)

@@ -52,3 +52,9 @@ pub record IsField (modulus : ℕ) : Type 0 where
   pub zero_factor :
       (a b : ℕ) → a < 256 → b < 256 → product modulus a b ≡ 0 → (a ≡ 0) ⊎ (b ≡ 0)
   pub inverse : (a : ℕ) → 0 < a → a < 256 → (b : ℕ) × (0 < b) × (b < 256) × (product modulus a b ≡ 1)
+  -- from the right
+  pub product_zero_right : (a : ℕ) → product modulus a 0 ≡ 0
+  pub distributive_right :
+      (a b c : ℕ) → product modulus a (bit_xor b c) ≡ bit_xor (product modulus a b) (product modulus a c)
+  pub product_turned :
+      (a b c : ℕ) → product modulus a (product modulus b c) ≡ product modulus b (product modulus a c)

@@ -5,9 +5,9 @@ use Rattle.std.proofs.lemmas.Bool.{cases_eq}
 use Rattle.std.specs.Int.Bits.{bit_xor, xor_zero_r}
 use Rattle.gf256_core.specs.Field.{IsField}
 use Rattle.poly256.specs.Polynomial.{element_product, sum_of, product_of, trimmed, IsDivision}
-use Rattle.poly256.proofs.ListSums.{coefficient-sum, length-sum_left, length-sum_at_most, product-zero_right, coefficient-scaled}
+use Rattle.poly256.proofs.ListSums.{coefficient-sum, length-sum_left, length-sum_at_most, coefficient-scaled}
 use Rattle.poly256.proofs.ListProducts.{coefficient-product, product-single, product-empty_left, product-empty_right, length-product, product-sum_left}
-use Rattle.poly256.proofs.Xors.{xor-swap, xor-equal}
+use Rattle.bit_fields.proofs.Xors.{xor-swap, xor-equal}
 use Rattle.poly256.proofs.Trims.{trimmed-empty, trimmed_from_last, last_from_trimmed, trimmed_from_same, same_from_trimmed, coefficient-trimmed, trimmed-trimmed, trimmed-product, length-trimmed}
 
 pub IsBytes : List ℕ → Type 0
@@ -40,7 +40,7 @@ coefficient-product_last F (x ∷ x' ∷ xs) ys (suc n) m ex ey =
     let past : get_or ys (suc (n + m)) 0 ≡ 0 = get_or_past ys (suc (n + m)) 0 (omega arith) in
     ap (λ (k : ℕ). get_or (product_of (x ∷ x' ∷ xs) ys) k 0) (let e : suc n + m ≡ suc (n + m) = omega arith in e)
     ∙ coefficient-product F x (x' ∷ xs) ys (n + m)
-    ∙ ap₂ bit_xor (ap (element_product x) past ∙ product-zero_right F x)
+    ∙ ap₂ bit_xor (ap (element_product x) past ∙ F.product_zero_right x)
     (coefficient-product_last F (x' ∷ xs) ys n m (omega arith) ey)
 
 not_zero : (F : IsField 391) (a b : ℕ) → 0 < a → a < 256 → 0 < b → b < 256 → 0 < element_product a b

@@ -3,10 +3,9 @@ use Rattle.std.proofs.Common.{subst, ◌≡◌, ℕ, zero, suc, ◌+◌, ◌-◌
 use Rattle.std.proofs.lemmas.List.{get_or_past, length-take}
 use Rattle.std.proofs.lemmas.Bool.{cases_eq}
 use Rattle.std.specs.Int.Bits.{bit_xor, xor_self}
-use Rattle.std.proofs.lemmas.Nat.{xor_comm}
 use Rattle.gf256_core.specs.Field.{IsField}
 use Rattle.poly256.specs.Polynomial.{element_product, sum_of, scaled, shifted, raised, product_of, trimmed, IsDivision}
-use Rattle.poly256.proofs.Xors.{xor-through}
+use Rattle.bit_fields.proofs.Xors.{xor-same_right}
 use Rattle.poly256.proofs.ListSums.{coefficient-sum, sum-empty_right, coefficient-scaled, length-scaled}
 use Rattle.poly256.proofs.ListProducts.{product-sum_left, product-shifted_left, product-single}
 use Rattle.poly256.proofs.Trims.{zeros-product, same-product, trimmed_from_same, length-trimmed}
@@ -46,9 +45,6 @@ set-sum xs i c h none =
     ∙ ap (sum_of (set xs i (bit_xor (get_or xs i 0) c))) (sym (raised-empty (suc i)))
     ∙ sum-set xs i c [] h
 
-xor-both : (a b c : ℕ) → bit_xor (bit_xor a c) (bit_xor b c) ≡ bit_xor a b
-xor-both a b c = ap (bit_xor (bit_xor a c)) (xor_comm b c) ∙ xor-through a c b
-
 step-whole :
     (F : IsField 391) (divisor quotient rest : List ℕ) (place f k : ℕ) → place < length quotient → get_or quotient place 0 ≡ 0
     → get_or (sum_of (product_of (set quotient place f) divisor) (sum_of rest (raised place (scaled f divisor)))) k 0
@@ -63,7 +59,7 @@ step-whole F divisor quotient rest place f k h none =
     ∙ ap₂ bit_xor
     (ap (λ (xs : List ℕ). get_or xs k 0) more ∙ coefficient-sum (product_of quotient divisor) (raised place (scaled f divisor)) k)
     (coefficient-sum rest (raised place (scaled f divisor)) k)
-    ∙ xor-both (get_or (product_of quotient divisor) k 0) (get_or rest k 0) (get_or (raised place (scaled f divisor)) k 0)
+    ∙ xor-same_right (get_or (product_of quotient divisor) k 0) (get_or rest k 0) (get_or (raised place (scaled f divisor)) k 0)
     ∙ sym (coefficient-sum (product_of quotient divisor) rest k)
 
 -- the multiple takes the first coefficient away, and has none above

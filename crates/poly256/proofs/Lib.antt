@@ -2,7 +2,6 @@ pub mod ListSums
 pub mod ListProducts
 pub mod Trims
 pub mod Degrees
-pub mod Xors
 pub mod Values
 pub mod Roots
 pub mod Rooms

@@ -4,7 +4,7 @@ use Rattle.std.specs.Int.Bits.{bit_xor, xor_zero_r}
 use Rattle.gf256_core.specs.Field.{IsField}
 use Rattle.poly256.specs.Polynomial.{element_product, sum_of, scaled, shifted, product_of}
 use Rattle.std.proofs.lemmas.List.{get_or_past}
-use Rattle.poly256.proofs.ListSums.{length-sum_at_least, product-zero_right, sum-empty_right, sum_comm, sum_assoc, sum-shuffle, length-sum_right, scaled-sum, scaled-xor, scaled-scaled, length-scaled, scaled-one, sum-scaled_zero, shifted-sum, scaled-shifted, length-shifted, length-shifted_more, scaled-cons, coefficient-sum, coefficient-scaled, coefficient-shifted, coefficient-shifted_first}
+use Rattle.poly256.proofs.ListSums.{length-sum_at_least, sum-empty_right, sum_comm, sum_assoc, sum-shuffle, length-sum_right, scaled-sum, scaled-xor, scaled-scaled, length-scaled, scaled-one, sum-scaled_zero, shifted-sum, scaled-shifted, length-shifted, length-shifted_more, scaled-cons, coefficient-sum, coefficient-scaled, coefficient-shifted, coefficient-shifted_first}
 
 pub product-cons : (x : ℕ) (xs ys : List ℕ) → product_of (x ∷ xs) ys ≡ sum_of (scaled x ys) (shifted (product_of xs ys))
 unfolding product_of
@@ -140,8 +140,8 @@ pub coefficient-product_past :
 coefficient-product_past F [] ys k h = ap (λ (us : List ℕ). get_or us k 0) (product-empty_left ys)
 coefficient-product_past F (x ∷ xs) ys zero h =
     let none : get_or ys 0 0 ≡ 0 = get_or_past ys 0 0 (omega arith) in
-    coefficient-product_first F x xs ys ∙ ap (element_product x) none ∙ product-zero_right F x
+    coefficient-product_first F x xs ys ∙ ap (element_product x) none ∙ F.product_zero_right x
 coefficient-product_past F (x ∷ xs) ys (suc k) h =
     let none : get_or ys (suc k) 0 ≡ 0 = get_or_past ys (suc k) 0 (omega arith) in
     coefficient-product F x xs ys k
-    ∙ ap₂ bit_xor (ap (element_product x) none ∙ product-zero_right F x) (coefficient-product_past F xs ys k (omega arith))
+    ∙ ap₂ bit_xor (ap (element_product x) none ∙ F.product_zero_right x) (coefficient-product_past F xs ys k (omega arith))

@@ -5,14 +5,6 @@ use Rattle.std.proofs.lemmas.Nat.{xor_comm}
 use Rattle.gf256_core.specs.Field.{IsField}
 use Rattle.poly256.specs.Polynomial.{element_product, sum_of, scaled, shifted}
 
--- ---- the field
-pub product-zero_right : (F : IsField 391) (a : ℕ) → element_product a 0 ≡ 0
-product-zero_right F a = F.product_comm a 0 ∙ F.product_zero a
-
-pub product-xor_right : (F : IsField 391) (a b c : ℕ) → element_product a (bit_xor b c) ≡ bit_xor (element_product a b) (element_product a c)
-product-xor_right F a b c =
-    F.product_comm a (bit_xor b c) ∙ F.distributive b c a ∙ ap₂ bit_xor (F.product_comm b a) (F.product_comm c a)
-
 -- ---- sums
 pub sum-empty_right : (xs : List ℕ) → sum_of xs [] ≡ xs
 unfolding sum_of
@@ -82,7 +74,7 @@ pub scaled-sum : (F : IsField 391) (c : ℕ) (xs ys : List ℕ) → scaled c (su
 unfolding sum_of scaled
 scaled-sum F c [] ys = refl
 scaled-sum F c (x ∷ xs) [] = refl
-scaled-sum F c (x ∷ xs) (y ∷ ys) = ap₂ (λ (a : ℕ) (us : List ℕ). a ∷ us) (product-xor_right F c x y) (scaled-sum F c xs ys)
+scaled-sum F c (x ∷ xs) (y ∷ ys) = ap₂ (λ (a : ℕ) (us : List ℕ). a ∷ us) (F.distributive_right c x y) (scaled-sum F c xs ys)
 
 pub scaled-xor : (F : IsField 391) (c d : ℕ) (xs : List ℕ) → scaled (bit_xor c d) xs ≡ sum_of (scaled c xs) (scaled d xs)
 unfolding sum_of scaled
@@ -101,7 +93,7 @@ length-scaled c (x ∷ xs) = ap suc (length-scaled c xs)
 
 pub coefficient-scaled : (F : IsField 391) (c : ℕ) (xs : List ℕ) (k : ℕ) → get_or (scaled c xs) k 0 ≡ element_product c (get_or xs k 0)
 unfolding scaled
-coefficient-scaled F c [] k = sym (product-zero_right F c)
+coefficient-scaled F c [] k = sym (F.product_zero_right c)
 coefficient-scaled F c (x ∷ xs) zero = refl
 coefficient-scaled F c (x ∷ xs) (suc k) = coefficient-scaled F c xs k
 
@@ -128,7 +120,7 @@ shifted-sum (x ∷ xs) (y ∷ ys) = refl
 pub scaled-shifted : (F : IsField 391) (c : ℕ) (xs : List ℕ) → scaled c (shifted xs) ≡ shifted (scaled c xs)
 unfolding scaled shifted
 scaled-shifted F c [] = refl
-scaled-shifted F c (x ∷ xs) = ap (λ (a : ℕ). a ∷ element_product c x ∷ scaled c xs) (product-zero_right F c)
+scaled-shifted F c (x ∷ xs) = ap (λ (a : ℕ). a ∷ element_product c x ∷ scaled c xs) (F.product_zero_right c)
 
 pub length-shifted : (xs : List ℕ) → length xs ≤ length (shifted xs)
 unfolding shifted
@@ -139,6 +131,11 @@ pub length-shifted_more : (xs : List ℕ) → 0 < length xs → length (shifted 
 unfolding shifted
 length-shifted_more [] h = absurd (omega arith)
 length-shifted_more (x ∷ xs) h = omega arith
+
+pub length-shifted_at_most : (xs : List ℕ) → length (shifted xs) ≤ suc (length xs)
+unfolding shifted
+length-shifted_at_most [] = omega arith
+length-shifted_at_most (x ∷ xs) = omega arith
 
 pub coefficient-shifted_first : (xs : List ℕ) → get_or (shifted xs) 0 0 ≡ 0
 unfolding shifted

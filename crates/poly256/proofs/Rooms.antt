@@ -5,7 +5,7 @@ use Rattle.poly256.specs.Polynomial.{element_product, sum_of, scaled, shifted, r
 use Rattle.std.proofs.lemmas.List.{get_or_past, get_or-take, length-take}
 use Rattle.std.proofs.lemmas.Bool.{cases_eq, cases_lt}
 use Rattle.poly256.proofs.Trims.{trimmed_from_same, trimmed_from_last}
-use Rattle.poly256.proofs.ListSums.{sum-empty_right, scaled-cons, shifted-sum, sum_assoc, coefficient-shifted}
+use Rattle.poly256.proofs.ListSums.{sum-empty_right, scaled-cons, shifted-sum, sum_assoc, coefficient-shifted, coefficient-shifted_first, length-shifted_at_most}
 use Rattle.poly256.proofs.ListProducts.{product-cons, product-empty_left}
 
 pub raised-empty : (n : ℕ) → raised n [] ≡ []
@@ -125,6 +125,19 @@ coefficient-raised zero us j = ap (λ (k : ℕ). get_or us k 0) (let e : 0 + j �
 coefficient-raised (suc n) us j =
     ap (λ (k : ℕ). get_or (shifted (raised n us)) k 0) (let e : suc n + j ≡ suc (n + j) = omega arith in e)
     ∙ coefficient-shifted (raised n us) (n + j) ∙ coefficient-raised n us j
+
+pub coefficient-raised_below : (n : ℕ) (us : List ℕ) (k : ℕ) → k < n → get_or (raised n us) k 0 ≡ 0
+unfolding raised
+coefficient-raised_below zero us k h = absurd (omega arith)
+coefficient-raised_below (suc n) us zero h = coefficient-shifted_first (raised n us)
+coefficient-raised_below (suc n) us (suc k) h =
+    coefficient-shifted (raised n us) k ∙ coefficient-raised_below n us k (omega arith)
+
+pub length-raised : (n : ℕ) (us : List ℕ) → length (raised n us) ≤ n + length us
+unfolding raised
+length-raised zero us = omega arith
+length-raised (suc n) us =
+    let l = length-shifted_at_most (raised n us) in let m = length-raised n us in omega arith
 
 -- ---- the front of a list
 pub coefficient-take_past : (xs : List ℕ) (n k : ℕ) → n ≤ k → get_or (take n xs) k 0 ≡ 0

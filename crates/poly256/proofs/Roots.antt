@@ -6,8 +6,7 @@ use Rattle.std.proofs.lemmas.Bool.{cases_lt}
 use Rattle.gf256_core.specs.Field.{IsField}
 use Rattle.poly256.specs.Polynomial.{element_product, trimmed, value_at}
 use Rattle.poly256.specs.Laws.{AreDifferent, HasFewRoots}
-use Rattle.poly256.proofs.Xors.{xor-same_left, xor-equal, xor-through}
-use Rattle.poly256.proofs.ListSums.{product-zero_right, product-xor_right}
+use Rattle.bit_fields.proofs.Xors.{xor-same_left, xor-equal, xor-through}
 use Rattle.poly256.proofs.Trims.{trimmed-zeros}
 use Rattle.poly256.proofs.Values.{value-empty, value-cons, value-fits}
 
@@ -37,11 +36,7 @@ regrouped :
 regrouped F a b u v =
     sym (xor-through (element_product b v) (element_product b u) (element_product a u))
     ∙ xor_comm (bit_xor (element_product b v) (element_product b u)) (bit_xor (element_product b u) (element_product a u))
-    ∙ sym (ap₂ bit_xor (F.distributive b a u) (product-xor_right F b v u))
-
-product-turned : (F : IsField 391) (a b c : ℕ) → element_product a (element_product b c) ≡ element_product b (element_product a c)
-product-turned F a b c =
-    sym (F.product_assoc a b c) ∙ ap (λ (x : ℕ). element_product x c) (F.product_comm a b) ∙ F.product_assoc b a c
+    ∙ sym (ap₂ bit_xor (F.distributive b a u) (F.distributive_right b v u))
 
 -- the difference of two values is a multiple of the difference of the elements
 divided-value :
@@ -50,13 +45,13 @@ divided-value :
 unfolding divided
 divided-value F at other [] bytes =
     ap₂ bit_xor (value-empty other) (value-empty at)
-    ∙ sym (ap (element_product (bit_xor other at)) (value-empty other) ∙ product-zero_right F (bit_xor other at))
+    ∙ sym (ap (element_product (bit_xor other at)) (value-empty other) ∙ F.product_zero_right (bit_xor other at))
 divided-value F at other (c ∷ []) bytes =
     ap₂ bit_xor (value-cons F c [] other (bytes 0)) (value-cons F c [] at (bytes 0))
     ∙ xor-same_left (element_product other (value_at [] other)) (element_product at (value_at [] at)) c
-    ∙ ap₂ bit_xor (ap (element_product other) (value-empty other) ∙ product-zero_right F other)
-    (ap (element_product at) (value-empty at) ∙ product-zero_right F at)
-    ∙ sym (ap (element_product (bit_xor other at)) (value-empty other) ∙ product-zero_right F (bit_xor other at))
+    ∙ ap₂ bit_xor (ap (element_product other) (value-empty other) ∙ F.product_zero_right other)
+    (ap (element_product at) (value-empty at) ∙ F.product_zero_right at)
+    ∙ sym (ap (element_product (bit_xor other at)) (value-empty other) ∙ F.product_zero_right (bit_xor other at))
 divided-value F at other (c ∷ d ∷ ds) bytes =
     let s : ℕ = bit_xor other at in
     ap₂ bit_xor (value-cons F c (d ∷ ds) other (bytes 0)) (value-cons F c (d ∷ ds) at (bytes 0))
@@ -64,14 +59,14 @@ divided-value F at other (c ∷ d ∷ ds) bytes =
     ∙ regrouped F at other (value_at (d ∷ ds) at) (value_at (d ∷ ds) other)
     ∙ ap (bit_xor (element_product (bit_xor other at) (value_at (d ∷ ds) at)))
     (ap (element_product other) (divided-value F at other (d ∷ ds) (λ k. bytes (suc k)))
-    ∙ product-turned F other (bit_xor other at) (value_at (divided at (d ∷ ds)) other))
-    ∙ sym (product-xor_right F (bit_xor other at) (value_at (d ∷ ds) at) (element_product other (value_at (divided at (d ∷ ds)) other)))
+    ∙ F.product_turned other (bit_xor other at) (value_at (divided at (d ∷ ds)) other))
+    ∙ sym (F.distributive_right (bit_xor other at) (value_at (d ∷ ds) at) (element_product other (value_at (divided at (d ∷ ds)) other)))
     ∙ ap (element_product (bit_xor other at)) (sym (value-cons F (value_at (d ∷ ds) at) (divided at (d ∷ ds)) other (value-fits F (d ∷ ds) at)))
 
 first_zero :
     (F : IsField 391) (c : ℕ) (cs : List ℕ) (at : ℕ) → c < 256 → value_at (c ∷ cs) at ≡ 0 → value_at cs at ≡ 0 → c ≡ 0
 first_zero F c cs at h e e' =
-    sym (xor_zero_r c) ∙ ap (bit_xor c) (sym (ap (element_product at) e' ∙ product-zero_right F at))
+    sym (xor_zero_r c) ∙ ap (bit_xor c) (sym (ap (element_product at) e' ∙ F.product_zero_right at))
     ∙ sym (value-cons F c cs at h) ∙ e
 
 -- where the quotient and the value are zero, all is

@@ -3,6 +3,7 @@ use Rattle.std.proofs.Common.{◌≡◌, ℕ, zero, suc, ◌+◌, ◌<◌, ◌�
 use Rattle.std.proofs.lemmas.List.{get_or_past, get_or-take, length-take}
 use Rattle.std.proofs.lemmas.Bool.{cases_lt}
 use Rattle.std.specs.Int.Bits.{bit_xor}
+use Rattle.list_members.proofs.Places.{get_or-zeros}
 use Rattle.poly256.specs.Polynomial.{trimmed, sum_of, product_of, IsPolynomial}
 use Rattle.poly256.proofs.ListProducts.{product-empty_left, product-empty_right, length-product}
 use Rattle.poly256.proofs.ListSums.{coefficient-sum}
@@ -28,12 +29,6 @@ trimmed-IsPolynomial capacity cs low high fits bytes = record {
   bytes = λ k. rw (coefficient-trimmed cs k) (bytes k);
   no_end_zeros = trimmed-trimmed cs;
 }
-
-pub take-bytes : (xs : List ℕ) (n : ℕ) → ((k : ℕ) → get_or xs k 0 < 256) → (k : ℕ) → get_or (take n xs) k 0 < 256
-take-bytes xs n h k = elim (cases_lt k n) [
-  | inl inside ↦ rw (get_or-take n xs k 0 inside) (h k)
-  | inr past ↦ rw (coefficient-take_past xs n k past) (lit< tt)
-]
 
 take-take : (xs : List ℕ) (m n : ℕ) → m ≤ n → take m (take n xs) ≡ take m xs
 take-take xs zero n h = refl
@@ -61,14 +56,8 @@ front-trimmed room target n same past = trimmed_from_same (take n room) target (
   | inr further ↦ coefficient-take_past room n k further ∙ sym (past k further)
 ])
 
--- a room begins with zeros
-pub coefficient-zeros : (n k : ℕ) → ◌≡◌ {A = ℕ} (get_or (replicate n 0) k 0) 0
-coefficient-zeros zero k = refl
-coefficient-zeros (suc n) zero = refl
-coefficient-zeros (suc n) (suc k) = coefficient-zeros n k
-
 pub coefficient-zeros_sum : (n : ℕ) (xs : List ℕ) (k : ℕ) → get_or (sum_of (replicate n 0) xs) k 0 ≡ get_or xs k 0
-coefficient-zeros_sum n xs k = coefficient-sum (replicate n 0) xs k ∙ ap (λ (a : ℕ). bit_xor a (get_or xs k 0)) (coefficient-zeros n k)
+coefficient-zeros_sum n xs k = coefficient-sum (replicate n 0) xs k ∙ ap (λ (a : ℕ). bit_xor a (get_or xs k 0)) (get_or-zeros n k)
 
 -- a front that has all that is not 0
 pub coefficient-front :

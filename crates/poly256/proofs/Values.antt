@@ -3,29 +3,20 @@ use Rattle.std.proofs.Common.{◌≡◌, ℕ, zero, suc, ◌<◌, List, [], ◌�
 use Rattle.std.specs.Int.Bits.{bit_xor, xor_zero_r}
 use Rattle.gf256_core.specs.Field.{power, IsField}
 use Rattle.poly256.specs.Polynomial.{element_product, element_power, sum_of, scaled, shifted, product_of, trimmed, prepended, terms_from, value_at}
-use Rattle.poly256.proofs.Xors.{xor-shuffle}
-use Rattle.poly256.proofs.ListSums.{product-zero_right, product-xor_right}
+use Rattle.bit_fields.proofs.Xors.{xor-shuffle}
 use Rattle.poly256.proofs.ListProducts.{product-cons, product-empty_left}
 use Rattle.poly256.proofs.Trims.{trimmed-cons, trimmed-empty}
 
-power-suc : (a n : ℕ) → element_power a (suc n) ≡ element_product (element_power a n) a
-unfolding power
-power-suc a n = refl
-
-power-zero : (a : ℕ) → element_power a 0 ≡ 1
-unfolding power
-power-zero a = refl
-
 -- the terms from one power on are `at` times those from the power before on
 terms-suc : (F : IsField 391) (n : ℕ) (cs : List ℕ) (at : ℕ) → terms_from (suc n) cs at ≡ element_product at (terms_from n cs at)
-unfolding terms_from
-terms-suc F n [] at = sym (product-zero_right F at)
+unfolding terms_from power
+terms-suc F n [] at = sym (F.product_zero_right at)
 terms-suc F n (c ∷ cs) at =
     ap₂ bit_xor
-    (ap (element_product c) (power-suc at n) ∙ sym (F.product_assoc c (element_power at n) at)
+    (sym (F.product_assoc c (element_power at n) at)
     ∙ F.product_comm (element_product c (element_power at n)) at)
     (terms-suc F (suc n) cs at)
-    ∙ sym (product-xor_right F at (element_product c (element_power at n)) (terms_from (suc n) cs at))
+    ∙ sym (F.distributive_right at (element_product c (element_power at n)) (terms_from (suc n) cs at))
 
 pub value-empty : (at : ℕ) → value_at [] at ≡ 0
 unfolding value_at terms_from
@@ -34,9 +25,9 @@ value-empty at = refl
 value-cons_reduced :
     (F : IsField 391) (c : ℕ) (cs : List ℕ) (at : ℕ)
     → value_at (c ∷ cs) at ≡ bit_xor (element_product 1 c) (element_product at (value_at cs at))
-unfolding value_at terms_from
+unfolding value_at terms_from power
 value-cons_reduced F c cs at =
-    ap₂ bit_xor (ap (element_product c) (power-zero at) ∙ F.product_comm c 1) (terms-suc F 0 cs at)
+    ap₂ bit_xor (F.product_comm c 1) (terms-suc F 0 cs at)
 
 pub value-cons :
     (F : IsField 391) (c : ℕ) (cs : List ℕ) (at : ℕ) → c < 256
@@ -69,10 +60,10 @@ value-sum F xs ys at = terms-sum F 0 xs ys at
 
 terms-scaled : (F : IsField 391) (n c : ℕ) (xs : List ℕ) (at : ℕ) → terms_from n (scaled c xs) at ≡ element_product c (terms_from n xs at)
 unfolding terms_from scaled
-terms-scaled F n c [] at = sym (product-zero_right F c)
+terms-scaled F n c [] at = sym (F.product_zero_right c)
 terms-scaled F n c (x ∷ xs) at =
     ap₂ bit_xor (F.product_assoc c x (element_power at n)) (terms-scaled F (suc n) c xs at)
-    ∙ sym (product-xor_right F c (element_product x (element_power at n)) (terms_from (suc n) xs at))
+    ∙ sym (F.distributive_right c (element_product x (element_power at n)) (terms_from (suc n) xs at))
 
 pub value-scaled : (F : IsField 391) (c : ℕ) (xs : List ℕ) (at : ℕ) → value_at (scaled c xs) at ≡ element_product c (value_at xs at)
 unfolding value_at
@@ -80,7 +71,7 @@ value-scaled F c xs at = terms-scaled F 0 c xs at
 
 pub value-shifted : (F : IsField 391) (xs : List ℕ) (at : ℕ) → value_at (shifted xs) at ≡ element_product at (value_at xs at)
 unfolding shifted
-value-shifted F [] at = value-empty at ∙ sym (ap (element_product at) (value-empty at) ∙ product-zero_right F at)
+value-shifted F [] at = value-empty at ∙ sym (ap (element_product at) (value-empty at) ∙ F.product_zero_right at)
 value-shifted F (x ∷ xs) at = value-cons F 0 (x ∷ xs) at (lit< tt)
 
 pub value-product :

@@ -1,6 +1,6 @@
 -- Laws of polynomials. Those of sums and products hold of all lists, as they stand.
 use Rattle.std.specs.Prelude.{◌≡◌, ◌≢◌, ℕ, suc, ◌+◌, ◌-◌, ◌<◌, ◌≤◌, List, [], ◌∷◌, length, slice_index, bit_xor}
-use Rattle.poly256.specs.Polynomial.{element_product, trimmed, sum_of, scaled, shifted, product_of, value_at, IsDivision}
+use Rattle.poly256.specs.Polynomial.{element_product, trimmed, sum_of, scaled, shifted, raised, product_of, value_at, IsDivision}
 
 pub record IsRing : Type 0 where
   pub sum_comm : (xs ys : List ℕ) → sum_of xs ys ≡ sum_of ys xs
@@ -52,6 +52,20 @@ pub record HasDegrees : Type 0 where
       → trimmed other_quotient ≡ other_quotient → ((k : ℕ) → slice_index other_quotient k < 256) → trimmed other_rest ≡ other_rest
       → IsDivision dividend divisor quotient rest → IsDivision dividend divisor other_quotient other_rest
       → (quotient ≡ other_quotient) × (rest ≡ other_rest)
+  -- sums, multiples, and products with a power of x
+  pub sum_length :
+      (xs ys : List ℕ) → length ys ≤ length xs → length (sum_of xs ys) ≡ length xs
+  pub scaled_length : (c : ℕ) (xs : List ℕ) → length (scaled c xs) ≡ length xs
+  pub scaled_coefficient :
+      (c : ℕ) (xs : List ℕ) (k : ℕ)
+      → slice_index (scaled c xs) k ≡ element_product c (slice_index xs k)
+  pub raised_length : (n : ℕ) (xs : List ℕ) → length (raised n xs) ≤ n + length xs
+  pub raised_coefficient :
+      (n : ℕ) (xs : List ℕ) (k : ℕ) → slice_index (raised n xs) (n + k) ≡ slice_index xs k
+  pub raised_below :
+      (n : ℕ) (xs : List ℕ) (k : ℕ) → k < n → slice_index (raised n xs) k ≡ 0
+  pub trimmed_by_last :
+      (xs : List ℕ) (n : ℕ) → length xs ≡ suc n → 0 < slice_index xs n → trimmed xs ≡ xs
 
 -- values of sums and products
 pub record HasValues : Type 0 where

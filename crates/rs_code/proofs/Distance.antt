@@ -4,12 +4,12 @@
 use Rattle.std.proofs.Common.{◌≡◌, ℕ, zero, suc, ◌+◌, ◌*◌, ◌<◌, ◌≤◌, List, [], ◌∷◌, length, get_or, refl, sym, ◌∙◌, ap, ap₂, arith, lit<, inl, inr}
 use Rattle.std.specs.Int.Bits.{bit_xor, xor_zero_r, xor_self}
 use Rattle.std.proofs.lemmas.Bool.{cases_lt, cases_eq}
+use Rattle.bit_fields.proofs.Xors.{xor-shuffle, xor-equal}
 use Rattle.gf256_core.specs.Field.{IsField}
 use Rattle.poly256.specs.Polynomial.{element_product, element_power}
 use Rattle.rs_code.specs.CodeWord.{power_sum, IsCodeWord, differences}
 use Rattle.rs_code.specs.Laws.{HasMinimumDistance}
 use Rattle.rs_code.specs.Mending.{weighed}
-use Rattle.rs_code.proofs.Xors.{xor-shuffle, xor-equal, product-zero_right, product-xor_right, product-turned}
 use Rattle.rs_code.proofs.Differences.{differences-cons_same, differences-cons_apart}
 use Rattle.rs_code.proofs.Powers.{power-add, power-fits, power-not_zero, power-injective}
 use Rattle.rs_code.proofs.PowerSums.{power_sum-cons, power_sum-empty, power_sum-cons_zero, power_sum-zeros, power_sum-sum}
@@ -66,10 +66,10 @@ regroup F b p y q s t =
     ap (λ (x : ℕ). bit_xor x (bit_xor s (element_product y t)))
     (F.product_assoc b (bit_xor p y) q
     ∙ ap (element_product b) (F.distributive p y q)
-    ∙ product-xor_right F b (element_product p q) (element_product y q)
-    ∙ ap (bit_xor (element_product b (element_product p q))) (product-turned F b y q))
+    ∙ F.distributive_right b (element_product p q) (element_product y q)
+    ∙ ap (bit_xor (element_product b (element_product p q))) (F.product_turned b y q))
     ∙ xor-shuffle (element_product b (element_product p q)) (element_product y (element_product b q)) s (element_product y t)
-    ∙ ap (bit_xor (bit_xor (element_product b (element_product p q)) s)) (sym (product-xor_right F y (element_product b q) t))
+    ∙ ap (bit_xor (bit_xor (element_product b (element_product p q)) s)) (sym (F.distributive_right y (element_product b q) t))
 
 pub power_sum-weighed :
     (F : IsField 391) (y : ℕ) (bs : List ℕ) (j : ℕ)
@@ -77,7 +77,7 @@ pub power_sum-weighed :
 unfolding weighed
 power_sum-weighed F y [] j =
     power_sum-empty j
-    ∙ sym (ap₂ bit_xor (power_sum-empty (suc j)) (ap (element_product y) (power_sum-empty j) ∙ product-zero_right F y) ∙ xor_zero_r 0)
+    ∙ sym (ap₂ bit_xor (power_sum-empty (suc j)) (ap (element_product y) (power_sum-empty j) ∙ F.product_zero_right y) ∙ xor_zero_r 0)
 power_sum-weighed F y (b ∷ bs) j =
     let w : ℕ = element_product b (bit_xor (element_power 2 (length bs)) y) in
     let up : suc j * length bs ≡ length bs + j * length bs = omega arith in
@@ -115,7 +115,7 @@ weighed_sum :
 unfolding weighed
 weighed_sum F b bs j =
     let none : element_product b (bit_xor (element_power 2 (length bs)) (element_power 2 (length bs))) ≡ 0 =
-    ap (element_product b) (xor_self (element_power 2 (length bs))) ∙ product-zero_right F b in
+    ap (element_product b) (xor_self (element_power 2 (length bs))) ∙ F.product_zero_right b in
     sym (power_sum-cons_zero F (weighed (element_power 2 (length bs)) bs) j)
     ∙ ap (λ (x : ℕ). power_sum (x ∷ weighed (element_power 2 (length bs)) bs) j) (sym none)
     ∙ power_sum-weighed F (element_power 2 (length bs)) (b ∷ bs) j
@@ -142,7 +142,7 @@ zero_from_sums F (suc count) (suc b ∷ bs) (suc n) from l short bytes few sums 
     (λ j h h'.
     weighed_sum F (suc b) bs j
     ∙ ap₂ bit_xor (sums (suc j) (omega arith) (omega arith))
-    (ap (element_product (element_power 2 (length bs))) (sums j h (omega arith)) ∙ product-zero_right F (element_power 2 (length bs)))
+    (ap (element_product (element_power 2 (length bs))) (sums j h (omega arith)) ∙ F.product_zero_right (element_power 2 (length bs)))
     ∙ xor_zero_r 0)) in
     let alone : element_product (suc b) (element_power 2 (from * length bs)) ≡ 0 =
     sym (xor_zero_r (element_product (suc b) (element_power 2 (from * length bs))))

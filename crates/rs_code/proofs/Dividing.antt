@@ -3,76 +3,38 @@ use Rattle.std.proofs.Common.{◌≡◌, ℕ, zero, suc, ◌+◌, ◌-◌, ◌*�
 use Rattle.std.specs.Int.Bits.{bit_xor, xor_zero_r, xor_self}
 use Rattle.std.proofs.lemmas.List.{drop_at, length-take-le, length-replicate, ext_get_or, get_or_past}
 use Rattle.std.proofs.lemmas.Bool.{cases_lt}
+use Rattle.list_members.proofs.Places.{get_or-zeros}
 use Rattle.gf256_core.specs.Field.{IsField}
 use Rattle.poly256.specs.Polynomial.{element_product, element_power, sum_of, scaled, shifted, raised}
+use Rattle.poly256.specs.Laws.{HasDegrees}
 use Rattle.rs_code.specs.CodeWord.{power_sum}
-use Rattle.rs_code.proofs.Xors.{product-zero_right}
-use Rattle.rs_code.proofs.Places.{get_or-zeros}
 use Rattle.rs_code.proofs.PowerSums.{power_sum-cons_zero, power_sum-zeros, power_sum-sum, power_sum-append}
-use Rattle.rs_code.proofs.Kernels.{IsRow, IsRow-multiple, length-scaled, get_or-scaled}
-use Rattle.rs_code.proofs.Pairing.{get_or-sum, get_or-raised}
-
-pub raised-zero : (xs : List ℕ) → raised 0 xs ≡ xs
-unfolding raised
-raised-zero xs = refl
-
-pub length-sum : (xs ys : List ℕ) → length ys ≤ length xs → length (sum_of xs ys) ≡ length xs
-unfolding sum_of
-length-sum [] [] h = refl
-length-sum [] (y ∷ ys) h = absurd (omega arith)
-length-sum (x ∷ xs) [] h = refl
-length-sum (x ∷ xs) (y ∷ ys) h = ap suc (length-sum xs ys (omega arith))
-
-first_shifted : (us : List ℕ) → get_or (shifted us) 0 0 ≡ 0
-unfolding shifted
-first_shifted [] = refl
-first_shifted (u ∷ us) = refl
-
-behind_shifted : (us : List ℕ) (k : ℕ) → get_or (shifted us) (suc k) 0 ≡ get_or us k 0
-unfolding shifted
-behind_shifted [] k = refl
-behind_shifted (u ∷ us) k = refl
-
-length-shifted : (us : List ℕ) → length (shifted us) ≤ suc (length us)
-unfolding shifted
-length-shifted [] = omega arith
-length-shifted (u ∷ us) = omega arith
-
-get_or-raised_low : (n : ℕ) (us : List ℕ) (k : ℕ) → k < n → get_or (raised n us) k 0 ≡ 0
-unfolding raised
-get_or-raised_low zero us k h = absurd (omega arith)
-get_or-raised_low (suc n) us zero h = first_shifted (raised n us)
-get_or-raised_low (suc n) us (suc k) h = behind_shifted (raised n us) k ∙ get_or-raised_low n us k (omega arith)
-
-length-raised : (n : ℕ) (us : List ℕ) → length (raised n us) ≤ n + length us
-unfolding raised
-length-raised zero us = omega arith
-length-raised (suc n) us = let l = length-shifted (raised n us) in let m = length-raised n us in omega arith
+use Rattle.rs_code.proofs.Kernels.{IsRow, IsRow-multiple}
 
 -- a list to whose members from a place on a multiple of a polynomial is added
 pub same_as_multiple :
-    (F : IsField 391) (old new list : List ℕ) (place f : ℕ) → length new ≡ length old → place + length list ≤ length old
+    (F : IsField 391) (D : HasDegrees) (old new list : List ℕ) (place f : ℕ) → length new ≡ length old → place + length list ≤ length old
     → ((k : ℕ) → k < length list → get_or new (place + k) 0 ≡ bit_xor (get_or old (place + k) 0) (element_product f (get_or list k 0)))
     → ((k : ℕ) → k < place → get_or new k 0 ≡ get_or old k 0)
     → ((k : ℕ) → place + length list ≤ k → get_or new k 0 ≡ get_or old k 0)
     → new ≡ sum_of old (raised place (scaled f list))
-same_as_multiple F old new list place f long room written before left =
-    let r = length-raised place (scaled f list) in
-    let s = length-scaled f list in
-    let l : length (sum_of old (raised place (scaled f list))) ≡ length old = length-sum old (raised place (scaled f list)) (omega arith) in
+same_as_multiple F D old new list place f long room written before left =
+    let r = D.raised_length place (scaled f list) in
+    let s = D.scaled_length f list in
+    let l : length (sum_of old (raised place (scaled f list))) ≡ length old = D.sum_length old (raised place (scaled f list)) (omega arith) in
     ext_get_or 0 new (sum_of old (raised place (scaled f list))) (long ∙ sym l)
     (λ k h. elim (cases_lt k place) [
       | inl low ↦
           before k low
-          ∙ sym (get_or-sum old (raised place (scaled f list)) k
-          ∙ ap (bit_xor (get_or old k 0)) (get_or-raised_low place (scaled f list) k low) ∙ xor_zero_r (get_or old k 0))
+          ∙ sym (D.sum_coefficient old (raised place (scaled f list)) k
+          ∙ ap (bit_xor (get_or old k 0)) (D.raised_below place (scaled f list) k low) ∙ xor_zero_r (get_or old k 0))
       | inr high ↦
           let there : place + (k - place) ≡ k = omega arith in
           let term : get_or (sum_of old (raised place (scaled f list))) k 0 ≡ bit_xor (get_or old k 0) (element_product f (get_or list (k - place) 0)) =
-          get_or-sum old (raised place (scaled f list)) k
+          D.sum_coefficient old (raised place (scaled f list)) k
           ∙ ap (bit_xor (get_or old k 0))
           (ap (λ (n : ℕ). get_or (raised place (scaled f list)) n 0) (sym there)
-          ∙ get_or-raised place (scaled f list) (k - place) ∙ get_or-scaled F f list (k - place)) in
+          ∙ D.raised_coefficient place (scaled f list) (k - place) ∙ D.scaled_coefficient f list (k - place)) in
           elim (cases_lt (k - place) (length list)) [
             | inl inside ↦
                 ap (λ (n : ℕ). get_or new n 0) (sym there) ∙ written (k - place) inside
@@ -80,7 +42,7 @@ same_as_multiple F old new list place f long room written before left =
             | inr past ↦
                 left k (omega arith)
                 ∙ sym (term
-                ∙ ap (bit_xor (get_or old k 0)) (ap (element_product f) (get_or_past list (k - place) 0 past) ∙ product-zero_right F f)
+                ∙ ap (bit_xor (get_or old k 0)) (ap (element_product f) (get_or_past list (k - place) 0 past) ∙ F.product_zero_right f)
                 ∙ xor_zero_r (get_or old k 0))
           ]
     ])
@@ -92,52 +54,52 @@ get_or-zeros_behind (x ∷ xs) n (suc k) = get_or-zeros_behind xs n k
 
 -- the multiple of the generator that begins with an element is 0 at the roots
 pub multiple-zero :
-    (F : IsField 391) (byte j : ℕ) (row : List ℕ) → byte < 256 → power_sum (1 ∷ row) j ≡ 0
+    (F : IsField 391) (D : HasDegrees) (byte j : ℕ) (row : List ℕ) → byte < 256 → power_sum (1 ∷ row) j ≡ 0
     → power_sum (byte ∷ scaled byte row) j ≡ 0
-multiple-zero F byte j row fits root =
+multiple-zero F D byte j row fits root =
     let is : IsRow (length row) j byte (scaled byte row) =
-    IsRow-multiple F (length row) j byte row (scaled byte row) fits refl (length-scaled byte row) (get_or-scaled F byte row) root in
+    IsRow-multiple F (length row) j byte row (scaled byte row) fits refl (D.scaled_length byte row) (D.scaled_coefficient byte row) root in
     is.zero
 
 taken-places :
-    (b : ℕ) (back row : List ℕ) (n k : ℕ)
+    (D : HasDegrees) (b : ℕ) (back row : List ℕ) (n k : ℕ)
     → get_or (0 ∷ sum_of back row) k 0 ≡ bit_xor (get_or (b ∷ back) k 0) (get_or ((b ∷ row) ++ replicate n 0) k 0)
-taken-places b back row n zero = sym (xor_self b)
-taken-places b back row n (suc k) =
-    get_or-sum back row k ∙ ap (bit_xor (get_or back k 0)) (sym (get_or-zeros_behind row n k))
+taken-places D b back row n zero = sym (xor_self b)
+taken-places D b back row n (suc k) =
+    D.sum_coefficient back row k ∙ ap (bit_xor (get_or back k 0)) (sym (get_or-zeros_behind row n k))
 
 -- a row that is 0 with its byte is taken from what stands behind the byte, and the byte goes
 pub taken_away :
-    (F : IsField 391) (b j : ℕ) (back row : List ℕ) → length row ≤ length back → power_sum (b ∷ row) j ≡ 0
+    (F : IsField 391) (D : HasDegrees) (b j : ℕ) (back row : List ℕ) → length row ≤ length back → power_sum (b ∷ row) j ≡ 0
     → power_sum (sum_of back row) j ≡ power_sum (b ∷ back) j
-taken_away F b j back row h root =
-    let l : length (b ∷ back) ≡ length (0 ∷ sum_of back row) = let m = length-sum back row h in omega arith in
+taken_away F D b j back row h root =
+    let l : length (b ∷ back) ≡ length (0 ∷ sum_of back row) = let m = D.sum_length back row h in omega arith in
     let l' : length ((b ∷ row) ++ replicate (length back - length row) 0) ≡ length (0 ∷ sum_of back row) =
-    let m = length-sum back row h in
+    let m = D.sum_length back row h in
     let p = length-append (b ∷ row) (replicate (length back - length row) 0) in
     let q = length-replicate {A = ℕ} (length back - length row) 0 in omega arith in
     sym (power_sum-cons_zero F (sum_of back row) j)
     ∙ power_sum-sum F (0 ∷ sum_of back row) (b ∷ back) ((b ∷ row) ++ replicate (length back - length row) 0) l l'
-    (taken-places b back row (length back - length row)) j
+    (taken-places D b back row (length back - length row)) j
     ∙ ap (bit_xor (power_sum (b ∷ back) j))
     (power_sum-append F (b ∷ row) (replicate (length back - length row) 0) j
     ∙ ap₂ bit_xor
     (ap (element_product (element_power 2 (j * length {A = ℕ} (replicate (length back - length row) 0)))) root
-    ∙ product-zero_right F (element_power 2 (j * length {A = ℕ} (replicate (length back - length row) 0))))
+    ∙ F.product_zero_right (element_power 2 (j * length {A = ℕ} (replicate (length back - length row) 0))))
     (power_sum-zeros F (replicate (length back - length row) 0) (get_or-zeros (length back - length row)) j)
     ∙ xor_zero_r 0)
     ∙ xor_zero_r (power_sum (b ∷ back) j)
 
 -- one step of a division
 pub division-step :
-    (F : IsField 391) (word front row : List ℕ) (place j : ℕ) → place + length row < length word
+    (F : IsField 391) (D : HasDegrees) (word front row : List ℕ) (place j : ℕ) → place + length row < length word
     → front ≡ take (place + 1) word → power_sum (get_or word place 0 ∷ row) j ≡ 0
     → power_sum (drop (place + 1) (front ++ sum_of (drop (place + 1) word) row)) j ≡ power_sum (drop place word) j
-division-step F word front row place j h is_front root =
+division-step F D word front row place j h is_front root =
     let inside : place < length word = omega arith in
     let long : length front ≡ place + 1 = ap length is_front ∙ length-take-le (place + 1) word (omega arith) in
     ap (λ (w : List ℕ). power_sum w j) (drop_at front (sum_of (drop (place + 1) word) row) (place + 1) long)
-    ∙ taken_away F (get_or word place 0) j (drop (place + 1) word) row
+    ∙ taken_away F D (get_or word place 0) j (drop (place + 1) word) row
     (let l = length-drop (place + 1) word in omega arith) root
     ∙ ap (λ (w : List ℕ). power_sum w j)
     (ap (λ (n : ℕ). get_or word place 0 ∷ drop n word) (add-one place) ∙ sym (drop-cons word place 0 inside))

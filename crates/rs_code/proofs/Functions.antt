@@ -4,6 +4,8 @@ use Rattle.std.specs.List.{list_all, range_with_len}
 use Rattle.std.specs.Option.{unwrap_or}
 use Rattle.std.proofs.lemmas.Bool.{and_parts, and_from, eqb-true, ltb-true, lt-ltb, cases_eq}
 use Rattle.gf256_core.specs.Field.{IsField}
+use Rattle.list_members.proofs.Finding.{find-passes, find-none, find-only}
+use Rattle.poly256.specs.Laws.{HasDegrees}
 use Rattle.rs_code.specs.CodeWord.{IsInstance, IsCodeWord, IsNear, IsCorrectable, power_sum, differences, are_near}
 use Rattle.rs_code.specs.Functions.{words, is_code_word, begins_with, encoded, corrected}
 use Rattle.rs_code.specs.Laws.{HasCodeWordTest, HasOneEncoded, IsCorrected}
@@ -11,7 +13,7 @@ use Rattle.rs_code.proofs.Differences.{differences-same, same_from_no_difference
 use Rattle.rs_code.proofs.Words.{same_from_front}
 use Rattle.rs_code.proofs.Nearest.{one_nearest}
 use Rattle.rs_code.proofs.Existence.{code_word_exists}
-use Rattle.rs_code.proofs.Finding.{Stands-words, find-passes, find-none, find-only}
+use Rattle.rs_code.proofs.Finding.{IsIn-words}
 
 bytes_from : (word : List ℕ) → list_all (λ byte. ltb byte 256) word ≡ true → (i : ℕ) → get_or word i 0 < 256
 bytes_from [] e i = lit< tt
@@ -88,7 +90,7 @@ encoded_from F count roots first message word instance l code front =
     let front' : take (length message) word ≡ message = ap (λ (n : ℕ). take n word) l ∙ front in
     sym (ap (λ o. unwrap_or o [])
     (find-only (λ (other : List ℕ). is_code_word count roots first other && begins_with message other) (words count) word
-    (Stands-words count word code.long code.bytes)
+    (IsIn-words count word code.long code.bytes)
     (and_from (is_code_word count roots first word) (begins_with message word) (code_word_to count roots first word code)
     (begins_to message word front'))
     (λ other passes.
@@ -96,9 +98,9 @@ encoded_from F count roots first message word instance l code front =
     same_from_front F count roots first other word instance (code_word_from count roots first other parts.0) code
     (ap (λ (n : ℕ). take n other) (sym l) ∙ begins_from message other parts.1 ∙ sym front))))
 
-pub one_encoded : (F : IsField 391) → HasOneEncoded
-one_encoded F count roots first message word instance l bytes =
-    let some = code_word_exists F count roots first message instance l bytes in
+pub one_encoded : (F : IsField 391) (D : HasDegrees) → HasOneEncoded
+one_encoded F D count roots first message word instance l bytes =
+    let some = code_word_exists F D count roots first message instance l bytes in
     let is : some.0 ≡ encoded count roots first message =
     encoded_from F count roots first message some.0 instance l some.1 some.2 in (
       λ e.
@@ -126,7 +128,7 @@ corrected_to :
 unfolding corrected
 corrected_to F count roots first word other instance is =
     find-only (λ (near : List ℕ). is_code_word count roots first near && are_near roots word near) (words count) other
-    (Stands-words count other is.code.long is.code.bytes)
+    (IsIn-words count other is.code.long is.code.bytes)
     (and_from (is_code_word count roots first other) (are_near roots word other)
     (code_word_to count roots first other is.code) is.near)
     (λ near passes.

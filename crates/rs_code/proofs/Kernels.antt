@@ -4,10 +4,11 @@ use Rattle.std.specs.Int.Bits.{bit_xor, xor_zero_r}
 use Rattle.std.proofs.lemmas.Bool.{cases_lt}
 use Rattle.std.proofs.lemmas.List.{length-take-le}
 use Rattle.std.proofs.lemmas.Nat.{xor_comm}
+use Rattle.bit_fields.proofs.Xors.{xor-cancel}
 use Rattle.gf256_core.specs.Field.{IsField}
 use Rattle.poly256.specs.Polynomial.{element_product, element_power, scaled}
+use Rattle.poly256.specs.Laws.{HasDegrees}
 use Rattle.rs_code.specs.CodeWord.{power_sum}
-use Rattle.rs_code.proofs.Xors.{xor-cancel, product-zero_right}
 use Rattle.rs_code.proofs.Powers.{power-zero, product-one}
 use Rattle.rs_code.proofs.Places.{get_or-push_zero, get_or-front}
 use Rattle.rs_code.proofs.PowerSums.{power_sum-cons, power_sum-empty, power_sum-cons_zero, power_sum-sum, power_sum-multiple, power_sum-append}
@@ -36,38 +37,26 @@ power_sum-push F ws b j fits =
     ∙ ap (element_product b) (power-zero 2) ∙ product-one F b fits) (power_sum-empty j)
     ∙ xor_zero_r b)
 
-pub length-scaled : (a : ℕ) (ws : List ℕ) → length (scaled a ws) ≡ length ws
-unfolding scaled
-length-scaled a [] = refl
-length-scaled a (w ∷ ws) = ap suc (length-scaled a ws)
-
-pub get_or-scaled :
-    (F : IsField 391) (a : ℕ) (ws : List ℕ) (k : ℕ) → get_or (scaled a ws) k 0 ≡ element_product a (get_or ws k 0)
-unfolding scaled
-get_or-scaled F a [] k = sym (product-zero_right F a)
-get_or-scaled F a (w ∷ ws) zero = refl
-get_or-scaled F a (w ∷ ws) (suc k) = get_or-scaled F a ws k
-
 behind_first :
-    (F : IsField 391) (a : ℕ) (ws : List ℕ) (k : ℕ)
+    (F : IsField 391) (D : HasDegrees) (a : ℕ) (ws : List ℕ) (k : ℕ)
     → get_or (0 ∷ scaled a ws) k 0 ≡ element_product a (get_or (0 ∷ ws) k 0)
-behind_first F a ws zero = sym (product-zero_right F a)
-behind_first F a ws (suc k) = get_or-scaled F a ws k
+behind_first F D a ws zero = sym (F.product_zero_right a)
+behind_first F D a ws (suc k) = D.scaled_coefficient a ws k
 
 -- a word times x + a
 pub power_sum-root :
-    (F : IsField 391) (a : ℕ) (ws vs : List ℕ) (j : ℕ) → length vs ≡ suc (length ws)
+    (F : IsField 391) (D : HasDegrees) (a : ℕ) (ws vs : List ℕ) (j : ℕ) → length vs ≡ suc (length ws)
     → ((k : ℕ) → get_or vs k 0 ≡ bit_xor (get_or ws k 0) (element_product a (get_or (0 ∷ ws) k 0)))
     → power_sum vs j ≡ element_product (bit_xor (element_power 2 j) a) (power_sum ws j)
-power_sum-root F a ws vs j l e =
+power_sum-root F D a ws vs j l e =
     let long : length (ws ++ 0 ∷ []) ≡ length vs = let p = length-append ws (0 ∷ []) in omega arith in
-    let long' : length (0 ∷ scaled a ws) ≡ length vs = let p = length-scaled a ws in omega arith in
-    let behind : (k : ℕ) → get_or (0 ∷ scaled a ws) k 0 ≡ element_product a (get_or (0 ∷ ws) k 0) = behind_first F a ws in
+    let long' : length (0 ∷ scaled a ws) ≡ length vs = let p = D.scaled_length a ws in omega arith in
+    let behind : (k : ℕ) → get_or (0 ∷ scaled a ws) k 0 ≡ element_product a (get_or (0 ∷ ws) k 0) = behind_first F D a ws in
     power_sum-sum F vs (ws ++ 0 ∷ []) (0 ∷ scaled a ws) long long'
     (λ k. e k ∙ sym (ap₂ bit_xor (get_or-push_zero ws k) (behind k))) j
     ∙ ap₂ bit_xor (power_sum-push_zero F ws j)
     (power_sum-cons_zero F (scaled a ws) j
-    ∙ power_sum-multiple F a (scaled a ws) ws (sym (length-scaled a ws)) (get_or-scaled F a ws) j)
+    ∙ power_sum-multiple F a (scaled a ws) ws (sym (D.scaled_length a ws)) (D.scaled_coefficient a ws) j)
     ∙ sym (F.distributive (element_power 2 j) a (power_sum ws j))
 
 -- the coefficients of a polynomial of degree d, in a longer list, times x + a
@@ -86,7 +75,7 @@ written_all F a degree old new t zero = t.written 0 (omega arith)
 written_all F a degree old new t (suc k) = elim (cases_lt degree (suc k)) [
   | inl behind ↦
       t.kept (suc k) behind
-      ∙ sym (ap (bit_xor (get_or old (suc k) 0)) (ap (element_product a) (t.zeros k (omega arith)) ∙ product-zero_right F a)
+      ∙ sym (ap (bit_xor (get_or old (suc k) 0)) (ap (element_product a) (t.zeros k (omega arith)) ∙ F.product_zero_right a)
       ∙ xor_zero_r (get_or old (suc k) 0))
   | inr inside ↦ t.written (suc k) inside
 ]
@@ -98,7 +87,7 @@ zeros-root F a degree old new t zero h = absurd (omega arith)
 zeros-root F a degree old new t (suc k) h =
     written_all F a degree old new t (suc k)
     ∙ ap₂ bit_xor (t.zeros (suc k) (omega arith))
-    (ap (element_product a) (t.zeros k (omega arith)) ∙ product-zero_right F a)
+    (ap (element_product a) (t.zeros k (omega arith)) ∙ F.product_zero_right a)
     ∙ xor_zero_r 0
 
 front_places :
@@ -111,7 +100,7 @@ word_places :
     (F : IsField 391) (a degree : ℕ) (old new : List ℕ) → TakesRoot a degree old new → (k : ℕ)
     → get_or (1 ∷ take (degree + 1) new) k 0
     ≡ bit_xor (get_or (1 ∷ take degree old) k 0) (element_product a (get_or (0 ∷ 1 ∷ take degree old) k 0))
-word_places F a degree old new t zero = sym (ap (bit_xor 1) (product-zero_right F a) ∙ xor_zero_r 1)
+word_places F a degree old new t zero = sym (ap (bit_xor 1) (F.product_zero_right a) ∙ xor_zero_r 1)
 word_places F a degree old new t (suc k) =
     let room = t.room in
     get_or-front (degree + 1) new (let l = t.long in omega arith) (zeros-root F a degree old new t) k
@@ -120,14 +109,14 @@ word_places F a degree old new t (suc k) =
     (ap (element_product a) (front_places degree old (omega arith) t.zeros k)))
 
 pub power_sum-takes_root :
-    (F : IsField 391) (a degree : ℕ) (old new : List ℕ) → TakesRoot a degree old new → (j : ℕ)
+    (F : IsField 391) (D : HasDegrees) (a degree : ℕ) (old new : List ℕ) → TakesRoot a degree old new → (j : ℕ)
     → power_sum (1 ∷ take (degree + 1) new) j
     ≡ element_product (bit_xor (element_power 2 j) a) (power_sum (1 ∷ take degree old) j)
-power_sum-takes_root F a degree old new t j =
+power_sum-takes_root F D a degree old new t j =
     let room = t.room in
     let l : length (take (degree + 1) new) ≡ degree + 1 = length-take-le (degree + 1) new (let l = t.long in omega arith) in
     let l' : length (take degree old) ≡ degree = length-take-le degree old (omega arith) in
-    power_sum-root F a (1 ∷ take degree old) (1 ∷ take (degree + 1) new) j (omega arith) (word_places F a degree old new t)
+    power_sum-root F D a (1 ∷ take degree old) (1 ∷ take (degree + 1) new) j (omega arith) (word_places F a degree old new t)
 
 multiple_places :
     (F : IsField 391) (byte : ℕ) (row product : List ℕ) → byte < 256
@@ -152,7 +141,7 @@ IsRow-multiple F roots j byte row product h l l' e zero_sum = record {
       power_sum-multiple F byte (byte ∷ product) (1 ∷ row) (let m : suc (length row) ≡ suc (length product) = omega arith in m)
       (multiple_places F byte row product h e) j
       ∙ ap (element_product byte) zero_sum
-      ∙ product-zero_right F byte;
+      ∙ F.product_zero_right byte;
 }
 
 step_places :
@@ -187,4 +176,4 @@ power_sum-step F roots j b byte front rest next row l l' e places r zero_sum =
     ∙ ap (λ (w : List ℕ). power_sum w j) (sym (append_assoc front rest (0 ∷ [])))
     ∙ power_sum-push_zero F (front ++ rest) j
     ∙ ap (element_product (element_power 2 j)) zero_sum
-    ∙ product-zero_right F (element_power 2 j)
+    ∙ F.product_zero_right (element_power 2 j)

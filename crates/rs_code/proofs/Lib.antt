@@ -1,4 +1,3 @@
-pub mod Xors
 pub mod Powers
 pub mod PowerSums
 pub mod Differences

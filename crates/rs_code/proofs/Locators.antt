@@ -1,24 +1,24 @@
 -- The steps by which a locator becomes longer.
 use Rattle.std.proofs.Common.{◌≡◌, ℕ, ◌+◌, ◌-◌, ◌<◌, ◌≤◌, List, length, get_or, set, take, lit<, sym, ◌∙◌, ap, ap₂, arith, inl, inr}
-use Rattle.std.specs.Int.Bits.{bit_xor, xor_zero_r, xor_self}
+use Rattle.std.specs.Int.Bits.{bit_xor, xor_zero_r, xor_self, xor_zero_l}
 use Rattle.std.proofs.lemmas.Bool.{cases_eq}
 use Rattle.std.proofs.lemmas.List.{get_or-take, get_or-set_same, get_or-set_other}
 use Rattle.gf256_core.specs.Field.{IsField}
 use Rattle.poly256.specs.Polynomial.{element_product, sum_of, scaled, raised}
+use Rattle.poly256.specs.Laws.{HasDegrees}
 use Rattle.rs_code.specs.Mending.{paired, IsLocator, IsEarlier}
-use Rattle.rs_code.proofs.Xors.{zero-xor, product-zero_right}
 use Rattle.rs_code.proofs.Pairing.{paired-zeros, paired-front, paired-add, get_or-add, get_or-add_above}
 
 -- what is left at one more place is taken away
 pub IsLocator-step :
-    (F : IsField 391) (next list sums : List ℕ) (degree at place off rest f : ℕ) → IsLocator next sums (at + 1) place
+    (F : IsField 391) (D : HasDegrees) (next list sums : List ℕ) (degree at place off rest f : ℕ) → IsLocator next sums (at + 1) place
     → IsLocator list sums degree at → degree ≤ place → place ≤ at
     → paired list (λ k. get_or sums (at + k) 0) ≡ off
     → rest ≡ paired (take (at + 2) next) (λ k. get_or sums (place + k) 0) → element_product f off ≡ rest
     → IsLocator (sum_of next (raised (at - place) (scaled f (take (degree + 1) list)))) sums (at + 1) (place + 1)
-IsLocator-step F next list sums degree at place off rest f is is' low high is_off is_rest quotient = record {
-  lead = get_or-add_above F next list (at - place) f (degree + 1) (at + 1) (omega arith) ∙ is.lead;
-  past = λ k h. get_or-add_above F next list (at - place) f (degree + 1) k (omega arith) ∙ is.past k h;
+IsLocator-step F D next list sums degree at place off rest f is is' low high is_off is_rest quotient = record {
+  lead = get_or-add_above F D next list (at - place) f (degree + 1) (at + 1) (omega arith) ∙ is.lead;
+  past = λ k h. get_or-add_above F D next list (at - place) f (degree + 1) k (omega arith) ∙ is.past k h;
   zero = λ j h.
       paired-add F next list sums (at - place) f (degree + 1) j (λ k h'. is'.past k (omega arith))
       ∙ elim (cases_eq j place) [
@@ -33,28 +33,28 @@ IsLocator-step F next list sums degree at place off rest f is is' low high is_of
             ∙ xor_self rest
         | inr apart ↦
             ap₂ bit_xor (is.zero j (omega arith))
-            (ap (element_product f) (is'.zero (j + (at - place)) (omega arith)) ∙ product-zero_right F f)
+            (ap (element_product f) (is'.zero (j + (at - place)) (omega arith)) ∙ F.product_zero_right f)
             ∙ xor_zero_r 0
       ];
 }
 
 -- a locator times a power of x and a multiple of the one before it
 pub IsLocator-begin :
-    (F : IsField 391) (zeros list earlier sums : List ℕ) (degree at last off f : ℕ) → ((k : ℕ) → get_or zeros k 0 ≡ 0)
+    (F : IsField 391) (D : HasDegrees) (zeros list earlier sums : List ℕ) (degree at last off f : ℕ) → ((k : ℕ) → get_or zeros k 0 ≡ 0)
     → degree < length list → IsLocator list sums degree at → IsEarlier earlier sums degree last → degree ≤ at → off < 256
     → paired list (λ k. get_or sums (at + k) 0) ≡ off → element_product f last ≡ off
     → IsLocator (sum_of (sum_of zeros (raised (at + 1 - degree) (scaled 1 (take (degree + 1) list)))) (raised 0 (scaled f (take degree earlier)))) sums (at + 1) degree
-IsLocator-begin F zeros list earlier sums degree at last off f none room is before high fits is_off quotient =
+IsLocator-begin F D zeros list earlier sums degree at last off f none room is before high fits is_off quotient =
     record {
       lead =
-          get_or-add_above F (sum_of zeros (raised (at + 1 - degree) (scaled 1 (take (degree + 1) list)))) earlier 0 f degree (at + 1) (omega arith)
-          ∙ get_or-add F zeros list (at + 1 - degree) 1 (degree + 1) degree (at + 1) (omega arith)
+          get_or-add_above F D (sum_of zeros (raised (at + 1 - degree) (scaled 1 (take (degree + 1) list)))) earlier 0 f degree (at + 1) (omega arith)
+          ∙ get_or-add F D zeros list (at + 1 - degree) 1 (degree + 1) degree (at + 1) (omega arith)
           ∙ ap₂ bit_xor (none (at + 1))
           (ap (element_product 1) (get_or-take (degree + 1) list degree 0 (omega arith) ∙ is.lead) ∙ F.product_one 1 (lit< tt))
-          ∙ zero-xor 1;
+          ∙ xor_zero_l 1;
       past = λ k h.
-          get_or-add_above F (sum_of zeros (raised (at + 1 - degree) (scaled 1 (take (degree + 1) list)))) earlier 0 f degree k (omega arith)
-          ∙ get_or-add_above F zeros list (at + 1 - degree) 1 (degree + 1) k (omega arith)
+          get_or-add_above F D (sum_of zeros (raised (at + 1 - degree) (scaled 1 (take (degree + 1) list)))) earlier 0 f degree k (omega arith)
+          ∙ get_or-add_above F D zeros list (at + 1 - degree) 1 (degree + 1) k (omega arith)
           ∙ none k;
       zero = λ j h.
           paired-add F (sum_of zeros (raised (at + 1 - degree) (scaled 1 (take (degree + 1) list)))) earlier sums 0 f degree j before.past
@@ -62,7 +62,7 @@ IsLocator-begin F zeros list earlier sums degree at last off f none room is befo
           (paired-add F zeros list sums (at + 1 - degree) 1 (degree + 1) j (λ k h'. is.past k (omega arith))
           ∙ ap (λ (a : ℕ). bit_xor a (element_product 1 (paired list (λ k. get_or sums (j + (at + 1 - degree) + k) 0))))
           (paired-zeros F zeros (λ k. get_or sums (j + k) 0) none)
-          ∙ zero-xor (element_product 1 (paired list (λ k. get_or sums (j + (at + 1 - degree) + k) 0))))
+          ∙ xor_zero_l (element_product 1 (paired list (λ k. get_or sums (j + (at + 1 - degree) + k) 0))))
           (ap (λ (i : ℕ). element_product f (paired earlier (λ k. get_or sums (i + k) 0))) (let e : j + 0 ≡ j = omega arith in e))
           ∙ elim (cases_eq (j + 1) degree) [
             | inl same ↦
@@ -73,8 +73,8 @@ IsLocator-begin F zeros list earlier sums degree at last off f none room is befo
                 ∙ xor_self off
             | inr apart ↦
                 ap₂ bit_xor
-                (ap (element_product 1) (is.zero (j + (at + 1 - degree)) (omega arith)) ∙ product-zero_right F 1)
-                (ap (element_product f) (before.zero j (omega arith)) ∙ product-zero_right F f)
+                (ap (element_product 1) (is.zero (j + (at + 1 - degree)) (omega arith)) ∙ F.product_zero_right 1)
+                (ap (element_product f) (before.zero j (omega arith)) ∙ F.product_zero_right f)
                 ∙ xor_zero_r 0
           ];
     }

@@ -3,16 +3,14 @@ use Rattle.std.proofs.Common.{◌≡◌, ℕ, zero, suc, ◌+◌, ◌-◌, ◌<�
 use Rattle.std.specs.Int.Bits.{bit_xor, xor_zero_r, xor_self}
 use Rattle.std.proofs.lemmas.Bool.{cases_eq, cases_lt, leb-true}
 use Rattle.std.proofs.lemmas.List.{get_or_past, get_or-set_other}
+use Rattle.bit_fields.proofs.Xors.{xor-equal}
 use Rattle.gf256_core.specs.Field.{IsField}
 use Rattle.poly256.specs.Polynomial.{element_product, element_power, value_at, sum_of, scaled, shifted}
-use Rattle.poly256.specs.Laws.{HasValues, IgnoresEndZeros}
+use Rattle.poly256.specs.Laws.{HasDegrees, HasValues, IgnoresEndZeros}
 use Rattle.rs_code.specs.CodeWord.{IsNear, power_sum, differences, bound}
 use Rattle.rs_code.specs.Mending.{weighed, without, blanked, HasLead, IsNearWith}
-use Rattle.rs_code.proofs.Xors.{xor-equal, product-zero_right}
 use Rattle.rs_code.proofs.Powers.{power-fits}
 use Rattle.rs_code.proofs.Places.{get_or-front}
-use Rattle.rs_code.proofs.Kernels.{get_or-scaled}
-use Rattle.rs_code.proofs.Pairing.{get_or-sum}
 use Rattle.rs_code.proofs.Distance.{weight, weight-cons, length-weighed, weighed-fits, power_sum-weighed, difference, length-difference, get_or-difference, weight-difference}
 
 pub without-none : (word : List ℕ) → without [] word ≡ word
@@ -91,19 +89,19 @@ behind_all cs (suc k) h none = elim (cases_eq (suc k) (length cs)) [
 
 -- the value of a polynomial times x + a
 pub value-root :
-    (F : IsField 391) (V : HasValues) (E : IgnoresEndZeros) (old new : List ℕ) (a x : ℕ) → length new ≡ length old
+    (F : IsField 391) (D : HasDegrees) (V : HasValues) (E : IgnoresEndZeros) (old new : List ℕ) (a x : ℕ) → length new ≡ length old
     → get_or old (length old - 1) 0 ≡ 0
     → ((k : ℕ) → k < length old → get_or new k 0 ≡ bit_xor (get_or (0 ∷ old) k 0) (element_product a (get_or old k 0)))
     → value_at new x ≡ element_product (bit_xor x a) (value_at old x)
-value-root F V E old new a x long room written =
+value-root F D V E old new a x long room written =
     let same : (k : ℕ) → get_or new k 0 ≡ get_or (sum_of (shifted old) (scaled a old)) k 0 = λ k.
     elim (cases_lt k (length old)) [
       | inl inside ↦ written k inside
       | inr past ↦
           get_or_past new k 0 (omega arith)
-          ∙ sym (ap₂ bit_xor (behind_all old k past room) (ap (element_product a) (get_or_past old k 0 past) ∙ product-zero_right F a) ∙ xor_zero_r 0)
+          ∙ sym (ap₂ bit_xor (behind_all old k past room) (ap (element_product a) (get_or_past old k 0 past) ∙ F.product_zero_right a) ∙ xor_zero_r 0)
     ]
-    ∙ sym (get_or-sum (shifted old) (scaled a old) k ∙ ap₂ bit_xor (get_or-shifted old k) (get_or-scaled F a old k)) in
+    ∙ sym (D.sum_coefficient (shifted old) (scaled a old) k ∙ ap₂ bit_xor (get_or-shifted old k) (D.scaled_coefficient a old k)) in
     sym (E.values new x)
     ∙ ap (λ (cs : List ℕ). value_at cs x) (E.by_coefficients new (sum_of (shifted old) (scaled a old)) same)
     ∙ E.values (sum_of (shifted old) (scaled a old)) x
@@ -114,7 +112,7 @@ value-root F V E old new a x long room written =
 pub value-root_kept :
     (F : IsField 391) (x a v w : ℕ) → w ≡ element_product (bit_xor x a) v → v ≡ 0 → w ≡ 0
 value-root_kept F x a v w e none =
-    e ∙ ap (element_product (bit_xor x a)) none ∙ product-zero_right F (bit_xor x a)
+    e ∙ ap (element_product (bit_xor x a)) none ∙ F.product_zero_right (bit_xor x a)
 
 pub value-root_here : (F : IsField 391) (a v w : ℕ) → w ≡ element_product (bit_xor a a) v → w ≡ 0
 value-root_here F a v w e = e ∙ ap (λ (b : ℕ). element_product b v) (xor_self a) ∙ F.product_zero v
@@ -127,7 +125,7 @@ lead-root F old new a degree long room is written = record {
   lead =
       written (degree + 1) room
       ∙ ap₂ bit_xor (ap (λ (k : ℕ). get_or (0 ∷ old) k 0) (let m : degree + 1 ≡ suc degree = omega arith in m) ∙ is.lead)
-      (ap (element_product a) (is.past (degree + 1) (omega arith)) ∙ product-zero_right F a)
+      (ap (element_product a) (is.past (degree + 1) (omega arith)) ∙ F.product_zero_right a)
       ∙ xor_zero_r 1;
   past = λ k h.
       elim (cases_lt k (length old)) [
@@ -135,7 +133,7 @@ lead-root F old new a degree long room is written = record {
             written k inside
             ∙ ap₂ bit_xor
             (ap (λ (i : ℕ). get_or (0 ∷ old) i 0) (let m : k ≡ suc (k - 1) = omega arith in m) ∙ is.past (k - 1) (omega arith))
-            (ap (element_product a) (is.past k (omega arith)) ∙ product-zero_right F a)
+            (ap (element_product a) (is.past k (omega arith)) ∙ F.product_zero_right a)
             ∙ xor_zero_r 0
         | inr past ↦ get_or_past new k 0 (omega arith)
       ];
@@ -170,7 +168,7 @@ without-same F (mark ∷ marks) word other ds inside same k e =
           ap (λ (n : ℕ). get_or (weighed (element_power 2 (length ds - 1 - mark)) ds) n 0) here
           ∙ get_or-weighed (element_power 2 (length ds - 1 - mark)) ds mark (length ds - 1 - mark) (omega arith)
           ∙ ap (element_product (get_or ds mark 0)) (xor_self (element_power 2 (length ds - 1 - mark)))
-          ∙ product-zero_right F (get_or ds mark 0)
+          ∙ F.product_zero_right (get_or ds mark 0)
       | inr apart ↦
           weighed-zero (element_power 2 (length ds - 1 - mark)) ds i F
           (same i (sym (get_or-set_other word mark i 0 0 apart) ∙ e' ∙ get_or-set_other other mark i 0 0 apart))

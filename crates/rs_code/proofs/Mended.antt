@@ -2,9 +2,10 @@
 use Rattle.std.proofs.Common.{◌≡◌, ℕ, zero, suc, ◌+◌, ◌-◌, ◌*◌, ◌/◌, ◌<◌, ◌≤◌, List, [], ◌∷◌, length, get_or, take, lit<, refl, sym, ◌∙◌, ap, subst, arith, inl, inr}
 use Rattle.std.specs.Int.Bits.{bit_xor, xor_zero_r}
 use Rattle.std.proofs.lemmas.List.{get_or-take, length-take-le}
+use Rattle.list_members.proofs.Places.{take-below}
 use Rattle.gf256_core.specs.Field.{IsField}
 use Rattle.poly256.specs.Polynomial.{element_product, element_power, value_at}
-use Rattle.poly256.specs.Laws.{HasFewRoots, HasValues, IgnoresEndZeros}
+use Rattle.poly256.specs.Laws.{HasDegrees, HasFewRoots, HasValues, IgnoresEndZeros}
 use Rattle.rs_code.specs.CodeWord.{IsInstance, power_sum}
 use Rattle.rs_code.specs.Mending.{zero_places, points_of, points_sum, with_errors, without, IsLocator, IsNearWith, HasLead}
 use Rattle.rs_code.proofs.PowerSums.{power_sum-sum}
@@ -53,38 +54,28 @@ locator_of count roots marks all locator whole low all_long few_marks pairs few 
       marked = marked;
     }
 
-front-bytes_none : (k : ℕ) → get_or {A = ℕ} [] k 0 < 256
-front-bytes_none k = lit< tt
-
-front-bytes :
-    (n : ℕ) (xs : List ℕ) → ((k : ℕ) → get_or xs k 0 < 256) → (k : ℕ) → get_or (take n xs) k 0 < 256
-front-bytes zero xs bytes k = front-bytes_none k
-front-bytes (suc n) [] bytes k = bytes k
-front-bytes (suc n) (x ∷ xs) bytes zero = bytes 0
-front-bytes (suc n) (x ∷ xs) bytes (suc k) = front-bytes n xs (λ i. bytes (suc i)) k
-
 -- there are at most as many places as roots
 pub few_places :
-    (F : IsField 391) (R : HasFewRoots) (count roots : ℕ) (marks locator sums whole : List ℕ) (low degree : ℕ)
+    (F : IsField 391) (D : HasDegrees) (R : HasFewRoots) (count roots : ℕ) (marks locator sums whole : List ℕ) (low degree : ℕ)
     → IsLocatorOf count roots marks locator sums whole low degree → roots < count → count ≤ 255
     → length (zero_places (take (degree + 1) whole) count) ≤ roots
-few_places F R count roots marks locator sums whole low degree is below short =
+few_places F D R count roots marks locator sums whole low degree is below short =
     let few = is.few in
     let many = is.many in
     let many_sums = is.many_sums in
     let l : length (take (degree + 1) whole) ≡ suc degree =
     length-take-le (degree + 1) whole (let m = is.whole_long in omega arith) ∙ (let e : degree + 1 ≡ suc degree = omega arith in e) in
     let most : length (zero_places (take (degree + 1) whole) count) ≤ degree =
-    few_zero_places F R (take (degree + 1) whole) count degree short (front-bytes (degree + 1) whole is.whole_bytes) l
+    few_zero_places F D R (take (degree + 1) whole) count degree short (take-below 256 (degree + 1) whole (lit< tt) is.whole_bytes) l
     (get_or-take (degree + 1) whole degree 0 (omega arith) ∙ is.lead.lead) in
     omega arith
 
 pub few_found :
-    (F : IsField 391) (R : HasFewRoots) (count roots : ℕ) (marks locator sums whole places : List ℕ) (low degree found : ℕ)
+    (F : IsField 391) (D : HasDegrees) (R : HasFewRoots) (count roots : ℕ) (marks locator sums whole places : List ℕ) (low degree found : ℕ)
     → IsLocatorOf count roots marks locator sums whole low degree → roots < count → count ≤ 255 → length places ≡ count
     → found ≤ count → take found places ≡ zero_places (take (degree + 1) whole) count → found ≤ roots
-few_found F R count roots marks locator sums whole places low degree found is below short long within e =
-    let few = few_places F R count roots marks locator sums whole low degree is below short in
+few_found F D R count roots marks locator sums whole places low degree found is below short long within e =
+    let few = few_places F D R count roots marks locator sums whole low degree is below short in
     let l : length (take found places) ≡ found = length-take-le found places (omega arith) in
     let m = ap length e in
     omega arith
@@ -144,7 +135,7 @@ errors-located F V E count roots first marks word other all sums errors locator 
     let fronted : value_at (take (degree + 1) whole) (element_power 2 place) ≡ value_at whole (element_power 2 place) =
     value-front E (degree + 1) whole (element_power 2 place) (omega arith) (λ i h. is.lead.past i (omega arith)) in
     elim (located F V (take (low + 1) locator) (without marks errors) (length sums / 2) first (omega arith)
-    (without-fits F marks errors has.bytes) (front-bytes (low + 1) locator is.bytes) (omega arith)
+    (without-fits F marks errors has.bytes) (take-below 256 (low + 1) locator (lit< tt) is.bytes) (omega arith)
     (λ j h.
     paired-same_below (take (low + 1) locator) (λ i. power_sum (without marks errors) (first + (j + i))) (λ i. get_or sums (j + i) 0)
     (λ i h'.
@@ -166,7 +157,7 @@ errors-located F V E count roots first marks word other all sums errors locator 
 
 -- what the steps of `mend` give
 pub mended :
-    (F : IsField 391) (R : HasFewRoots) (V : HasValues) (E : IgnoresEndZeros) (count roots first : ℕ) (marks word other all sums locator whole places points solved result : List ℕ) (low degree found : ℕ)
+    (F : IsField 391) (D : HasDegrees) (R : HasFewRoots) (V : HasValues) (E : IgnoresEndZeros) (count roots first : ℕ) (marks word other all sums locator whole places points solved result : List ℕ) (low degree found : ℕ)
     → IsInstance count roots first → IsNearWith count roots first marks word other
     → ((i : ℕ) → i < length marks → get_or marks i 0 < count) → length word ≡ count
     → ((k : ℕ) → get_or word k 0 < 256) → ((n : ℕ) → n < roots → get_or all n 0 ≡ power_sum word (first + n))
@@ -177,10 +168,10 @@ pub mended :
     → ((i : ℕ) → i < length errors → element_product (get_or errors i 0) (element_power 2 (first * get_or places i 0)) ≡ get_or solved i 0)
     → result ≡ with_errors word places errors)
     → result ≡ other
-mended F R V E count roots first marks word other all sums locator whole places points solved result low degree found instance near inside long bytes sums_are takes is are_places are_points are_found solves adds =
+mended F D R V E count roots first marks word other all sums locator whole places points solved result low degree found instance near inside long bytes sums_are takes is are_places are_points are_found solves adds =
     let has = has_errors F count roots first marks word other all near inside long bytes sums_are in
     let there = errors-located F V E count roots first marks word other all sums (difference word other) locator whole low degree has takes is instance.short instance.below in
-    let few = few_places F R count roots marks locator sums whole low degree is instance.below instance.short in
+    let few = few_places F D R count roots marks locator sums whole low degree is instance.below instance.short in
     let many : length (gathered (take (degree + 1) whole) (difference word other)) ≡ length places =
     length-gathered (take (degree + 1) whole) (difference word other)
     ∙ ap (λ (n : ℕ). length (zero_places (take (degree + 1) whole) n)) has.long ∙ sym (ap length are_places) in

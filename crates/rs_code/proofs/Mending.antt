@@ -3,11 +3,11 @@ use Rattle.std.proofs.Common.{◌≡◌, ℕ, zero, suc, ◌+◌, ◌-◌, ◌*�
 use Rattle.std.specs.Int.Bits.{bit_xor, xor_zero_r}
 use Rattle.std.proofs.lemmas.Bool.{cases_eq}
 use Rattle.std.proofs.lemmas.List.{set_at, get_or_at}
+use Rattle.bit_fields.proofs.Xors.{xor-cancel}
 use Rattle.gf256_core.specs.Field.{IsField}
 use Rattle.poly256.specs.Polynomial.{element_product, element_power, value_at}
 use Rattle.rs_code.specs.CodeWord.{power_sum}
 use Rattle.rs_code.specs.Mending.{zero_places, points_of, points_sum, with_errors}
-use Rattle.rs_code.proofs.Xors.{xor-cancel}
 use Rattle.rs_code.proofs.Powers.{power-suc, power-zero, power-add}
 use Rattle.rs_code.proofs.PowerSums.{power_sum-cons, power_sum-empty, power_sum-cons_zero}
 use Rattle.rs_code.proofs.Distance.{difference}

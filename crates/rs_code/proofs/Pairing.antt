@@ -1,12 +1,12 @@
 -- The pairing of a polynomial with a row of sums: it is linear, and a polynomial times a power of x meets the row further on.
 use Rattle.std.proofs.Common.{◌≡◌, ℕ, zero, suc, ◌+◌, ◌-◌, ◌<◌, ◌≤◌, List, [], ◌∷◌, length, get_or, take, lit<, refl, sym, ◌∙◌, ap, ap₂, arith}
-use Rattle.std.specs.Int.Bits.{bit_xor, xor_zero_r}
+use Rattle.std.specs.Int.Bits.{bit_xor, xor_zero_r, xor_zero_l}
 use Rattle.std.proofs.lemmas.List.{get_or_past, length-take}
+use Rattle.bit_fields.proofs.Xors.{xor-shuffle}
 use Rattle.gf256_core.specs.Field.{IsField}
 use Rattle.poly256.specs.Polynomial.{element_product, sum_of, scaled, shifted, raised}
+use Rattle.poly256.specs.Laws.{HasDegrees}
 use Rattle.rs_code.specs.Mending.{paired}
-use Rattle.rs_code.proofs.Xors.{xor-shuffle, zero-xor, product-zero_right, product-xor_right}
-use Rattle.rs_code.proofs.Kernels.{get_or-scaled}
 
 pub paired-empty : (row : ℕ → ℕ) → paired [] row ≡ 0
 unfolding paired
@@ -53,7 +53,7 @@ paired-sum :
     (F : IsField 391) (xs ys : List ℕ) (row : ℕ → ℕ)
     → paired (sum_of xs ys) row ≡ bit_xor (paired xs row) (paired ys row)
 unfolding paired sum_of
-paired-sum F [] ys row = sym (zero-xor (paired ys row))
+paired-sum F [] ys row = sym (xor_zero_l (paired ys row))
 paired-sum F (x ∷ xs) [] row = sym (xor_zero_r (paired (x ∷ xs) row))
 paired-sum F (x ∷ xs) (y ∷ ys) row =
     ap₂ bit_xor (F.distributive x y (row 0)) (paired-sum F xs ys (λ k. row (suc k)))
@@ -63,10 +63,10 @@ paired-scaled :
     (F : IsField 391) (c : ℕ) (xs : List ℕ) (row : ℕ → ℕ)
     → paired (scaled c xs) row ≡ element_product c (paired xs row)
 unfolding paired scaled
-paired-scaled F c [] row = sym (product-zero_right F c)
+paired-scaled F c [] row = sym (F.product_zero_right c)
 paired-scaled F c (x ∷ xs) row =
     ap₂ bit_xor (F.product_assoc c x (row 0)) (paired-scaled F c xs (λ k. row (suc k)))
-    ∙ sym (product-xor_right F c (element_product x (row 0)) (paired xs (λ k. row (suc k))))
+    ∙ sym (F.distributive_right c (element_product x (row 0)) (paired xs (λ k. row (suc k))))
 
 paired-shifted :
     (F : IsField 391) (xs : List ℕ) (row : ℕ → ℕ) → paired (shifted xs) row ≡ paired xs (λ k. row (suc k))
@@ -74,7 +74,7 @@ unfolding paired shifted
 paired-shifted F [] row = refl
 paired-shifted F (x ∷ xs) row =
     ap (λ (a : ℕ). bit_xor a (paired (x ∷ xs) (λ k. row (suc k)))) (F.product_zero (row 0))
-    ∙ zero-xor (paired (x ∷ xs) (λ k. row (suc k)))
+    ∙ xor_zero_l (paired (x ∷ xs) (λ k. row (suc k)))
 
 paired-raised :
     (F : IsField 391) (n : ℕ) (xs : List ℕ) (row : ℕ → ℕ)
@@ -112,43 +112,24 @@ paired-add F room list sums place f n j zeros =
     ∙ paired-same list (λ k. get_or sums (j + (place + k)) 0) (λ k. get_or sums (j + place + k) 0)
     (λ k. ap (λ (i : ℕ). get_or sums i 0) (let e : j + (place + k) ≡ j + place + k = omega arith in e))))
 
-pub get_or-sum : (xs ys : List ℕ) (k : ℕ) → get_or (sum_of xs ys) k 0 ≡ bit_xor (get_or xs k 0) (get_or ys k 0)
-unfolding sum_of
-get_or-sum [] ys k = sym (zero-xor (get_or ys k 0))
-get_or-sum (x ∷ xs) [] k = sym (xor_zero_r (get_or (x ∷ xs) k 0))
-get_or-sum (x ∷ xs) (y ∷ ys) zero = refl
-get_or-sum (x ∷ xs) (y ∷ ys) (suc k) = get_or-sum xs ys k
-
-get_or-shifted : (xs : List ℕ) (k : ℕ) → get_or (shifted xs) (suc k) 0 ≡ get_or xs k 0
-unfolding shifted
-get_or-shifted [] k = refl
-get_or-shifted (x ∷ xs) k = refl
-
-pub get_or-raised : (n : ℕ) (us : List ℕ) (j : ℕ) → get_or (raised n us) (n + j) 0 ≡ get_or us j 0
-unfolding raised
-get_or-raised zero us j = ap (λ (k : ℕ). get_or us k 0) (let e : 0 + j ≡ j = omega arith in e)
-get_or-raised (suc n) us j =
-    ap (λ (k : ℕ). get_or (shifted (raised n us)) k 0) (let e : suc n + j ≡ suc (n + j) = omega arith in e)
-    ∙ get_or-shifted (raised n us) (n + j) ∙ get_or-raised n us j
-
 -- the coefficients that the multiple reaches
 pub get_or-add :
-    (F : IsField 391) (room list : List ℕ) (place f n i k : ℕ) → place + i ≡ k
+    (F : IsField 391) (D : HasDegrees) (room list : List ℕ) (place f n i k : ℕ) → place + i ≡ k
     → get_or (sum_of room (raised place (scaled f (take n list)))) k 0
     ≡ bit_xor (get_or room k 0) (element_product f (get_or (take n list) i 0))
-get_or-add F room list place f n i k e =
-    get_or-sum room (raised place (scaled f (take n list))) k
+get_or-add F D room list place f n i k e =
+    D.sum_coefficient room (raised place (scaled f (take n list))) k
     ∙ ap (bit_xor (get_or room k 0))
     (ap (λ (m : ℕ). get_or (raised place (scaled f (take n list))) m 0) (sym e)
-    ∙ get_or-raised place (scaled f (take n list)) i
-    ∙ get_or-scaled F f (take n list) i)
+    ∙ D.raised_coefficient place (scaled f (take n list)) i
+    ∙ D.scaled_coefficient f (take n list) i)
 
 -- and those above it
 pub get_or-add_above :
-    (F : IsField 391) (room list : List ℕ) (place f n k : ℕ) → place + n ≤ k
+    (F : IsField 391) (D : HasDegrees) (room list : List ℕ) (place f n k : ℕ) → place + n ≤ k
     → get_or (sum_of room (raised place (scaled f (take n list)))) k 0 ≡ get_or room k 0
-get_or-add_above F room list place f n k h =
-    get_or-add F room list place f n (k - place) k (omega arith)
+get_or-add_above F D room list place f n k h =
+    get_or-add F D room list place f n (k - place) k (omega arith)
     ∙ ap (bit_xor (get_or room k 0))
-    (ap (element_product f) (get_or_past (take n list) (k - place) 0 (omega (arith, length-take n list))) ∙ product-zero_right F f)
+    (ap (element_product f) (get_or_past (take n list) (k - place) 0 (omega (arith, length-take n list))) ∙ F.product_zero_right f)
     ∙ xor_zero_r (get_or room k 0)

@@ -1,7 +1,7 @@
 -- The bytes of a list by their places.
-use Rattle.std.proofs.Common.{◌≡◌, ℕ, zero, suc, ◌+◌, ◌<◌, ◌≤◌, List, [], ◌∷◌, ◌++◌, length, get_or, set, take, replicate, lit<, refl, sym, ◌∙◌, ap, arith, inl, inr}
+use Rattle.std.proofs.Common.{◌≡◌, ℕ, zero, suc, ◌+◌, ◌<◌, ◌≤◌, List, [], ◌∷◌, ◌++◌, length, get_or, set, take, lit<, refl, sym, ◌∙◌, ap, arith, inl, inr}
 use Rattle.std.proofs.lemmas.Bool.{cases_lt, cases_eq}
-use Rattle.std.proofs.lemmas.List.{get_or-set_same, get_or-set_other, get_or_past, get_or-take, get_or-replicate, length-replicate, length-take-le, ext_get_or}
+use Rattle.std.proofs.lemmas.List.{get_or-set_same, get_or-set_other, get_or_past, get_or-take, length-take-le, ext_get_or}
 
 -- one more byte is written
 pub set_grows :
@@ -35,12 +35,6 @@ get_or-push_zero [] zero = refl
 get_or-push_zero [] (suc k) = refl
 get_or-push_zero (x ∷ xs) zero = refl
 get_or-push_zero (x ∷ xs) (suc k) = get_or-push_zero xs k
-
-pub get_or-zeros : (n k : ℕ) → get_or {A = ℕ} (replicate n 0) k 0 ≡ 0
-get_or-zeros n k = elim (cases_lt k n) [
-  | inl inside ↦ get_or-replicate n k 0 0 inside
-  | inr behind ↦ get_or_past (replicate n 0) k 0 (let l : length {A = ℕ} (replicate n 0) ≡ n = length-replicate n 0 in omega arith)
-]
 
 -- a front behind which all is 0 has all the bytes
 pub get_or-front :

@@ -1,10 +1,10 @@
 -- Power sums of words: they are linear, and a word before another is raised.
 use Rattle.std.proofs.Common.{◌≡◌, ℕ, suc, ◌+◌, ◌*◌, List, [], ◌∷◌, ◌++◌, length, get_or, refl, sym, ◌∙◌, ap, ap₂, arith, length-append}
-use Rattle.std.specs.Int.Bits.{bit_xor, xor_zero_r, xor_assoc}
+use Rattle.std.specs.Int.Bits.{bit_xor, xor_zero_r, xor_assoc, xor_zero_l}
+use Rattle.bit_fields.proofs.Xors.{xor-shuffle}
 use Rattle.gf256_core.specs.Field.{IsField}
 use Rattle.poly256.specs.Polynomial.{element_product, element_power}
 use Rattle.rs_code.specs.CodeWord.{power_sum}
-use Rattle.rs_code.proofs.Xors.{xor-shuffle, zero-xor, product-zero_right, product-xor_right, product-turned}
 use Rattle.rs_code.proofs.Powers.{power-add}
 
 pub power_sum-cons :
@@ -21,7 +21,7 @@ pub power_sum-cons_zero : (F : IsField 391) (bs : List ℕ) (j : ℕ) → power_
 power_sum-cons_zero F bs j =
     power_sum-cons 0 bs j
     ∙ ap (λ (x : ℕ). bit_xor x (power_sum bs j)) (F.product_zero (element_power 2 (j * length bs)))
-    ∙ zero-xor (power_sum bs j)
+    ∙ xor_zero_l (power_sum bs j)
 
 pub power_sum-zeros :
     (F : IsField 391) (bs : List ℕ) → ((k : ℕ) → get_or bs k 0 ≡ 0) → (j : ℕ) → power_sum bs j ≡ 0
@@ -60,7 +60,7 @@ pub power_sum-multiple :
     → ((k : ℕ) → get_or zs k 0 ≡ element_product a (get_or xs k 0)) → (j : ℕ)
     → power_sum zs j ≡ element_product a (power_sum xs j)
 power_sum-multiple F a [] [] l e j =
-    power_sum-empty j ∙ sym (ap (element_product a) (power_sum-empty j) ∙ product-zero_right F a)
+    power_sum-empty j ∙ sym (ap (element_product a) (power_sum-empty j) ∙ F.product_zero_right a)
 power_sum-multiple F a [] (x ∷ xs) l e j = absurd (omega arith)
 power_sum-multiple F a (z ∷ zs) [] l e j = absurd (omega arith)
 power_sum-multiple F a (z ∷ zs) (x ∷ xs) l e j =
@@ -72,14 +72,14 @@ power_sum-multiple F a (z ∷ zs) (x ∷ xs) l e j =
     ∙ sym (ap (λ (n : ℕ). element_product a (element_product x (q n))) lx))
     (power_sum-multiple F a zs xs lx (λ k. e (suc k)) j)
     ∙ sym (ap (element_product a) (power_sum-cons x xs j)
-    ∙ product-xor_right F a (element_product x (q (length xs))) (power_sum xs j))
+    ∙ F.distributive_right a (element_product x (q (length xs))) (power_sum xs j))
 
 regroup :
     (F : IsField 391) (q a b c : ℕ)
     → bit_xor (element_product q a) (bit_xor (element_product q b) c) ≡ bit_xor (element_product q (bit_xor a b)) c
 regroup F q a b c =
     sym (xor_assoc (element_product q a) (element_product q b) c)
-    ∙ ap (λ (x : ℕ). bit_xor x c) (sym (product-xor_right F q a b))
+    ∙ ap (λ (x : ℕ). bit_xor x c) (sym (F.distributive_right q a b))
 
 -- a word before another stands for it times a power
 pub power_sum-append :
@@ -88,8 +88,8 @@ pub power_sum-append :
     ≡ bit_xor (element_product (element_power 2 (j * length ys)) (power_sum xs j)) (power_sum ys j)
 power_sum-append F [] ys j =
     sym (ap (λ (x : ℕ). bit_xor x (power_sum ys j))
-    (ap (element_product (element_power 2 (j * length ys))) (power_sum-empty j) ∙ product-zero_right F (element_power 2 (j * length ys)))
-    ∙ zero-xor (power_sum ys j))
+    (ap (element_product (element_power 2 (j * length ys))) (power_sum-empty j) ∙ F.product_zero_right (element_power 2 (j * length ys)))
+    ∙ xor_zero_l (power_sum ys j))
 power_sum-append F (x ∷ xs) ys j =
     let q : ℕ = element_power 2 (j * length ys) in
     let p : ℕ = element_power 2 (j * length xs) in
@@ -99,7 +99,7 @@ power_sum-append F (x ∷ xs) ys j =
     ∙ ap₂ bit_xor
     (ap (λ (n : ℕ). element_product x (element_power 2 n)) long
     ∙ ap (element_product x) (power-add F 2 (j * length ys) (j * length xs))
-    ∙ product-turned F x q p)
+    ∙ F.product_turned x q p)
     (power_sum-append F xs ys j)
     ∙ regroup F q (element_product x p) (power_sum xs j) (power_sum ys j)
     ∙ sym (ap (λ (s : ℕ). bit_xor (element_product q s) (power_sum ys j)) (power_sum-cons x xs j))

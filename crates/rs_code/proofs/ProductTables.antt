@@ -6,7 +6,6 @@ use Rattle.poly256.specs.Polynomial.{element_product, element_power}
 use Rattle.rs_code.specs.declared.product.TheConstants.{POWERS, LOGARITHMS}
 use Rattle.rs_code.proofs.Powers.{power-suc, power-add}
 use Rattle.rs_code.proofs.ZeroPlaces.{chosen_unless}
-use Rattle.rs_code.proofs.Xors.{product-zero_right}
 
 -- all rows are 0
 are_zeros : List ℕ → Bool
@@ -126,7 +125,7 @@ product_row F a b fits fits' = elim (cases_eq a 0) [
         let far : 510 ≤ get_or LOGARITHMS a 0 + get_or LOGARITHMS b 0 =
         subst (λ (n : ℕ). 510 ≤ get_or LOGARITHMS a 0 + get_or LOGARITHMS n 0) (sym none) (let e = logarithm-zero in omega arith) in
         past_from_test (element_power 2 0) 510 POWERS powers_test (get_or LOGARITHMS a 0 + get_or LOGARITHMS b 0) far
-        ∙ sym (ap (element_product a) none ∙ product-zero_right F a)
+        ∙ sym (ap (element_product a) none ∙ F.product_zero_right a)
     | inr some' ↦
         let l = logarithm-some a (omega arith) fits in
         let m = logarithm-some b (omega arith) fits' in

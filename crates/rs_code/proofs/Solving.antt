@@ -1,13 +1,13 @@
 -- Values at different points by their sums: the sums of the values times their points plus one more point.
 use Rattle.std.proofs.Common.{◌≡◌, ◌≢◌, ℕ, zero, suc, ◌+◌, ◌<◌, List, [], ◌∷◌, ◌++◌, length, get_or, set, take, drop, lit<, refl, sym, ◌∙◌, ap, ap₂, subst, arith, inl, inr}
-use Rattle.std.specs.Int.Bits.{bit_xor, xor_zero_r, xor_assoc, xor_self}
+use Rattle.std.specs.Int.Bits.{bit_xor, xor_zero_r, xor_assoc, xor_self, xor_zero_l}
 use Rattle.std.proofs.lemmas.Bool.{cases_eq}
 use Rattle.std.proofs.lemmas.List.{ext_get_or, get_or-set_same, get_or-set_other}
+use Rattle.bit_fields.proofs.Xors.{xor-shuffle, xor-equal}
 use Rattle.gf256_core.specs.Field.{IsField}
 use Rattle.poly256.specs.Polynomial.{element_product, element_power}
 use Rattle.poly256.specs.Laws.{AreDifferent}
 use Rattle.rs_code.specs.Mending.{points_sum, total_of}
-use Rattle.rs_code.proofs.Xors.{xor-shuffle, xor-equal, zero-xor, product-zero_right, product-xor_right, product-turned}
 use Rattle.rs_code.proofs.Powers.{power-suc, power-zero, product-one}
 
 -- a product may be undone
@@ -89,16 +89,16 @@ regroup :
 regroup F y p x q =
     F.product_assoc y (bit_xor p x) q
     ∙ ap (element_product y) (F.distributive p x q ∙ ap (λ (a : ℕ). bit_xor a (element_product x q)) (F.product_comm p q))
-    ∙ product-xor_right F y (element_product q p) (element_product x q)
-    ∙ ap (bit_xor (element_product y (element_product q p))) (product-turned F y x q)
+    ∙ F.distributive_right y (element_product q p) (element_product x q)
+    ∙ ap (bit_xor (element_product y (element_product q p))) (F.product_turned y x q)
 
 pub points_sum-weighed :
     (F : IsField 391) (x : ℕ) (ps ys : List ℕ) (n : ℕ)
     → points_sum ps (values_weighed x ps ys) n
     ≡ bit_xor (points_sum ps ys (suc n)) (element_product x (points_sum ps ys n))
 unfolding points_sum values_weighed
-points_sum-weighed F x [] ys n = sym (ap (bit_xor 0) (product-zero_right F x) ∙ xor_zero_r 0)
-points_sum-weighed F x (p ∷ ps) [] n = sym (ap (bit_xor 0) (product-zero_right F x) ∙ xor_zero_r 0)
+points_sum-weighed F x [] ys n = sym (ap (bit_xor 0) (F.product_zero_right x) ∙ xor_zero_r 0)
+points_sum-weighed F x (p ∷ ps) [] n = sym (ap (bit_xor 0) (F.product_zero_right x) ∙ xor_zero_r 0)
 points_sum-weighed F x (p ∷ ps) (y ∷ ys) n =
     ap₂ bit_xor
     (regroup F y p x (element_power p n)
@@ -107,7 +107,7 @@ points_sum-weighed F x (p ∷ ps) (y ∷ ys) n =
     ∙ xor-shuffle (element_product y (element_power p (suc n))) (element_product x (element_product y (element_power p n)))
     (points_sum ps ys (suc n)) (element_product x (points_sum ps ys n))
     ∙ ap (bit_xor (bit_xor (element_product y (element_power p (suc n))) (points_sum ps ys (suc n))))
-    (sym (product-xor_right F x (element_product y (element_power p n)) (points_sum ps ys n)))
+    (sym (F.distributive_right x (element_product y (element_power p n)) (points_sum ps ys n)))
 
 -- the sums of order 0 are plain sums
 pub points_sum-plain :
@@ -129,12 +129,12 @@ first_falls_out :
 first_falls_out F x y n s t =
     ap₂ bit_xor
     (ap (λ (a : ℕ). bit_xor a s)
-    (ap (element_product y) (power-suc x n ∙ F.product_comm (element_power x n) x) ∙ product-turned F y x (element_power x n)))
-    (product-xor_right F x (element_product y (element_power x n)) t)
+    (ap (element_product y) (power-suc x n ∙ F.product_comm (element_power x n) x) ∙ F.product_turned y x (element_power x n)))
+    (F.distributive_right x (element_product y (element_power x n)) t)
     ∙ xor-shuffle (element_product x (element_product y (element_power x n))) s
     (element_product x (element_product y (element_power x n))) (element_product x t)
     ∙ ap (λ (a : ℕ). bit_xor a (bit_xor s (element_product x t))) (xor_self (element_product x (element_product y (element_power x n))))
-    ∙ zero-xor (bit_xor s (element_product x t))
+    ∙ xor_zero_l (bit_xor s (element_product x t))
 
 first_sum :
     (F : IsField 391) (p y : ℕ) (ps ys : List ℕ) → length ys ≡ length ps → ((i : ℕ) → get_or (y ∷ ys) i 0 < 256)
@@ -240,7 +240,7 @@ solve_step F (p ∷ ps) (s ∷ ss) (w ∷ ws) rest quotients solved x some apart
     ∙ ap₂ (λ (a : ℕ) (us : List ℕ). a ∷ us)
     (ap₂ bit_xor
     (weigh 0 (omega arith)
-    ∙ ap (bit_xor s) (product-zero_right F x)
+    ∙ ap (bit_xor s) (F.product_zero_right x)
     ∙ xor_zero_r s
     ∙ are 0 (omega arith)
     ∙ first_sum F p y ps ys same_long bytes_v)

@@ -1,7 +1,7 @@
 -- The table of the uplink's rows holds the multiples of a generator that is 0 at the 20 roots. Both are computed over the
 -- whole table.
 use Rattle.std.proofs.Common.{◌≡◌, ℕ, zero, suc, ◌+◌, ◌*◌, ◌/◌, ◌%◌, ◌<◌, ◌≤◌, List, [], ◌∷◌, Bool, true, ◌&&◌, eqb, length, get_or, take, drop, lit<, refl, sym, ◌∙◌, ap, ap₂, subst, arith, inl, inr}
-use Rattle.std.specs.Int.Bits.{bit_xor, xor_zero_r, xor_assoc}
+use Rattle.std.specs.Int.Bits.{bit_xor, xor_zero_r, xor_assoc, xor_zero_l}
 use Rattle.std.proofs.lemmas.Bool.{and_parts, eqb-true, cases_eq, cases_lt}
 use Rattle.std.proofs.lemmas.List.{get_or-take, get_or-drop, get_or_past}
 use Rattle.gf256_core.specs.Field.{IsField, product, power, remainder, plain_product}
@@ -11,7 +11,6 @@ use Rattle.rs_code.specs.CodeWord.{power_sum}
 use Rattle.rs_code.specs.UplinkRows.{uplink_generator}
 use Rattle.rs_code.proofs.Powers.{power-suc, power-zero, power-add, product-one}
 use Rattle.rs_code.proofs.PowerSums.{power_sum-cons, power_sum-empty}
-use Rattle.rs_code.proofs.Xors.{zero-xor}
 
 -- from the byte k on, each is that of the generator at k % 20 times k / 20
 has_multiples : List ℕ → ℕ → List ℕ → Bool
@@ -126,7 +125,7 @@ pub uplink_root :
     (F : IsField 391) (j : ℕ) → 120 ≤ j → j < 140 → power_sum (1 ∷ uplink_generator) j ≡ 0
 unfolding uplink_generator
 uplink_root F j low high =
-    sym (zero-xor (power_sum (1 ∷ take 20 (drop 20 UPLINK_ROWS)) j))
+    sym (xor_zero_l (power_sum (1 ∷ take 20 (drop 20 UPLINK_ROWS)) j))
     ∙ ap (λ (x : ℕ). bit_xor x (power_sum (1 ∷ take 20 (drop 20 UPLINK_ROWS)) j))
     (sym (F.product_zero (element_power 2 (j * length (1 ∷ take 20 (drop 20 UPLINK_ROWS))))))
     ∙ sym (horner-sum F j 0 (1 ∷ take 20 (drop 20 UPLINK_ROWS)) (lit< tt) (generator-bytes F))

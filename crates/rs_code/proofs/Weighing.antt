@@ -3,12 +3,12 @@
 -- polynomial is 0.
 use Rattle.std.proofs.Common.{◌≡◌, ℕ, zero, suc, ◌+◌, ◌-◌, ◌*◌, ◌<◌, ◌≤◌, ◌⊎◌, List, [], ◌∷◌, length, get_or, lit<, refl, sym, ◌∙◌, ap, ap₂, arith}
 use Rattle.std.specs.Int.Bits.{bit_xor, xor_zero_r}
+use Rattle.bit_fields.proofs.Xors.{xor-shuffle}
 use Rattle.gf256_core.specs.Field.{IsField}
 use Rattle.poly256.specs.Polynomial.{element_product, element_power, value_at}
 use Rattle.poly256.specs.Laws.{HasValues}
 use Rattle.rs_code.specs.CodeWord.{power_sum}
 use Rattle.rs_code.specs.Mending.{paired}
-use Rattle.rs_code.proofs.Xors.{xor-shuffle, product-zero_right, product-xor_right}
 use Rattle.rs_code.proofs.Powers.{power-add}
 use Rattle.rs_code.proofs.PowerSums.{power_sum-cons, power_sum-empty, power_sum-zeros}
 use Rattle.rs_code.proofs.Distance.{weight, weight-cons, zero_from_sums}
@@ -58,7 +58,7 @@ regroup :
     → element_product (element_product b (bit_xor c (element_product p g))) q
     ≡ bit_xor (element_product c (element_product b q)) (element_product (element_product b g) (element_product p q))
 regroup F b c p g q =
-    ap (λ (x : ℕ). element_product x q) (product-xor_right F b c (element_product p g))
+    ap (λ (x : ℕ). element_product x q) (F.distributive_right b c (element_product p g))
     ∙ F.distributive (element_product b c) (element_product b (element_product p g)) q
     ∙ ap₂ bit_xor
     (ap (λ (x : ℕ). element_product x q) (F.product_comm b c) ∙ F.product_assoc c b q)
@@ -74,7 +74,7 @@ weighed_by_more :
 unfolding weighed_by
 weighed_by_more F f g c e [] j =
     power_sum-empty j
-    ∙ sym (ap₂ bit_xor (ap (element_product c) (power_sum-empty j) ∙ product-zero_right F c) (power_sum-empty (suc j)) ∙ xor_zero_r 0)
+    ∙ sym (ap₂ bit_xor (ap (element_product c) (power_sum-empty j) ∙ F.product_zero_right c) (power_sum-empty (suc j)) ∙ xor_zero_r 0)
 weighed_by_more F f g c e (b ∷ bs) j =
     let up : suc j * length bs ≡ length bs + j * length bs = omega arith in
     power_sum-cons (element_product b (f (element_power 2 (length bs)))) (weighed_by f bs) j
@@ -86,7 +86,7 @@ weighed_by_more F f g c e (b ∷ bs) j =
     (element_product (element_product b (g (element_power 2 (length bs)))) (element_product (element_power 2 (length bs)) (element_power 2 (j * length bs))))
     (element_product c (power_sum bs j)) (power_sum (weighed_by g bs) (suc j))
     ∙ ap₂ bit_xor
-    (sym (product-xor_right F c (element_product b (element_power 2 (j * length bs))) (power_sum bs j))
+    (sym (F.distributive_right c (element_product b (element_power 2 (j * length bs))) (power_sum bs j))
     ∙ ap (element_product c) (sym (power_sum-cons b bs j)))
     (ap (λ (x : ℕ). bit_xor (element_product (element_product b (g (element_power 2 (length bs)))) x) (power_sum (weighed_by g bs) (suc j)))
     (sym (power-add F 2 (length bs) (j * length bs)) ∙ ap (element_power 2) (sym up))
@@ -99,7 +99,7 @@ weighed_by-zero :
 unfolding weighed_by
 weighed_by-zero F f none [] k = refl
 weighed_by-zero F f none (b ∷ bs) zero =
-    ap (element_product b) (none (element_power 2 (length bs))) ∙ product-zero_right F b
+    ap (element_product b) (none (element_power 2 (length bs))) ∙ F.product_zero_right b
 weighed_by-zero F f none (b ∷ bs) (suc k) = weighed_by-zero F f none bs k
 
 -- by the values of a polynomial

@@ -4,7 +4,7 @@ use Rattle.std.proofs.lemmas.Bool.{cases_Bool, cases_eq, eqb-true}
 use Rattle.std.proofs.lemmas.List.{take_more_set}
 use Rattle.gf256_core.specs.Field.{IsField}
 use Rattle.poly256.specs.Polynomial.{element_power, value_at, trimmed, prepended}
-use Rattle.poly256.specs.Laws.{AreDifferent, HasFewRoots}
+use Rattle.poly256.specs.Laws.{HasDegrees, AreDifferent, HasFewRoots}
 use Rattle.rs_code.specs.Mending.{zero_places, points_of}
 use Rattle.rs_code.proofs.Powers.{power-fits, power-injective}
 
@@ -132,34 +132,14 @@ zero_points-apart F cs n short =
           absurd (omega arith);
     }
 
-prepended-some : (c d : ℕ) (ds : List ℕ) → prepended c (d ∷ ds) ≡ c ∷ d ∷ ds
-unfolding prepended
-prepended-some zero d ds = refl
-prepended-some (suc c) d ds = refl
-
-prepended-last : (c : ℕ) → 0 < c → prepended c [] ≡ c ∷ []
-unfolding prepended
-prepended-last zero h = absurd (omega arith)
-prepended-last (suc c) h = refl
-
--- a list whose last member is not 0
-trimmed_by_last : (xs : List ℕ) (n : ℕ) → length xs ≡ suc n → 0 < get_or xs n 0 → trimmed xs ≡ xs
-unfolding trimmed
-trimmed_by_last [] n e h = absurd (omega arith)
-trimmed_by_last (x ∷ []) zero e h = prepended-last x h
-trimmed_by_last (x ∷ []) (suc n) e h = absurd (omega arith)
-trimmed_by_last (x ∷ y ∷ xs) zero e h = absurd (omega arith)
-trimmed_by_last (x ∷ y ∷ xs) (suc n) e h =
-    ap (prepended x) (trimmed_by_last (y ∷ xs) n (omega arith) h) ∙ prepended-some x y xs
-
 -- there are no more of them than the degree
 pub few_zero_places :
-    (F : IsField 391) (R : HasFewRoots) (cs : List ℕ) (n degree : ℕ) → n ≤ 255 → ((k : ℕ) → get_or cs k 0 < 256)
+    (F : IsField 391) (D : HasDegrees) (R : HasFewRoots) (cs : List ℕ) (n degree : ℕ) → n ≤ 255 → ((k : ℕ) → get_or cs k 0 < 256)
     → length cs ≡ suc degree → get_or cs degree 0 ≡ 1 → length (zero_places cs n) ≤ degree
-few_zero_places F R cs n degree short bytes long lead =
+few_zero_places F D R cs n degree short bytes long lead =
     let l = length-points_of (zero_places cs n) in
     let few : length (points_of (zero_places cs n)) < length cs =
-    R cs (points_of (zero_places cs n)) bytes (trimmed_by_last cs degree long (omega arith)) (omega arith)
+    R cs (points_of (zero_places cs n)) bytes (D.trimmed_by_last cs degree long (omega arith)) (omega arith)
     (zero_points-apart F cs n short)
     (λ i h. ap (value_at cs) (get_or-points_of (zero_places cs n) i (omega arith))
     ∙ each_zero_place (λ (p : ℕ). value_at cs (element_power 2 p) ≡ 0) cs n (λ place low root. root) i (omega arith)) in

@@ -4,6 +4,7 @@ ghost use Rattle.poly256.specs.Polynomial.{element_product};
 ghost use Rattle.rs_code.specs.CodeWord.{power_sum};
 
 use gf256_core::{Uat, UatTables, field_laws};
+use poly256::degree_laws;
 
 // Multiplies a polynomial of this degree by x + root. Its first coefficient is 1 and does not stand in the list, and the
 // place behind its last one is 0.
@@ -32,6 +33,7 @@ pub(crate) fn generator<const ROOTS: usize>(first: usize) -> [u8; ROOTS]
     ensures roots { (j : ℕ) → first ≤ j → j < first + ROOTS → power_sum (1 ∷ result) j ≡ 0 }
 {
     field_laws::<UatTables>();
+    degree_laws();
     let mut coefficients = [0; ROOTS];
     for degree in 0..ROOTS {
         let root = Uat::pow_alpha((first + degree) as u32);

@@ -2,6 +2,7 @@
 ghost use Rattle.rs_code.specs.Laws.{CountsDifferences, HasCodeWordTest, HasMinimumDistance, HasOneEncoded, HasOneNearest, HaveDistances, IsCorrected};
 
 use gf256_core::{UatTables, field_laws};
+use poly256::degree_laws;
 
 /// The law that two different code words differ in at least one place more than the code has roots.
 #[inline]
@@ -45,7 +46,8 @@ pub fn code_word_test()
 pub fn one_encoded()
     ensures { HasOneEncoded }
 {
-    field_laws::<UatTables>()
+    field_laws::<UatTables>();
+    degree_laws()
 }
 
 /// The law that the definition `corrected` gives the code word near a word, and none exactly where none is near.

@@ -5,6 +5,7 @@ ghost use Rattle.rs_code.specs.Mending.{paired, IsLocator, IsEarlier};
 
 use crate::product::{add_product, times};
 use gf256_core::{Uat, UatTables, field_laws};
+use poly256::degree_laws;
 
 // The coefficients of a polynomial, each times the sum as far behind `from` as its power, added.
 #[inline]
@@ -44,6 +45,7 @@ fn lengthen<const N: usize>(
     ensures long { length locator.new ≡ N }
 {
     field_laws::<UatTables>();
+    degree_laws();
     let mut next = [0; N];
     add_product(
         &mut next,

@@ -5,7 +5,7 @@ ghost use Rattle.rs_code.specs.Mending.{point_at, HasLead, HasNextAdded, IsTimes
 
 use crate::product::times;
 use gf256_core::{Uat, UatTables, field_laws};
-use poly256::{end_zero_laws, value_laws};
+use poly256::{degree_laws, end_zero_laws, value_laws};
 
 // The point of a byte of a word of `count` bytes.
 #[inline]
@@ -65,6 +65,7 @@ pub(crate) fn add_roots<const N: usize>(polynomial: &mut [u8; N], degree: usize,
     ensures roots { IsZeroAtMarks N marks.now polynomial.new }
 {
     field_laws::<UatTables>();
+    degree_laws();
     value_laws();
     end_zero_laws();
     for mark in marks {

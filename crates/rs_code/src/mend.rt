@@ -10,7 +10,7 @@ use crate::rows::add_to_sums;
 use crate::values::{add_errors, solve};
 use crate::wrong_places::{find_places, write_points};
 use gf256_core::{Uat, UatTables, field_laws};
-use poly256::{end_zero_laws, few_roots, value_laws};
+use poly256::{degree_laws, end_zero_laws, few_roots, value_laws};
 
 // The value of a word at 2 raised to `power`.
 #[inline]
@@ -102,6 +102,7 @@ fn mend_with<const N: usize, const ROOTS: usize, const FIRST: usize>(
     ensures { Mends N ROOTS FIRST marks.now word.old word.new }
 {
     field_laws::<UatTables>();
+    degree_laws();
     few_roots();
     value_laws();
     end_zero_laws();

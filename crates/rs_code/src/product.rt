@@ -4,6 +4,7 @@ ghost use Rattle.poly256.specs.Polynomial.{element_product, raised, scaled, sum_
 ghost use Rattle.rs_code.specs.declared.product.TheConstants.{POWERS, LOGARITHMS};
 
 use gf256_core::{Uat, UatTables, field_laws};
+use poly256::degree_laws;
 
 // Row i below 510 is 2 raised to i. The rows behind are 0.
 const POWERS: [u8; 1021] = [
@@ -129,6 +130,7 @@ pub(crate) fn add_product(room: &mut [u8], place: usize, factor: Uat, polynomial
     ensures { room.new ≡ sum_of room.old (raised place (scaled factor polynomial.now)) }
 {
     field_laws::<UatTables>();
+    degree_laws();
     for (i, coefficient) in polynomial.iter().enumerate() {
         room[place + i] ^= times(factor, Uat::of(*coefficient)).byte();
     }

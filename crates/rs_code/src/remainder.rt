@@ -7,6 +7,7 @@ use crate::locator::byte_law;
 use crate::product::add_product;
 use crate::uplink_rows::add_row;
 use gf256_core::{Uat, UatTables, field_laws};
+use poly256::degree_laws;
 
 // Takes from a word, byte by byte, the multiple of the uplink's generator that begins with the byte. What is left stands in
 // its last 20 bytes, and has the power sums of the word.
@@ -16,6 +17,7 @@ fn divide_by_rows(word: &mut [u8])
         power_sum (drop (length word.old - 20) word.new) j ≡ power_sum word.old j }
 {
     field_laws::<UatTables>();
+    degree_laws();
     for place in 0..word.len() - 20 {
         let (front, back) = word.split_at_mut(place + 1);
         add_row(back, front[place]);
@@ -30,6 +32,7 @@ fn divide_by(word: &mut [u8], generator: &[u8])
         ≡ power_sum word.old j }
 {
     field_laws::<UatTables>();
+    degree_laws();
     for place in 0..word.len() - generator.len() {
         let (front, back) = word.split_at_mut(place + 1);
         add_product(back, 0, Uat::of(front[place]), generator);

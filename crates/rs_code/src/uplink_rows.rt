@@ -5,6 +5,7 @@ ghost use Rattle.rs_code.specs.declared.uplink_rows.TheConstants.{UPLINK_ROWS};
 ghost use Rattle.rs_code.specs.UplinkRows.{uplink_generator};
 
 use gf256_core::{UatTables, field_laws};
+use poly256::degree_laws;
 
 // The 20 bytes from 20 b on are the generator, highest power first and without its first coefficient, times the element b.
 const UPLINK_ROWS: [u8; 5120] = [
@@ -349,6 +350,7 @@ pub(crate) fn add_row(list: &mut [u8], byte: u8)
     ensures { list.new ≡ sum_of list.old (scaled byte uplink_generator) }
 {
     field_laws::<UatTables>();
+    degree_laws();
     let start = 20 * byte as usize;
     for i in 0..20 {
         list[i] ^= row_byte(start + i);

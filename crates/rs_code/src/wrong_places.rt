@@ -41,6 +41,7 @@ fn values_by_rows(polynomial: &[u8]) -> [u8; 96]
     ensures { AreValues 96 polynomial.now result }
 {
     field_laws::<UatTables>();
+    value_laws();
     let mut values = [0; 96];
     for (power, coefficient) in polynomial.iter().enumerate() {
         add_to_values(&mut values, *coefficient, power);

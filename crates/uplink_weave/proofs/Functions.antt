@@ -4,6 +4,7 @@ use Rattle.std.specs.Option.{is_none, unwrap_or}
 use Rattle.std.proofs.lemmas.Bool.{cases_lt, le-leb}
 use Rattle.std.proofs.lemmas.List.{ext_get_or, get_or-drop, get_or_past}
 use Rattle.std.proofs.lemmas.List.FromFn.{length-map-range_with_len, get_or-map-range_with_len}
+use Rattle.list_members.proofs.Places.{take-below}
 use Rattle.rs_code.specs.CodeWord.{IsCodeWord, IsNear, IsCorrectable, differences, bound}
 use Rattle.rs_code.specs.Functions.{encoded}
 use Rattle.rs_code.specs.Laws.{HasOneEncoded, IsCorrected}
@@ -41,17 +42,10 @@ block-woven payload r h long =
     ∙ ap (λ (n : ℕ). get_or (encoded 92 20 120 (part ((6 * k + r) % 6) payload)) n 0) place
     ∙ sym (get_or-woven payload (6 * k + r) (omega arith))))
 
-bytes-take :
-    (n : ℕ) (word : List ℕ) → ((i : ℕ) → get_or word i 0 < 256) → (i : ℕ) → get_or (take n word) i 0 < 256
-bytes-take zero word bytes i = lit< tt
-bytes-take (suc n) [] bytes i = lit< tt
-bytes-take (suc n) (b ∷ bs) bytes zero = bytes 0
-bytes-take (suc n) (b ∷ bs) bytes (suc i) = bytes-take n bs (λ k. bytes (suc k)) i
-
 bytes-part :
     (r : ℕ) (payload : List ℕ) → ((i : ℕ) → get_or payload i 0 < 256) → (i : ℕ) → get_or (part r payload) i 0 < 256
 bytes-part r payload bytes =
-    bytes-take 72 (drop (72 * r) payload)
+    take-below 256 72 (drop (72 * r) payload) (lit< tt)
     (λ i. subst (λ (n : ℕ). n < 256) (sym (get_or-drop (72 * r) payload i 0)) (bytes (72 * r + i)))
 
 encoded_is :
@@ -72,7 +66,7 @@ only_frame E payload air is =
     part_from r payload (block r air) h is.full (length-block r air) (is.parts r h) in
     let same : block r air ≡ encoded 92 20 120 (part r payload) =
     (E 92 20 120 (part r payload) (block r air) uplink (length-part r payload h is.full)
-    (subst (λ (w : List ℕ). (i : ℕ) → get_or w i 0 < 256) front (bytes-take 72 (block r air) code.bytes))).1 (code, front) in
+    (subst (λ (w : List ℕ). (i : ℕ) → get_or w i 0 < 256) front (take-below 256 72 (block r air) (lit< tt) code.bytes))).1 (code, front) in
     same ∙ sym (block-woven payload r h (ap length (sym same) ∙ length-block r air)))
 
 made_frame :

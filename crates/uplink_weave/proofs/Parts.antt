@@ -1,9 +1,10 @@
 -- The parts of a payload, and words that are joined.
-use Rattle.std.proofs.Common.{◌≡◌, ℕ, zero, suc, ◌+◌, ◌*◌, ◌-◌, ◌<◌, ◌≤◌, List, [], ◌∷◌, ◌++◌, length, get_or, take, drop, map, Bool, true, false, cond, Option, Some, None, refl, sym, ◌∙◌, ap, ap₂, arith, inl, inr, ◌⊎◌, length-append}
+use Rattle.std.proofs.Common.{◌≡◌, ℕ, zero, suc, ◌+◌, ◌*◌, ◌-◌, ◌<◌, ◌≤◌, List, [], ◌∷◌, ◌++◌, length, get_or, take, drop, map, Bool, true, false, Option, Some, None, refl, sym, ◌∙◌, ap, ap₂, arith, inl, inr, ◌⊎◌, length-append}
 use Rattle.std.specs.Option.{option_map, is_none}
 use Rattle.std.specs.List.{find, range_with_len}
 use Rattle.std.proofs.lemmas.Bool.{cases_Bool, cases_eq}
 use Rattle.std.proofs.lemmas.List.{ext_get_or, get_or-take, get_or-drop, length-take-le, length-drop, take-append-drop, drop-drop, drop_all, take_at, drop_at}
+use Rattle.list_members.proofs.Finding.{find-cons_true, find-cons_false}
 use Rattle.uplink_weave.specs.Woven.{BeginsWithPart}
 use Rattle.uplink_weave.specs.Functions.{part, joined}
 
@@ -116,12 +117,6 @@ pub record IsFirst (p : ℕ → Bool) (from count r : ℕ) : Type 0 where
   pub high : r < from + count
   pub passes : p r ≡ true
   pub before : (lower : ℕ) → from ≤ lower → lower < r → p lower ≡ false
-
-find-cons_true : (p : ℕ → Bool) (x : ℕ) (xs : List ℕ) → p x ≡ true → find p (x ∷ xs) ≡ Some x
-find-cons_true p x xs e = ap (λ (b : Bool). cond b (Some x) (find p xs)) e
-
-find-cons_false : (p : ℕ → Bool) (x : ℕ) (xs : List ℕ) → p x ≡ false → find p (x ∷ xs) ≡ find p xs
-find-cons_false p x xs e = ap (λ (b : Bool). cond b (Some x) (find p xs)) e
 
 pub first_from :
     (p : ℕ → Bool) (from count r : ℕ) → find p (range_with_len from count) ≡ Some r → IsFirst p from count r

@@ -1,6 +1,7 @@
-use Rattle.poly256.proofs.ListSums.{coefficient-sum, length-sum_at_most}
+use Rattle.poly256.proofs.ListSums.{coefficient-sum, coefficient-scaled, length-sum_at_most, length-sum_left, length-scaled}
 use Rattle.poly256.proofs.ListProducts.{length-product, coefficient-product, coefficient-product_first}
-use Rattle.poly256.proofs.Trims.{length-trimmed}
+use Rattle.poly256.proofs.Trims.{length-trimmed, trimmed_from_last}
+use Rattle.poly256.proofs.Rooms.{coefficient-raised, coefficient-raised_below, length-raised}
 use Rattle.poly256.proofs.Degrees.{last_not_zero, sum_of_lower, product_keeps, one_division}
 use Rattle.poly256.proofs.laws.degree_laws.Goals as goal
 
@@ -16,4 +17,11 @@ returns c = let F = c.field_laws.ensures in record {
   product_length = length-product;
   product_keeps = product_keeps F;
   one_division = one_division F;
+  sum_length = length-sum_left;
+  scaled_length = length-scaled;
+  scaled_coefficient = coefficient-scaled F;
+  raised_length = length-raised;
+  raised_coefficient = coefficient-raised;
+  raised_below = coefficient-raised_below;
+  trimmed_by_last = trimmed_from_last;
 }

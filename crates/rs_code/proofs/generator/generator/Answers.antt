@@ -2,10 +2,9 @@ use Rattle.std.proofs.Common.{◌≡◌, ◌+◌, ℕ, ◌∷◌, List, take, ar
 use Rattle.std.specs.Int.Bits.{bit_xor, xor_self}
 use Rattle.std.proofs.lemmas.Bool.{cases_lt}
 use Rattle.std.proofs.lemmas.List.{take_all, length-replicate}
+use Rattle.list_members.proofs.Places.{get_or-zeros}
 use Rattle.poly256.specs.Polynomial.{element_product, element_power}
 use Rattle.rs_code.specs.CodeWord.{power_sum}
-use Rattle.rs_code.proofs.Xors.{product-zero_right}
-use Rattle.rs_code.proofs.Places.{get_or-zeros}
 use Rattle.rs_code.proofs.Kernels.{TakesRoot, zeros-root, power_sum-takes_root}
 use Rattle.rs_code.proofs.generator.generator.Goals as goal
 
@@ -30,11 +29,11 @@ loop-degree-preserved g c =
     record {
       long = c.take_root.auto.coefficients ∙ c.loop-degree.invariant.long;
       roots = λ j h h'.
-          power_sum-takes_root F c.pow_alpha-root.result c.loop-degree.degree c.loop-degree.coefficients c.take_root.new.coefficients step j
+          power_sum-takes_root F c.degree_laws.ensures c.pow_alpha-root.result c.loop-degree.degree c.loop-degree.coefficients c.take_root.new.coefficients step j
           ∙ elim (cases_lt j (c.args.first + c.loop-degree.degree)) [
             | inl before ↦
                 ap (element_product (bit_xor (element_power 2 j) c.pow_alpha-root.result)) (c.loop-degree.invariant.roots j h before)
-                ∙ product-zero_right F (bit_xor (element_power 2 j) c.pow_alpha-root.result)
+                ∙ F.product_zero_right (bit_xor (element_power 2 j) c.pow_alpha-root.result)
             | inr now ↦
                 let same : c.args.first + c.loop-degree.degree ≡ j = omega arith in
                 ap (λ (x : ℕ). element_product (bit_xor (element_power 2 j) x) (power_sum (1 ∷ take c.loop-degree.degree c.loop-degree.coefficients) j))

@@ -1,17 +1,16 @@
 use Rattle.std.proofs.Common.{◌≡◌, ◌<◌, ◌+◌, ℕ, List, length, suc, arith, ap, ap₂, sym, ◌∙◌, drop, get_or, drop-cons, add-one}
-use Rattle.std.specs.Int.Bits.{bit_xor, xor_zero_r, xor_assoc}
+use Rattle.std.specs.Int.Bits.{bit_xor, xor_zero_r, xor_assoc, xor_zero_l}
 use Rattle.std.proofs.lemmas.List.{drop_all}
 use Rattle.poly256.specs.Polynomial.{element_product}
 use Rattle.rs_code.specs.Mending.{paired}
 use Rattle.rs_code.proofs.Pairing.{paired-empty, paired-cons, paired-same}
-use Rattle.rs_code.proofs.Xors.{zero-xor}
 use Rattle.rs_code.proofs.locator.discrepancy.Goals as goal
 
 pub loop-power-init : goal.loop-power-init
 loop-power-init c = record {
   fits = c.of-total.ensures.fits;
   whole = ap (λ (a : ℕ). bit_xor a (paired c.args.coefficients.now (λ k. get_or c.args.sums.now (c.args.from + (0 + k)) 0))) c.of-total.ensures.value
-      ∙ zero-xor (paired c.args.coefficients.now (λ k. get_or c.args.sums.now (c.args.from + (0 + k)) 0))
+      ∙ xor_zero_l (paired c.args.coefficients.now (λ k. get_or c.args.sums.now (c.args.from + (0 + k)) 0))
       ∙ paired-same c.args.coefficients.now (λ k. get_or c.args.sums.now (c.args.from + (0 + k)) 0) (λ k. get_or c.args.sums.now (c.args.from + k) 0)
       (λ k. ap (λ (i : ℕ). get_or c.args.sums.now i 0) (let m : c.args.from + (0 + k) ≡ c.args.from + k = omega arith in m));
 }

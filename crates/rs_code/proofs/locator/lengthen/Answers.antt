@@ -1,8 +1,8 @@
 use Rattle.std.proofs.Common.{◌≡◌, ◌<◌, ◌+◌, ◌-◌, ℕ, List, length, take, arith, get_or, replicate, ap, sym, ◌∙◌, subst}
 use Rattle.std.proofs.lemmas.List.{length-replicate}
+use Rattle.list_members.proofs.Places.{get_or-zeros}
 use Rattle.poly256.specs.Polynomial.{sum_of, raised, scaled}
 use Rattle.rs_code.specs.Mending.{IsLocator}
-use Rattle.rs_code.proofs.Places.{get_or-zeros}
 use Rattle.rs_code.proofs.Pairing.{paired-fits}
 use Rattle.rs_code.proofs.Locators.{IsLocator-begin, IsLocator-step, IsEarlier-next}
 use Rattle.rs_code.proofs.locator.lengthen.Goals as goal
@@ -23,7 +23,7 @@ loop-place-init g c =
           (c.add_product.ensures
           ∙ ap (λ (a : ℕ). sum_of (replicate g.row.N 0) (raised (c.args.at + 1 - c.args.degree) (scaled a (take (c.args.degree + 1) c.args.locator.now))))
           c.of.ensures.value)))
-          (IsLocator-begin F (replicate g.row.N 0) c.args.locator.now c.args.earlier.now c.args.sums.now c.args.degree c.args.at c.args.last
+          (IsLocator-begin F c.degree_laws.ensures (replicate g.row.N 0) c.args.locator.now c.args.earlier.now c.args.sums.now c.args.degree c.args.at c.args.last
           c.args.off c.div.result (get_or-zeros g.row.N) room c.requires.locator c.requires.earlier c.requires.degree off c.requires.off
           c.div.ensures.value);
     }
@@ -34,7 +34,7 @@ loop-place-preserved g c = record {
   locator =
       subst (λ (w : List ℕ). IsLocator w c.args.sums.now (c.args.at + 1) (c.loop-place.place + 1))
       (sym c.add_product-in-loop-place.ensures)
-      (IsLocator-step c.field_laws.ensures c.loop-place.next c.args.locator.now c.args.sums.now c.args.degree c.args.at
+      (IsLocator-step c.field_laws.ensures c.degree_laws.ensures c.loop-place.next c.args.locator.now c.args.sums.now c.args.degree c.args.at
       c.loop-place.place c.args.off c.discrepancy-rest.result c.div-in-loop-place.result c.loop-place.invariant.locator
       c.requires.locator c.loop-place.auto.place (omega arith) c.requires.off c.discrepancy-rest.ensures.value
       c.div-in-loop-place.ensures.value);

@@ -15,7 +15,7 @@ loop-mark-preserved g c =
     let last : get_or c.loop-mark.polynomial (length c.loop-mark.polynomial - 1) 0 ≡ 0 =
     c.loop-mark.invariant.lead.past (length c.loop-mark.polynomial - 1) (omega arith) in
     let value : (x : ℕ) → value_at c.add_root.new.polynomial x ≡ element_product (bit_xor x c.point_of.result) (value_at c.loop-mark.polynomial x) =
-    λ x. value-root c.field_laws.ensures c.value_laws.ensures c.end_zero_laws.ensures c.loop-mark.polynomial c.add_root.new.polynomial
+    λ x. value-root c.field_laws.ensures c.degree_laws.ensures c.value_laws.ensures c.end_zero_laws.ensures c.loop-mark.polynomial c.add_root.new.polynomial
     c.point_of.result x long' last c.add_root.ensures in
     record {
       long = long' ∙ long;

@@ -30,7 +30,7 @@ whole_as_front-solve g c =
     let l : length (take c.find_places-found.result c.find_places-found.new.places) ≡ c.find_places-found.result =
     length-take-le c.find_places-found.result c.find_places-found.new.places (omega arith) in
     let few : c.find_places-found.result ≤ g.row.ROOTS =
-    few_found c.field_laws.ensures c.few_roots.ensures g.row.N g.row.ROOTS c.args.marks.now c.find_locator-low.new.locator (take (g.row.ROOTS - length c.args.marks.now) c.take_from_sums.new.sums)
+    few_found c.field_laws.ensures c.degree_laws.ensures c.few_roots.ensures g.row.N g.row.ROOTS c.args.marks.now c.find_locator-low.new.locator (take (g.row.ROOTS - length c.args.marks.now) c.take_from_sums.new.sums)
     c.add_roots.new.polynomial c.find_places-found.new.places c.find_locator-low.result (c.find_locator-low.result + length c.args.marks.now) c.find_places-found.result is
     c.requires.instance.below c.requires.instance.short long within c.find_places-found.ensures.places in
     (few, search rules)
@@ -46,7 +46,7 @@ solve-requires g c =
     let l : length (take c.find_places-found.result c.find_places-found.new.places) ≡ c.find_places-found.result =
     length-take-le c.find_places-found.result c.find_places-found.new.places (omega arith) in
     let few : c.find_places-found.result ≤ g.row.ROOTS =
-    few_found c.field_laws.ensures c.few_roots.ensures g.row.N g.row.ROOTS c.args.marks.now c.find_locator-low.new.locator (take (g.row.ROOTS - length c.args.marks.now) c.take_from_sums.new.sums)
+    few_found c.field_laws.ensures c.degree_laws.ensures c.few_roots.ensures g.row.N g.row.ROOTS c.args.marks.now c.find_locator-low.new.locator (take (g.row.ROOTS - length c.args.marks.now) c.take_from_sums.new.sums)
     c.add_roots.new.polynomial c.find_places-found.new.places c.find_locator-low.result (c.find_locator-low.result + length c.args.marks.now) c.find_places-found.result is
     c.requires.instance.below c.requires.instance.short long within c.find_places-found.ensures.places in
     let points : take c.find_places-found.result c.write_points.new.points ≡ points_of (take c.find_places-found.result c.find_places-found.new.places) =
@@ -71,7 +71,7 @@ add_errors-requires g c =
     let l : length (take c.find_places-found.result c.find_places-found.new.places) ≡ c.find_places-found.result =
     length-take-le c.find_places-found.result c.find_places-found.new.places (omega arith) in
     let few : c.find_places-found.result ≤ g.row.ROOTS =
-    few_found c.field_laws.ensures c.few_roots.ensures g.row.N g.row.ROOTS c.args.marks.now c.find_locator-low.new.locator (take (g.row.ROOTS - length c.args.marks.now) c.take_from_sums.new.sums)
+    few_found c.field_laws.ensures c.degree_laws.ensures c.few_roots.ensures g.row.N g.row.ROOTS c.args.marks.now c.find_locator-low.new.locator (take (g.row.ROOTS - length c.args.marks.now) c.take_from_sums.new.sums)
     c.add_roots.new.polynomial c.find_places-found.new.places c.find_locator-low.result (c.find_locator-low.result + length c.args.marks.now) c.find_places-found.result is
     c.requires.instance.below c.requires.instance.short long within c.find_places-found.ensures.places in
     let solved : length c.solve.new.sums ≡ c.find_places-found.result =
@@ -105,7 +105,7 @@ returns g c = λ other near.
     let l : length (take c.find_places-found.result c.find_places-found.new.places) ≡ c.find_places-found.result =
     length-take-le c.find_places-found.result c.find_places-found.new.places (omega arith) in
     let few : c.find_places-found.result ≤ g.row.ROOTS =
-    few_found c.field_laws.ensures c.few_roots.ensures g.row.N g.row.ROOTS c.args.marks.now c.find_locator-low.new.locator (take (g.row.ROOTS - length c.args.marks.now) c.take_from_sums.new.sums)
+    few_found c.field_laws.ensures c.degree_laws.ensures c.few_roots.ensures g.row.N g.row.ROOTS c.args.marks.now c.find_locator-low.new.locator (take (g.row.ROOTS - length c.args.marks.now) c.take_from_sums.new.sums)
     c.add_roots.new.polynomial c.find_places-found.new.places c.find_locator-low.result (c.find_locator-low.result + length c.args.marks.now) c.find_places-found.result is
     c.requires.instance.below c.requires.instance.short long within c.find_places-found.ensures.places in
     let points : take c.find_places-found.result c.write_points.new.points ≡ points_of (take c.find_places-found.result c.find_places-found.new.places) =
@@ -121,7 +121,7 @@ returns g c = λ other near.
     (take (g.row.ROOTS - length c.args.marks.now) c.take_from_sums.new.sums) = λ word long_word sums n h.
     get_or-take (g.row.ROOTS - length c.args.marks.now) c.take_from_sums.new.sums n 0 (omega arith)
     ∙ c.take_from_sums.ensures word g.row.FIRST long_word (λ k h'. sums k (let m = c.told-sums in omega arith)) n (let m = c.told-sums in omega arith) in
-    mended c.field_laws.ensures c.few_roots.ensures c.value_laws.ensures c.end_zero_laws.ensures g.row.N g.row.ROOTS g.row.FIRST
+    mended c.field_laws.ensures c.degree_laws.ensures c.few_roots.ensures c.value_laws.ensures c.end_zero_laws.ensures g.row.N g.row.ROOTS g.row.FIRST
     c.args.marks.now c.args.word.now other c.args.sums.now (take (g.row.ROOTS - length c.args.marks.now) c.take_from_sums.new.sums) c.find_locator-low.new.locator
     c.add_roots.new.polynomial (take c.find_places-found.result c.find_places-found.new.places)
     (take c.find_places-found.result c.write_points.new.points) c.solve.new.sums c.add_errors.new.word c.find_locator-low.result

@@ -33,6 +33,6 @@ pub returns : goal.returns
 returns c =
     let last : c.loop-i.i ≤ length c.args.polynomial.now = c.loop-i.auto.i-end in
     let t = c.loop-i-test.false in
-    same_as_multiple c.field_laws.ensures c.args.room.now c.loop-i.room c.args.polynomial.now c.args.place c.args.factor c.loop-i.auto.room c.requires
+    same_as_multiple c.field_laws.ensures c.degree_laws.ensures c.args.room.now c.loop-i.room c.args.polynomial.now c.args.place c.args.factor c.loop-i.auto.room c.requires
     (λ k h. c.loop-i.invariant.written k (omega arith)) c.loop-i.invariant.before
     (λ k h. c.loop-i.invariant.left k (omega arith))

@@ -3,7 +3,6 @@ use Rattle.std.proofs.lemmas.List.{get_or-take, take_at}
 use Rattle.poly256.specs.Polynomial.{sum_of, scaled}
 use Rattle.rs_code.specs.CodeWord.{power_sum}
 use Rattle.rs_code.specs.UplinkRows.{uplink_generator}
-use Rattle.rs_code.proofs.Kernels.{length-scaled}
 use Rattle.rs_code.proofs.Dividing.{division-step, multiple-zero}
 use Rattle.rs_code.proofs.UplinkTable.{uplink_root, length-uplink_generator}
 use Rattle.rs_code.proofs.remainder.divide_by_rows.Goals as goal
@@ -23,10 +22,10 @@ loop-place-preserved c =
       sums = λ j low high.
           ap (λ (w : List ℕ). power_sum (drop (c.loop-place.place + 1) (c.split_at_mut-front.result.0.now ++ w)) j)
           (c.add_row.ensures ∙ ap₂ (λ (xs : List ℕ) (b : ℕ). sum_of xs (scaled b uplink_generator)) c.split_at_mut-front.ensures.back byte)
-          ∙ division-step c.field_laws.ensures c.loop-place.word c.split_at_mut-front.result.0.now
+          ∙ division-step c.field_laws.ensures c.degree_laws.ensures c.loop-place.word c.split_at_mut-front.result.0.now
           (scaled (get_or c.loop-place.word c.loop-place.place 0) uplink_generator) c.loop-place.place j
-          (let l = length-scaled (get_or c.loop-place.word c.loop-place.place 0) uplink_generator in let g = length-uplink_generator in omega arith) c.split_at_mut-front.ensures.front
-          (multiple-zero c.field_laws.ensures (get_or c.loop-place.word c.loop-place.place 0) j uplink_generator
+          (let l = c.degree_laws.ensures.scaled_length (get_or c.loop-place.word c.loop-place.place 0) uplink_generator in let g = length-uplink_generator in omega arith) c.split_at_mut-front.ensures.front
+          (multiple-zero c.field_laws.ensures c.degree_laws.ensures (get_or c.loop-place.word c.loop-place.place 0) j uplink_generator
           (let f = c.type_inv.word c.loop-place.place in
           let here : get_or (c.split_at_mut-front.result.0.now ++ c.add_row.new.list) c.loop-place.place 0 ≡ get_or c.loop-place.word c.loop-place.place 0 =
           sym (get_or-take (c.loop-place.place + 1) (c.split_at_mut-front.result.0.now ++ c.add_row.new.list) c.loop-place.place 0 (omega arith))

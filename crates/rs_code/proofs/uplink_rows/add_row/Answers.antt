@@ -5,10 +5,6 @@ use Rattle.std.proofs.lemmas.List.{ext_get_or, get_or_past}
 use Rattle.poly256.specs.Polynomial.{element_product, sum_of, scaled}
 use Rattle.rs_code.specs.UplinkRows.{uplink_generator}
 use Rattle.rs_code.proofs.Places.{set_grows, set_keeps}
-use Rattle.rs_code.proofs.Xors.{product-zero_right}
-use Rattle.rs_code.proofs.Kernels.{length-scaled, get_or-scaled}
-use Rattle.rs_code.proofs.Pairing.{get_or-sum}
-use Rattle.rs_code.proofs.Dividing.{length-sum}
 use Rattle.rs_code.proofs.UplinkTable.{uplink_multiple, length-uplink_generator}
 use Rattle.rs_code.proofs.uplink_rows.add_row.Goals as goal
 
@@ -35,9 +31,9 @@ returns c =
     let r = c.requires in
     let t = c.loop-i-test.false in
     let g = length-uplink_generator in
-    let s = length-scaled c.args.byte uplink_generator in
+    let s = c.degree_laws.ensures.scaled_length c.args.byte uplink_generator in
     let l : length (sum_of c.args.list.now (scaled c.args.byte uplink_generator)) ≡ length c.args.list.now =
-    length-sum c.args.list.now (scaled c.args.byte uplink_generator) (omega arith) in
+    c.degree_laws.ensures.sum_length c.args.list.now (scaled c.args.byte uplink_generator) (omega arith) in
     ext_get_or 0 c.loop-i.list (sum_of c.args.list.now (scaled c.args.byte uplink_generator)) (c.loop-i.invariant.long ∙ sym l)
     (λ k h.
     elim (cases_lt k 20) [
@@ -47,8 +43,8 @@ returns c =
           c.loop-i.invariant.left k (omega arith)
           ∙ sym (ap (bit_xor (get_or c.args.list.now k 0))
           (ap (element_product c.args.byte) (get_or_past uplink_generator k 0 (omega arith))
-          ∙ product-zero_right c.field_laws.ensures c.args.byte)
+          ∙ c.field_laws.ensures.product_zero_right c.args.byte)
           ∙ xor_zero_r (get_or c.args.list.now k 0))
     ]
-    ∙ sym (get_or-sum c.args.list.now (scaled c.args.byte uplink_generator) k
-    ∙ ap (bit_xor (get_or c.args.list.now k 0)) (get_or-scaled c.field_laws.ensures c.args.byte uplink_generator k)))
+    ∙ sym (c.degree_laws.ensures.sum_coefficient c.args.list.now (scaled c.args.byte uplink_generator) k
+    ∙ ap (bit_xor (get_or c.args.list.now k 0)) (c.degree_laws.ensures.scaled_coefficient c.args.byte uplink_generator k)))

@@ -1,13 +1,12 @@
 use Rattle.std.proofs.Common.{ℕ, arith, suc, drop, get_or, ap, sym, ◌∙◌, add-one, drop-cons}
-use Rattle.std.specs.Int.Bits.{bit_xor, xor_zero_r, xor_assoc}
+use Rattle.std.specs.Int.Bits.{bit_xor, xor_zero_r, xor_assoc, xor_zero_l}
 use Rattle.std.proofs.lemmas.List.{drop_all}
 use Rattle.rs_code.specs.Mending.{total_of}
-use Rattle.rs_code.proofs.Xors.{zero-xor}
 use Rattle.rs_code.proofs.Solving.{total_of-empty, total_of-cons}
 use Rattle.rs_code.proofs.values.total.Goals as goal
 
 pub loop-byte-init : goal.loop-byte-init
-loop-byte-init c = zero-xor (total_of c.args.bytes.now)
+loop-byte-init c = xor_zero_l (total_of c.args.bytes.now)
 
 pub loop-byte-preserved : goal.loop-byte-preserved
 loop-byte-preserved c =

@@ -1,14 +1,14 @@
 use Rattle.std.proofs.Common.{ℕ, List, take, get_or, arith, ap, ap₂, sym, ◌∙◌, add-one}
 use Rattle.std.specs.Int.Bits.{bit_xor}
 use Rattle.std.proofs.lemmas.List.{take_all}
+use Rattle.list_members.proofs.Places.{get_or-zeros}
 use Rattle.poly256.specs.Polynomial.{element_product, element_power, value_at}
-use Rattle.rs_code.proofs.Places.{get_or-zeros}
-use Rattle.rs_code.proofs.PointValues.{value_at-more, value_at-none}
+use Rattle.rs_code.proofs.PointValues.{value_at-more}
 use Rattle.rs_code.proofs.Mending.{power-power}
 use Rattle.rs_code.proofs.wrong_places.values_by_rows.Goals as goal
 
 pub loop-power-init : goal.loop-power-init
-loop-power-init c = λ k h. get_or-zeros 96 k ∙ sym (value_at-none (element_power 2 k))
+loop-power-init c = λ k h. get_or-zeros 96 k ∙ sym (c.value_laws.ensures.of_zero (element_power 2 k))
 
 pub loop-power-preserved : goal.loop-power-preserved
 loop-power-preserved c = λ k h.
