@@ -55,9 +55,9 @@ pub record AloneHolds {G : Type 0} (sends : Sends G) (bytes : List ℕ) (acted :
   pub holds : Holds sends bytes acted alone.sending
   pub sent : alone.sent ≡ length (sent_frames alone.sending.table acted)
 
--- a command acted on these lines in their order: its clock and its beginning, too, are those of the lines
-pub record IsInOrder {P : Type 0} (holds : List ℕ → List Line → P → Type 0) (bytes : List ℕ) (past : List (List ℕ))
-    (s : InOrder P) : Type 0 where
+-- a command acted on these lines in their order: its clock and its beginning, too, are theirs
+pub record IsInOrder {P : Type 0} (holds : List ℕ → List Line → P → Type 0) (bytes : List ℕ)
+    (past : List (List ℕ)) (s : InOrder P) : Type 0 where
   pub parts : holds bytes (lines_of past) s.inner
   pub clock : s.clock ≡ latest (lines_of past)
   pub begun : s.has_begun ≡ has_begun (lines_of past)

@@ -8,8 +8,8 @@ use Rattle.run_core.specs.declared.status.Status.{Status}
 use Rattle.run_core.specs.declared.status.Status.TheVariants.{Done, Usage, Refused, ReadFault, WriteFault, TooLong, NoMemory}
 use Rattle.run_core.specs.Run.{SinkEnd, AppendsFront}
 
--- Line 1 is refused in writing, and no write failed; or a write failed, or memory was not found, and a
--- prefix of the refusal or nothing was written.
+-- Line 1 is refused in writing, and no write failed; or a write failed, after a prefix of the refusal;
+-- or memory was not found, and nothing was written.
 abbrev pub HasRefused : SinkEnd → SinkEnd → Status → Type 0
 HasRefused old new Done = ⊥
 HasRefused old new Usage = ⊥
