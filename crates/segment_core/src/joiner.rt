@@ -46,9 +46,9 @@ impl Model for Joiner {
       }) j.pieces.mark;
     } };
 
-    ghost use Rattle.segment_core.specs.Ends.{HaveMarkedPlaces};
+    ghost use Rattle.segment_core.specs.Ends.{MarkedPiecesHavePlaces};
 
-    ghost invariant = { λ j. HaveMarkedPlaces j.longest j.ends.places j.pieces };
+    ghost invariant = { λ j. MarkedPiecesHavePlaces j.longest j.ends.places j.pieces };
 }
 
 impl Joiner {
