@@ -8,7 +8,7 @@ use Rattle.std.specs.List.{list_any}
 use Rattle.uplink_frame.specs.Station.{same_flag, same_station}
 use Rattle.uplink_frame.specs.Laws.{StationsAreTold}
 use Rattle.ground_core.specs.Item.{Item, Segment, same_item, same_segment}
-use Rattle.ground_core.specs.Airing.{Touch, is_touched, last_touches, is_live, waiting}
+use Rattle.ground_core.specs.Airing.{Touch, is_touched, last_touches, is_live, waiting_segments}
 use Rattle.ground_core.proofs.ListLemmas.{Each, Each-weaker, Each-front, Each-back, filter_passes, filter_all, filter_none, filter_swap, filter-map, list_any-map}
 
 -- the segments of a log, each at its last place
@@ -36,7 +36,7 @@ last_touches_are (t ∷ later) =
     ]
 
 pub waiting_is : (all : List Item) (log : List Touch) (moment : ℕ)
-    → waiting all log moment ≡ filter (λ s. is_live all moment s.item) (last_places (segments_in log))
+    → waiting_segments all log moment ≡ filter (λ s. is_live all moment s.item) (last_places (segments_in log))
 waiting_is all log moment =
     sym (filter-map (λ s. is_live all moment s.item) (λ (t : Touch). t.segment) (last_touches log))
     ∙ ap (filter (λ s. is_live all moment s.item)) (last_touches_are log)

@@ -8,7 +8,7 @@ use Rattle.list_members.proofs.Members.{IsIn-before, IsIn-after}
 use Rattle.text_reports.specs.TextKey.{TextKey}
 use Rattle.ground_core.specs.NumberedKeys.{report_key}
 use Rattle.picture_core.specs.Key.{Key, radar_block, text_report, same_key}
-use Rattle.ground_core.specs.Piece.{Piece, Latest, ArePlaced, IsKept, while_living, lives_as, live_by}
+use Rattle.ground_core.specs.Piece.{Piece, Latest, ArePlaced, IsLastOrEnded, while_living, lives_as, live_by}
 use Rattle.ground_core.specs.Putting.{IsPut}
 use Rattle.ground_core.specs.Views.{latest_at, pieces_in, piece_at}
 use Rattle.ground_core.specs.declared.item.SentItem.{SentItem}
@@ -29,7 +29,7 @@ placed_aired latest old new behind front e f = placed_among latest old new (λ p
       | inr more ↦ IsIn-before p behind (front ∷ []) more
     ]))
 
-was_kept : (moment : ℕ) (last after : Option Latest) (kept : Latest) → IsKept moment last after → after ≡ Some kept → last ≡ Some kept
+was_kept : (moment : ℕ) (last after : Option Latest) (kept : Latest) → IsLastOrEnded moment last after → after ≡ Some kept → last ≡ Some kept
 was_kept moment last after kept (inl e) s = sym e ∙ s
 was_kept moment last after kept (inr n) s = cc (n.0)
 
@@ -55,7 +55,7 @@ lives_at moment serial kept t e = ap (λ b. b && (kept.serial == serial)) t ∙ 
 -- the place of a dead front is that of no key of which something is kept behind it
 pub placed_dropped : (latest after : Key → Option Latest) (moment : ℕ) (own : Key) (old behind : List Piece) (front : Piece)
     → old ≡ front ∷ behind → front.keys ≡ own ∷ [] → live_by latest moment front ≡ false
-    → ((key : Key) → IsKept moment (latest key) (after key)) → after own ≡ while_living moment (latest own)
+    → ((key : Key) → IsLastOrEnded moment (latest key) (after key)) → after own ≡ while_living moment (latest own)
     → ArePlaced latest old → ArePlaced after behind
 placed_dropped latest after moment own old behind front e k dead kept_all living h key kept s =
     let before : latest key ≡ Some kept = was_kept moment (latest key) (after key) kept (kept_all key) s in

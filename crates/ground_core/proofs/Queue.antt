@@ -13,7 +13,7 @@ use Rattle.picture_core.specs.Key.{Key}
 use Rattle.ground_core.specs.Item.{Weather, Item, Segment, segments_of, segment_of, same_item, same_segment, room_of}
 use Rattle.ground_core.specs.History.{Event, accepted, fill, items, new_items, items_made, item_of}
 use Rattle.ground_core.specs.Update.{Update, weather_of}
-use Rattle.ground_core.specs.Airing.{log, airing, waiting, fitting, is_live, has_key}
+use Rattle.ground_core.specs.Airing.{log, airing, waiting_segments, longest_fitting, is_live, has_key}
 use Rattle.ground_core.specs.Piece.{Piece, Latest, piece_of, lives_as, live_by, fitting_pieces, left_pieces}
 use Rattle.ground_core.specs.StandsFor.{latest_of, latest_of_item}
 use Rattle.ground_core.proofs.KeyLemmas.{KeyLaws}
@@ -38,7 +38,7 @@ pub logged_places : (table : LifeTable) (station : StationId) (history : List Ev
 logged_places table station history = Each-last_places _ _ (logged table station history)
 
 pub waits_are : KeyLaws → (table : LifeTable) (station : StationId) (history : List Event) (moment : ℕ)
-    → map piece_of (waiting (items table station history) (log table station history) moment)
+    → map piece_of (waiting_segments (items table station history) (log table station history) moment)
     ≡ filter (live_by (latest_of (items table station history)) moment) (map piece_of (places table station history))
 waits_are keys table station history moment =
     ap (map piece_of) (waiting_is (items table station history) (log table station history) moment)
@@ -62,8 +62,8 @@ later_lives latest clock moment p le h =
 
 -- at a later moment
 pub line_later : KeyLaws → (table : LifeTable) (station : StationId) (history : List Event) (clock moment : ℕ) (line : List Piece) → clock ≤ moment
-    → filter (live_by (latest_of (items table station history)) clock) line ≡ map piece_of (waiting (items table station history) (log table station history) clock)
-    → filter (live_by (latest_of (items table station history)) moment) line ≡ map piece_of (waiting (items table station history) (log table station history) moment)
+    → filter (live_by (latest_of (items table station history)) clock) line ≡ map piece_of (waiting_segments (items table station history) (log table station history) clock)
+    → filter (live_by (latest_of (items table station history)) moment) line ≡ map piece_of (waiting_segments (items table station history) (log table station history) moment)
 line_later keys table station history clock moment line le e =
     let latest : Key → Option Latest = latest_of (items table station history) in
     let less : (xs : List Piece) → Each (λ x. live_by latest moment x ≡ true → live_by latest clock x ≡ true) xs
@@ -72,7 +72,7 @@ line_later keys table station history clock moment line le e =
     (e ∙ waits_are keys table station history clock) ∙ sym (waits_are keys table station history moment)
 
 -- pieces fit as their segments do
-pub fitting_pieces_are : (room : ℕ) (xs : List Segment) → map piece_of (fitting room xs) ≡ fitting_pieces room (map piece_of xs)
+pub fitting_pieces_are : (room : ℕ) (xs : List Segment) → map piece_of (longest_fitting room xs) ≡ fitting_pieces room (map piece_of xs)
 fitting_pieces_are room [] = refl
 fitting_pieces_are room (x ∷ xs) = elim (cases_Bool (nat_le (room_of x) room)) [
   | inl t ↦ rw t (ap (λ l. piece_of x ∷ l) (fitting_pieces_are (room - room_of x) xs))
@@ -90,7 +90,7 @@ left_pieces_are room (x ∷ xs) = elim (cases_Bool (nat_le (room_of x) room)) [
   | inr f ↦ rw f refl
 ]
 
-pub fitting_left : (room : ℕ) (xs : List Segment) → xs ≡ fitting room xs ++ left room xs
+pub fitting_left : (room : ℕ) (xs : List Segment) → xs ≡ longest_fitting room xs ++ left room xs
 fitting_left room [] = refl
 fitting_left room (x ∷ xs) = elim (cases_Bool (nat_le (room_of x) room)) [
   | inl t ↦ rw t (ap (λ l. x ∷ l) (fitting_left (room - room_of x) xs))
@@ -102,18 +102,18 @@ pub record IsFilled (table : LifeTable) (station : StationId) (past : List Event
   pub aired : map piece_of (airing (items table station past) (log table station past) moment)
       ≡ fitting_pieces 424 (filter (live_by (latest_of (items table station past)) moment) old)
   pub line : filter (live_by (latest_of (items table station past)) moment) new
-      ≡ map piece_of (waiting (items table station (fill moment slot ∷ past)) (log table station (fill moment slot ∷ past)) moment)
+      ≡ map piece_of (waiting_segments (items table station (fill moment slot ∷ past)) (log table station (fill moment slot ∷ past)) moment)
 
 -- what waits behind a fill: what was left, and then what was aired
 pub waiting_filled : StationsAreTold → (table : LifeTable) (station : StationId) (past : List Event) (moment slot : ℕ)
-    → waiting (items table station (fill moment slot ∷ past)) (log table station (fill moment slot ∷ past)) moment
-    ≡ left 424 (waiting (items table station past) (log table station past) moment)
+    → waiting_segments (items table station (fill moment slot ∷ past)) (log table station (fill moment slot ∷ past)) moment
+    ≡ left 424 (waiting_segments (items table station past) (log table station past) moment)
     ++ airing (items table station past) (log table station past) moment
 waiting_filled told table station past moment slot =
     let all : List Item = items table station past in
     let before : List Segment = segments_in (log table station past) in
-    let now : List Segment = waiting all (log table station past) moment in
-    let front : List Segment = fitting 424 now in
+    let now : List Segment = waiting_segments all (log table station past) moment in
+    let front : List Segment = longest_fitting 424 now in
     let live : Segment → Bool = λ s. is_live all moment s.item in
     let cut : filter live (last_places before) ≡ front ++ left 424 now = sym (waiting_is all (log table station past) moment) ∙ fitting_left 424 now in
     waiting_is (all ++ []) (log table station (fill moment slot ∷ past)) moment
@@ -122,21 +122,21 @@ waiting_filled told table station past moment slot =
     ∙ turned told live before front (left 424 now) cut
 
 pub filled : StationsAreTold → KeyLaws → (table : LifeTable) (station : StationId) (past : List Event) (clock moment slot : ℕ) (old new : List Piece) → clock ≤ moment
-    → filter (live_by (latest_of (items table station past)) clock) old ≡ map piece_of (waiting (items table station past) (log table station past) clock)
+    → filter (live_by (latest_of (items table station past)) clock) old ≡ map piece_of (waiting_segments (items table station past) (log table station past) clock)
     → filter (live_by (latest_of (items table station past)) moment) new
     ≡ left_pieces 424 (filter (live_by (latest_of (items table station past)) moment) old)
     ++ fitting_pieces 424 (filter (live_by (latest_of (items table station past)) moment) old)
     → IsFilled table station past moment slot old new
 filled told keys table station past clock moment slot old new le e n =
     let all : List Item = items table station past in
-    let now : List Segment = waiting all (log table station past) moment in
+    let now : List Segment = waiting_segments all (log table station past) moment in
     let live : filter (live_by (latest_of all) moment) old ≡ map piece_of now = line_later keys table station past clock moment old le e in
     record {
       aired = fitting_pieces_are 424 now ∙ ap (fitting_pieces 424) (sym live);
       line = n ∙ ap (λ l. left_pieces 424 l ++ fitting_pieces 424 l) live
           ∙ ap (λ l. l ++ fitting_pieces 424 (map piece_of now)) (sym (left_pieces_are 424 now))
           ∙ ap (λ l. map piece_of (left 424 now) ++ l) (sym (fitting_pieces_are 424 now))
-          ∙ sym (map-append piece_of (left 424 now) (fitting 424 now))
+          ∙ sym (map-append piece_of (left 424 now) (longest_fitting 424 now))
           ∙ ap (map piece_of) (sym (waiting_filled told table station past moment slot));
     }
 
@@ -199,10 +199,10 @@ older_lives all item clock moment p e le lt h =
 pub given_line : KeyLaws → (table : LifeTable) (station : StationId) (past : List Event) (moment : ℕ) (update : Update) (w : Weather) (clock : ℕ) (old new : List Piece)
     → weather_of table update ≡ w ∷ [] → clock ≤ moment
     → Each (λ p. p.serial < length (items table station past)) old
-    → filter (live_by (latest_of (items table station past)) clock) old ≡ map piece_of (waiting (items table station past) (log table station past) clock)
+    → filter (live_by (latest_of (items table station past)) clock) old ≡ map piece_of (waiting_segments (items table station past) (log table station past) clock)
     → new ≡ old ++ map piece_of (segments_of (item_of table station moment (items table station past) w))
     → filter (live_by (latest_of (items table station (accepted moment update ∷ past))) moment) new
-    ≡ map piece_of (waiting (items table station (accepted moment update ∷ past)) (log table station (accepted moment update ∷ past)) moment)
+    ≡ map piece_of (waiting_segments (items table station (accepted moment update ∷ past)) (log table station (accepted moment update ∷ past)) moment)
 given_line keys table station past moment update w clock old new we le low e n =
     let all : List Item = items table station past in
     let item : Item = item_of table station moment all w in

@@ -17,7 +17,7 @@ use Rattle.list_members.proofs.Ranges.{list_any_same}
 use Rattle.ground_core.specs.Item.{Weather, Item, Segment, segments_of, end_of, room_of}
 use Rattle.ground_core.specs.History.{Event, accepted, fill, items, new_items, items_made, item_of}
 use Rattle.ground_core.specs.Update.{Update, weather_of}
-use Rattle.ground_core.specs.Airing.{Touch, touch, log, airing, waiting, fitting, has_key, is_newest_for, is_live}
+use Rattle.ground_core.specs.Airing.{Touch, touch, log, airing, waiting_segments, longest_fitting, has_key, is_newest_for, is_live}
 use Rattle.ground_core.specs.Piece.{Latest, piece_of, lives_as, live_by}
 use Rattle.ground_core.specs.StandsFor.{latest_after, latest_of, latest_of_item}
 use Rattle.ground_core.proofs.KeyLemmas.{KeyLaws, same_key_itself}
@@ -88,7 +88,7 @@ Each-last_places P (x ∷ xs) h = elim (cases_Bool (stands_in xs x)) [
   | inr f ↦ rw f (h.0, Each-last_places P xs h.1)
 ]
 
-pub Each-fitting : (P : Segment → Type 0) (room : ℕ) (xs : List Segment) → Each P xs → Each P (fitting room xs)
+pub Each-fitting : (P : Segment → Type 0) (room : ℕ) (xs : List Segment) → Each P xs → Each P (longest_fitting room xs)
 Each-fitting P room [] h = tt
 Each-fitting P room (x ∷ xs) h = elim (cases_Bool (nat_le (room_of x) room)) [
   | inl t ↦ rw t (h.0, Each-fitting P (room - room_of x) xs h.1)
@@ -112,7 +112,7 @@ log_filled table station past moment slot =
     map-append (λ (t : Touch). t.segment) (log table station past) (map (touch (Some moment)) new)
     ∙ ap (λ l. segments_in (log table station past) ++ l) (segments_of_touches (Some moment) new)
 
-pub Each-waiting : (P : Segment → Type 0) (all : List Item) (touched : List Touch) (moment : ℕ) → Each P (segments_in touched) → Each P (waiting all touched moment)
+pub Each-waiting : (P : Segment → Type 0) (all : List Item) (touched : List Touch) (moment : ℕ) → Each P (segments_in touched) → Each P (waiting_segments all touched moment)
 Each-waiting P all touched moment h = subst (Each P) (sym (waiting_is all touched moment))
     (Each-filter P (λ s. is_live all moment s.item) _ (Each-last_places P (segments_in touched) h))
 

@@ -12,7 +12,7 @@ use Rattle.ground_core.specs.Item.{Weather, Item, Segment, room_of, segments_of,
 use Rattle.ground_core.specs.Update.{Update, text, weather_of}
 use Rattle.ground_core.specs.Piece.{piece_of}
 use Rattle.ground_core.specs.History.{Event, accepted, fill, moment_of, items, items_made, new_items, item_of}
-use Rattle.ground_core.specs.Airing.{log, fitting, is_live}
+use Rattle.ground_core.specs.Airing.{log, longest_fitting, is_live}
 use Rattle.ground_core.specs.Broadcast.{IsHistory, IsNotBefore}
 use Rattle.ground_core.specs.Starving.{bytes_of, waiting_after, fills, WaitsStill, AreFrom, NoStarvation}
 use Rattle.ground_core.proofs.KeyLemmas.{KeyLaws}
@@ -103,7 +103,7 @@ front_before (x ∷ front) rest (b ∷ before) s after e absent =
     }
 
 -- what stands behind a front that fits does not fit with it
-left_over : (room : ℕ) (xs : List Segment) (y : Segment) (more : List Segment) → left room xs ≡ y ∷ more → room < bytes_of (fitting room xs) + room_of y
+left_over : (room : ℕ) (xs : List Segment) (y : Segment) (more : List Segment) → left room xs ≡ y ∷ more → room < bytes_of (longest_fitting room xs) + room_of y
 left_over room [] y more e = absurd (cc)
 left_over room (x ∷ xs) y more e = elim (cases_Bool (nat_le (room_of x) room)) [
   | inl t ↦ (
@@ -117,11 +117,11 @@ left_over room (x ∷ xs) y more e = elim (cases_Bool (nat_le (room_of x) room))
       rw f (omega arith))
 ]
 
-head_fits : (room : ℕ) (x : Segment) (xs : List Segment) → room_of x ≤ room → fitting room (x ∷ xs) ≡ x ∷ fitting (room - room_of x) xs
-head_fits room x xs le = ap (λ b. if b then x ∷ fitting (room - room_of x) xs else []) (le-leb (room_of x) room le)
+head_fits : (room : ℕ) (x : Segment) (xs : List Segment) → room_of x ≤ room → longest_fitting room (x ∷ xs) ≡ x ∷ longest_fitting (room - room_of x) xs
+head_fits room x xs le = ap (λ b. if b then x ∷ longest_fitting (room - room_of x) xs else []) (le-leb (room_of x) room le)
 
 step_near : (count bytes : ℕ) (s : Segment) (front between before : List Segment) (after rest line : List Segment)
-    → before ≡ front ++ between → rest ≡ between ++ s ∷ after → rest ≡ left 424 line → front ≡ fitting 424 line
+    → before ≡ front ++ between → rest ≡ between ++ s ∷ after → rest ≡ left 424 line → front ≡ longest_fitting 424 line
     → 425 * count + 2 * bytes_of before ≤ 2 * bytes + head_bytes before → head_bytes before ≤ bytes_of front
     → IsNear (count + 1) bytes between
 step_near count bytes s front [] before after rest line b r l f h k =
@@ -130,33 +130,33 @@ step_near count bytes s front [] before after rest line b r l f h k =
 step_near count bytes s front (y ∷ between) before after rest line b r l f h k =
     let all : bytes_of before ≡ bytes_of front + (room_of y + bytes_of between) = ap bytes_of b ∙ bytes-append front (y ∷ between) in
     let over = left_over 424 line y (between ++ s ∷ after) (sym l ∙ r) in
-    let same : bytes_of front ≡ bytes_of (fitting 424 line) = ap bytes_of f in
+    let same : bytes_of front ≡ bytes_of (longest_fitting 424 line) = ap bytes_of f in
     inl (omega arith)
 
 nothing : (b : Segment) (before : List Segment) → b ∷ before ≡ [] → ⊥
 nothing b before h = cc
 
 -- a fill without the segment brings it nearer
-placed-filled : (count bytes : ℕ) (s : Segment) (line : List Segment) → Each (λ x. room_of x ≤ 424) line → (IsIn s (fitting 424 line) → ⊥)
+placed-filled : (count bytes : ℕ) (s : Segment) (line : List Segment) → Each (λ x. room_of x ≤ 424) line → (IsIn s (longest_fitting 424 line) → ⊥)
     → IsPlaced count bytes s line → IsPlaced (count + 1) bytes s (left 424 line)
 placed-filled count bytes s line fits absent h = go h.before refl where
   go : (before : List Segment) → before ≡ h.before → IsPlaced (count + 1) bytes s (left 424 line)
   go [] e =
       let line_is : line ≡ s ∷ h.after = h.line_is ∙ ap (λ b. b ++ s ∷ h.after) (sym e) in
       let first = (subst (Each (λ x. room_of x ≤ 424)) line_is fits).0 in
-      absurd (absent (subst (λ l. IsIn s (fitting 424 l)) (sym line_is) (subst (IsIn s) (sym (head_fits 424 s h.after first)) (inl refl))))
+      absurd (absent (subst (λ l. IsIn s (longest_fitting 424 l)) (sym line_is) (subst (IsIn s) (sym (head_fits 424 s h.after first)) (inl refl))))
   go (b ∷ before) e =
       let line_is : line ≡ (b ∷ before) ++ s ∷ h.after = h.line_is ∙ ap (λ l. l ++ s ∷ h.after) (sym e) in
       let first = (subst (Each (λ x. room_of x ≤ 424)) line_is fits).0 in
-      let taken : fitting 424 line ≡ b ∷ fitting (424 - room_of b) (before ++ s ∷ h.after) = ap (fitting 424) line_is ∙ head_fits 424 b (before ++ s ∷ h.after) first in
-      let more : room_of b ≤ bytes_of (fitting 424 line) = subst (λ l. room_of b ≤ bytes_of l) (sym taken) (omega arith) in
-      let f = front_before (fitting 424 line) (left 424 line) (b ∷ before) s h.after (sym line_is ∙ fitting_left 424 line) absent in
+      let taken : longest_fitting 424 line ≡ b ∷ longest_fitting (424 - room_of b) (before ++ s ∷ h.after) = ap (longest_fitting 424) line_is ∙ head_fits 424 b (before ++ s ∷ h.after) first in
+      let more : room_of b ≤ bytes_of (longest_fitting 424 line) = subst (λ l. room_of b ≤ bytes_of l) (sym taken) (omega arith) in
+      let f = front_before (longest_fitting 424 line) (left 424 line) (b ∷ before) s h.after (sym line_is ∙ fitting_left 424 line) absent in
       record {
         before = f.between;
         after = h.after;
         line_is = f.rest_is;
         near = elim (subst (IsNear count bytes) (sym e) h.near) [
-          | inl a ↦ step_near count bytes s (fitting 424 line) f.between (b ∷ before) h.after (left 424 line) line f.before_is f.rest_is refl refl a more
+          | inl a ↦ step_near count bytes s (longest_fitting 424 line) f.between (b ∷ before) h.after (left 424 line) line f.before_is f.rest_is refl refl a more
           | inr n ↦ absurd (nothing b before n.0)
         ];
       }

@@ -22,10 +22,10 @@ use Rattle.picture_core.specs.Key.{Key, text_report, same_key}
 use Rattle.ground_core.specs.Item.{Weather, Item, Segment, segments_of, segment_of, is_segmented, file_of}
 use Rattle.ground_core.specs.Update.{text}
 use Rattle.ground_core.specs.History.{Event, accepted, fill, moment_of, items, items_made, new_items, item_of, number_for}
-use Rattle.ground_core.specs.Airing.{log, waiting, has_key}
+use Rattle.ground_core.specs.Airing.{log, waiting_segments, has_key}
 use Rattle.ground_core.specs.Broadcast.{IsNotBefore}
 use Rattle.ground_core.specs.Refusal.{give_refusal}
-use Rattle.ground_core.specs.Piece.{Piece, Latest, IsKept, HasPlace, ArePlaced, piece_of, live_by, left_pieces, fitting_pieces}
+use Rattle.ground_core.specs.Piece.{Piece, Latest, IsLastOrEnded, HasPlace, ArePlaced, piece_of, live_by, left_pieces, fitting_pieces}
 use Rattle.ground_core.specs.Putting.{IsPut, IsAsBefore, IsItemOf}
 use Rattle.ground_core.specs.StandsFor.{StandsFor, clock_of, moment_now, latest_of, latest_of_item, is_filed}
 use Rattle.ground_core.specs.Told.{refusal_by}
@@ -60,7 +60,7 @@ clock_below (event ∷ past) moment h = not_early (moment_of event) moment h
 
 -- what is kept counts at each later moment as all that was given
 pub kept_at : (table : LifeTable) (station : StationId) (history : List Event) (moment : ℕ) (sender : Ground) → StandsFor table station sender history
-    → moment_now history ≤ moment → (key : Key) → IsKept moment (latest_of (items table station history) key) (latest_at sender.newest key)
+    → moment_now history ≤ moment → (key : Key) → IsLastOrEnded moment (latest_of (items table station history) key) (latest_at sender.newest key)
 kept_at table station history moment sender s le key = kept_later (moment_now history) moment _ _ le (s.newest_is key)
 
 pub lives_same : (table : LifeTable) (station : StationId) (history : List Event) (moment : ℕ) (sender : Ground) → StandsFor table station sender history
@@ -87,7 +87,7 @@ counts_now table station history moment version product sender s le lt =
 
 pub line_of : (table : LifeTable) (station : StationId) (history : List Event) (sender : Ground) (s : StandsFor table station sender history)
     → filter (live_by (latest_of (items table station history)) (moment_now history)) (pieces_in sender.line)
-    ≡ map piece_of (waiting (items table station history) (log table station history) (moment_now history))
+    ≡ map piece_of (waiting_segments (items table station history) (log table station history) (moment_now history))
 line_of table station history sender s =
     let now : moment_now history ≤ moment_now history = omega arith in
     ap (λ f. filter f (pieces_in sender.line)) (sym (lives_same table station history (moment_now history) sender s now)) ∙ s.line_is
@@ -101,7 +101,7 @@ same_stands table station history old new s b = record {
   station_is = b.station ∙ s.station_is;
   clock_is = b.clock ∙ s.clock_is;
   given_is = b.given ∙ s.given_is;
-  newest_is = λ key. subst (IsKept (moment_now history) (latest_of (items table station history) key)) (sym (b.newest key)) (s.newest_is key);
+  newest_is = λ key. subst (IsLastOrEnded (moment_now history) (latest_of (items table station history) key)) (sym (b.newest key)) (s.newest_is key);
   files_are = λ v p. b.files v p ∙ s.files_are v p;
   placed = λ key kept e. subst (λ l. HasPlace l key kept) (sym b.line) (s.placed key kept (sym (b.newest key) ∙ e));
   of_log = λ p i. s.of_log p (subst (IsIn p) b.line i);
@@ -115,7 +115,7 @@ pub record IsTaken (old : Ground) (moment : ℕ) (new : Ground) : Type 0 where
   pub station : new.station ≡ old.station
   pub clock : new.clock ≡ Some moment
   pub given : new.given ≡ old.given
-  pub newest : (key : Key) → IsKept moment (latest_at old.newest key) (latest_at new.newest key)
+  pub newest : (key : Key) → IsLastOrEnded moment (latest_at old.newest key) (latest_at new.newest key)
   pub files : (version product : ℕ) → count_at new.files version product
       ≡ (if nat_lt moment (version + old.life) then count_at old.files version product else 0)
   pub line : filter (live_by (latest_at old.newest) moment) (pieces_in new.line)
@@ -151,7 +151,7 @@ fill_stands told keys table station history moment slot old new s e lt m t =
       station_is = t.station ∙ s.station_is;
       clock_is = t.clock;
       given_is = t.given ∙ s.given_is ∙ ap length (sym same);
-      newest_is = λ key. subst (λ is. IsKept moment (latest_of is key) (latest_at new.newest key)) (sym same)
+      newest_is = λ key. subst (λ is. IsLastOrEnded moment (latest_of is key) (latest_at new.newest key)) (sym same)
           (kept_then moment (latest_of all key) (latest_at old.newest key) (latest_at new.newest key) (kept_at table station history moment old s le key) (t.newest key));
       files_are = λ v p. t.files v p ∙ ap (λ n. if nat_lt moment (v + n) then count_at old.files v p else 0) life
           ∙ counts_later (λ n. n) (moment_now history) moment (v + greatest_life table) (count_at old.files v p) (length (filed v p all)) le (s.files_are v p)
@@ -251,8 +251,8 @@ one_count false xs item = ap length (append-nil xs) ∙ zero_more (length xs) wh
   zero_more : (n : ℕ) → n ≡ n + 0
   zero_more n = omega arith
 
-given_kept : (b : Bool) (moment : ℕ) (latest : Latest) (last kept : Option Latest) → IsKept moment last kept
-    → IsKept moment (if b then Some latest else last) (if b then Some latest else kept)
+given_kept : (b : Bool) (moment : ℕ) (latest : Latest) (last kept : Option Latest) → IsLastOrEnded moment last kept
+    → IsLastOrEnded moment (if b then Some latest else last) (if b then Some latest else kept)
 given_kept true moment latest last kept h = inl refl
 given_kept false moment latest last kept h = h
 
@@ -279,9 +279,9 @@ give_stands keys table station history moment version chars old new item s e m v
     ∙ ap (λ n. if has_key key spec then Some (record { version = n; serial = item.serial; until = item.until }) else latest_at old.newest key) i.version_is
     ∙ ap (λ n. if has_key key spec then Some (record { version = version; serial = n; until = item.until }) else latest_at old.newest key) i.serial
     ∙ ap (λ n. if has_key key spec then Some (record { version = version; serial = length all; until = n }) else latest_at old.newest key) i.until in
-    let newest : (key : Key) → IsKept moment (latest_of (items table station after) key) (latest_at new.newest key) = λ (key : Key).
-    subst (λ l. IsKept moment l (latest_at new.newest key)) (sym (latest_push key all spec None) ∙ ap (λ is. latest_of is key) (sym items_are))
-    (subst (IsKept moment (if has_key key spec then Some (latest_of_item spec) else latest_of all key)) (sym (put key))
+    let newest : (key : Key) → IsLastOrEnded moment (latest_of (items table station after) key) (latest_at new.newest key) = λ (key : Key).
+    subst (λ l. IsLastOrEnded moment l (latest_at new.newest key)) (sym (latest_push key all spec None) ∙ ap (λ is. latest_of is key) (sym items_are))
+    (subst (IsLastOrEnded moment (if has_key key spec then Some (latest_of_item spec) else latest_of all key)) (sym (put key))
     (given_kept (has_key key spec) moment (latest_of_item spec) (latest_of all key) (latest_at old.newest key) (kept_at table station history moment old s le key))) in
     let pieces : pieces_in new.line ≡ pieces_in old.line ++ map piece_of (segments_of spec) = p.line ∙ ap (λ l. pieces_in old.line ++ l) i.pieces in
     let logs : segments_in (log table station after) ≡ segments_in (log table station history) ++ segments_of spec

@@ -15,7 +15,7 @@ use Rattle.list_members.proofs.Ranges.{find_filter}
 use Rattle.apdu_core.specs.declared.unit.Seg.{Seg}
 use Rattle.uplink_frame.specs.Laws.{StationsAreTold}
 use Rattle.segment_core.specs.Arrival.{Arrival, is_piece, has_piece, other_numbers, whole_with, completes}
-use Rattle.segment_core.specs.Kept.{Pieces, kept_under, kept_piece, was_whole, piece_name, arrival_named}
+use Rattle.segment_core.specs.Kept.{KeptPieces, kept_under, kept_piece, was_whole, piece_name, arrival_named}
 use Rattle.segment_core.specs.Kept.{fields_of, same_piece}
 use Rattle.segment_core.specs.Store.{Store, StandsFor, is_live, is_live_at, live_answer}
 use Rattle.segment_core.specs.Bound.{AreNamedOnce, IsPurged, IsBounded, piece_size, live_arrivals, payload_made_whole}
@@ -26,13 +26,13 @@ use Rattle.segment_core.proofs.PieceNames.{agrees, bool_same, same-is, same-self
 use Rattle.segment_core.proofs.Stands.{first, is, is-named}
 
 -- names in their order stand once
-absent-above : (k : PieceName) (es : Pieces) → AllByRecursion (λ y. order.ghosts.cmp k y ≡ Less) (keys_of es) → kept_under es k ≡ None
+absent-above : (k : PieceName) (es : KeptPieces) → AllByRecursion (λ y. order.ghosts.cmp k y ≡ Less) (keys_of es) → kept_under es k ≡ None
 absent-above k [] above = refl
 absent-above k (e ∷ es) above =
     let other : same_piece k e.0 ≡ false = sym (agrees k e.0) ∙ ap is_eq above.0 in
     rw other (absent-above k es above.1)
 
-pub once-sorted : (es : Pieces) → IsStrictlySortedBy order.ghosts.cmp (keys_of es) → AreNamedOnce es
+pub once-sorted : (es : KeptPieces) → IsStrictlySortedBy order.ghosts.cmp (keys_of es) → AreNamedOnce es
 once-sorted [] sorted = tt
 once-sorted (e ∷ es) sorted = (
   absent-above e.0 es (sorted_head order.ghosts.cmp e.0 (keys_of es) sorted),
@@ -46,7 +46,7 @@ module _ (told : StationsAreTold) where
       (λ (e : same_piece b a ≡ true). subst (λ (x : PieceName). same_piece x b ≡ true) (same-is told b a e) (same-self told b))
 
   -- without a name, the others are held came before
-  pub held-without : (k q : PieceName) (es : Pieces) → AreNamedOnce es → kept_under (remove_entry (same_piece k) es) q
+  pub held-without : (k q : PieceName) (es : KeptPieces) → AreNamedOnce es → kept_under (remove_entry (same_piece k) es) q
       ≡ cond (same_piece k q) None (kept_under es q)
   held-without k q [] once = elim (cases_Bool (same_piece k q)) [ inl t ↦ rw t refl | inr f ↦ rw f refl ]
   held-without k q (e ∷ es) once = elim (cases_Bool (same_piece k e.0)) [
@@ -70,7 +70,7 @@ module _ (told : StationsAreTold) where
   cond-none true o e = refl
   cond-none false o e = e
 
-  once-without : (k : PieceName) (es : Pieces) → AreNamedOnce es → AreNamedOnce (remove_entry (same_piece k) es)
+  once-without : (k : PieceName) (es : KeptPieces) → AreNamedOnce es → AreNamedOnce (remove_entry (same_piece k) es)
   once-without k [] once = tt
   once-without k (e ∷ es) once = elim (cases_Bool (same_piece k e.0)) [
     | inl here ↦ rw here once.1
@@ -81,7 +81,7 @@ module _ (told : StationsAreTold) where
   ]
 
   -- each value that is held has its weight in the first arrival of its name
-  abbrev Fits : (Option (List ℕ) → ℕ) → (Arrival → ℕ) → List Arrival → Pieces → Type 0
+  abbrev Fits : (Option (List ℕ) → ℕ) → (Arrival → ℕ) → List Arrival → KeptPieces → Type 0
   Fits f g came es = (k : PieceName) (v : Option (List ℕ)) → kept_under es k ≡ Some v
       → (a : Arrival) × (first came k k.number ≡ Some a) × (f v ≤ g a)
 
@@ -96,8 +96,8 @@ module _ (told : StationsAreTold) where
   absurd_piece false o v e = (refl, e)
 
   weighed_one : (f : Option (List ℕ) → ℕ) (g : Arrival → ℕ) (a : Arrival) (came : List Arrival)
-      → ((es : Pieces) → AreNamedOnce es → Fits f g came es → sum_by f (values_of es) ≤ sum_by g came)
-      → (es : Pieces) → AreNamedOnce es → Fits f g (a ∷ came) es → (o : Option Seg) → a.segmentation ≡ o
+      → ((es : KeptPieces) → AreNamedOnce es → Fits f g came es → sum_by f (values_of es) ≤ sum_by g came)
+      → (es : KeptPieces) → AreNamedOnce es → Fits f g (a ∷ came) es → (o : Option Seg) → a.segmentation ≡ o
       → sum_by f (values_of es) ≤ sum_by g (a ∷ came)
   weighed_one f g a came before es once fits None none =
       let rest : Fits f g came es = λ k v h.
@@ -126,7 +126,7 @@ module _ (told : StationsAreTold) where
       let split = sum_by-remove_entry f (same_piece name) es in
       omega (arith, less, more, here, split)
 
-  weighed : (f : Option (List ℕ) → ℕ) (g : Arrival → ℕ) (came : List Arrival) (es : Pieces) → AreNamedOnce es → Fits f g came es
+  weighed : (f : Option (List ℕ) → ℕ) (g : Arrival → ℕ) (came : List Arrival) (es : KeptPieces) → AreNamedOnce es → Fits f g came es
       → sum_by f (values_of es) ≤ sum_by g came
   weighed f g [] [] once fits = omega arith
   weighed f g [] (e ∷ es) once fits =

@@ -18,7 +18,7 @@ use Rattle.list_members.proofs.Tests.{tied_numbers}
 use Rattle.uplink_frame.specs.Station.{same_flag}
 use Rattle.uplink_frame.specs.Laws.{StationsAreTold}
 use Rattle.undo_map.specs.Marked.{with_all}
-use Rattle.segment_core.specs.Kept.{Pieces, kept_under, same_piece, with_number}
+use Rattle.segment_core.specs.Kept.{KeptPieces, kept_under, same_piece, with_number}
 use Rattle.segment_core.specs.HeldPieces.{is_number_of, others_held, held_with}
 use Rattle.segment_core.specs.declared.piece_name.PieceName.{PieceName}
 use Rattle.segment_core.specs.contracts.piece_name.PieceNameOrd.TheImpl as order
@@ -58,14 +58,14 @@ agrees a b =
     (a.count == b.count) (a.number == b.number)
     ∙ both_tied _ _ _ _ station rest)
 
-pub kept-found : (name : PieceName) (pieces : Pieces) → lookup (is_at (order.ghosts.cmp name)) pieces ≡ kept_under pieces name
+pub kept-found : (name : PieceName) (pieces : KeptPieces) → lookup (is_at (order.ghosts.cmp name)) pieces ≡ kept_under pieces name
 kept-found name [] = refl
 kept-found name (e ∷ pieces) = rw (agrees name e.0, kept-found name pieces) refl
 
 abbrev pub alone : PieceName → ℕ → PieceName × Option (List ℕ)
 alone name number = (with_number name number, None)
 
-pub alone_more : (name : PieceName) (n : ℕ) (old new : Pieces) (k : PieceName) → new ≡ old ++ (k, None) ∷ []
+pub alone_more : (name : PieceName) (n : ℕ) (old new : KeptPieces) (k : PieceName) → new ≡ old ++ (k, None) ∷ []
     → old ≡ map (alone name) (range_with_len 1 n) → k ≡ with_number name (n + 1) → new ≡ map (alone name)
     (range_with_len 1 (n + 1))
 alone_more name n old new k e was is =
@@ -93,7 +93,7 @@ module _ (told : StationsAreTold) where
       (eq-eqb a.version a.version refl)) (eq-eqb a.file a.file refl)) (eq-eqb a.count a.count refl))
       (eq-eqb a.number a.number refl)
 
-  pub held_first : (k : PieceName) (v : Option (List ℕ)) (q : PieceName) (e : PieceName × Option (List ℕ)) (es : Pieces)
+  pub held_first : (k : PieceName) (v : Option (List ℕ)) (q : PieceName) (e : PieceName × Option (List ℕ)) (es : KeptPieces)
       → kept_under (insert_entry order.ghosts.cmp es k v) q ≡ cond (same_piece q k) (Some v) (kept_under es q)
       → (o : Ordering) → order.ghosts.cmp k e.0 ≡ o
       → kept_under (insert_entry order.ghosts.cmp (e ∷ es) k v) q ≡ cond (same_piece q k) (Some v) (kept_under (e ∷ es) q)
@@ -117,12 +117,12 @@ module _ (told : StationsAreTold) where
   ]
 
   -- what is held after a write
-  pub held-write : (k : PieceName) (v : Option (List ℕ)) (q : PieceName) (es : Pieces)
+  pub held-write : (k : PieceName) (v : Option (List ℕ)) (q : PieceName) (es : KeptPieces)
       → kept_under (insert_entry order.ghosts.cmp es k v) q ≡ cond (same_piece q k) (Some v) (kept_under es q)
   held-write k v q [] = refl
   held-write k v q (e ∷ es) = held_first k v q e es (held-write k v q es) (order.ghosts.cmp k e.0) refl
 
-  held-alone : (name q : PieceName) (ns : List ℕ) (es : Pieces)
+  held-alone : (name q : PieceName) (ns : List ℕ) (es : KeptPieces)
       → kept_under (with_all order.ghosts.cmp es (map (alone name) ns)) q
       ≡ cond (list_any (λ (n : ℕ). same_piece q (with_number name n)) ns) (Some None) (kept_under es q)
   held-alone name q [] es = refl
@@ -157,21 +157,21 @@ module _ (told : StationsAreTold) where
       (range_has q.number 1 name.count least (omega arith)) parts.0)
 
   -- what is held after the numbers of a file were written alone
-  pub held-numbers : (name q : PieceName) (es : Pieces)
+  pub held-numbers : (name q : PieceName) (es : KeptPieces)
       → kept_under (with_all order.ghosts.cmp es (map (alone name) (range_with_len 1 name.count))) q
       ≡ cond (is_number_of name q) (Some None) (kept_under es q)
   held-numbers name q es = held-alone name q (range_with_len 1 name.count) es
       ∙ ap (λ (b : Bool). cond b (Some None) (kept_under es q)) (any_number name q)
 
   -- what is held after a segment was taken that makes its file whole, and after one that waits
-  pub whole-held : (old new pairs : Pieces) (name : PieceName) (payload : List ℕ) → is_some (kept_under old name) ≡ false
+  pub whole-held : (old new pairs : KeptPieces) (name : PieceName) (payload : List ℕ) → is_some (kept_under old name) ≡ false
       → others_held old name ≡ true → new ≡ with_all order.ghosts.cmp old pairs
       → pairs ≡ map (alone name) (range_with_len 1 name.count)
       → (other : PieceName) → kept_under new other ≡ held_with old name payload other
   whole-held old new pairs name payload fresh others e pairs_are other =
       rw (e, pairs_are, fresh, others) (held-numbers name other old)
 
-  pub waits-held : (old new : Pieces) (name : PieceName) (payload bytes : List ℕ) → is_some (kept_under old name) ≡ false
+  pub waits-held : (old new : KeptPieces) (name : PieceName) (payload bytes : List ℕ) → is_some (kept_under old name) ≡ false
       → others_held old name ≡ false → new ≡ insert_entry order.ghosts.cmp old name (Some bytes) → bytes ≡ payload
       → (other : PieceName) → kept_under new other ≡ held_with old name payload other
   waits-held old new name payload bytes fresh others e same other =

@@ -15,7 +15,7 @@ use Rattle.uplink_frame.specs.Laws.{StationsAreTold}
 use Rattle.segment_core.specs.Arrival.{other_numbers}
 use Rattle.segment_core.specs.Ends.{MarkedPiecesHavePlaces, PiecesHavePlaces}
 use Rattle.segment_core.specs.HeldPieces.{held_with, is_held, is_number_of, others_held}
-use Rattle.segment_core.specs.Kept.{Pieces, fields_of, kept_under, same_piece, with_number}
+use Rattle.segment_core.specs.Kept.{KeptPieces, fields_of, kept_under, same_piece, with_number}
 use Rattle.segment_core.specs.Store.{is_live, live_pieces, longest_of}
 use Rattle.segment_core.specs.contracts.piece_name.PieceNameOrd.TheImpl as order
 use Rattle.segment_core.specs.declared.piece_name.PieceName.{PieceName}
@@ -28,7 +28,7 @@ abbrev pub MarkedPieces : Type 0
 MarkedPieces = Marked PieceName (Option (List ℕ))
 
 -- what is held in the other entries
-held-later : (e : PieceName × Option (List ℕ)) (es : Pieces) (q : PieceName) → is_some (kept_under es q) ≡ true
+held-later : (e : PieceName × Option (List ℕ)) (es : KeptPieces) (q : PieceName) → is_some (kept_under es q) ≡ true
     → is_some (kept_under (e ∷ es) q) ≡ true
 held-later e es q some = elim (cases_Bool (same_piece q e.0)) [
   | inl is ↦ rw is refl
@@ -39,7 +39,7 @@ held-later e es q some = elim (cases_Bool (same_piece q e.0)) [
 abbrev has_place : Longest → List (ℕ × PieceName) → PieceName → Bool
 has_place longest places name = has_place_by order.ghosts.cmp places name (name.version + longest_of longest name.product)
 
-pub places-kept : (longest : Longest) (old new : List (ℕ × PieceName)) (pieces : Pieces) → KeepsPlaces old new
+pub places-kept : (longest : Longest) (old new : List (ℕ × PieceName)) (pieces : KeptPieces) → KeepsPlaces old new
     → PiecesHavePlaces longest old pieces → PiecesHavePlaces longest new pieces
 places-kept longest old new [] kept placed = tt
 places-kept longest old new (e ∷ es) kept placed = (
@@ -48,7 +48,7 @@ places-kept longest old new (e ∷ es) kept placed = (
 )
 
 -- a name that is removed, by the order of the names
-removed-found : (name : PieceName) (pieces : Pieces)
+removed-found : (name : PieceName) (pieces : KeptPieces)
     → remove_entry (is_at (order.ghosts.cmp name)) pieces ≡ remove_entry (same_piece name) pieces
 removed-found name [] = refl
 removed-found name (e ∷ es) = elim (cases_Bool (same_piece name e.0)) [
@@ -57,16 +57,16 @@ removed-found name (e ∷ es) = elim (cases_Bool (same_piece name e.0)) [
       rw (found, is) refl
   | inr not ↦
       let other : is_eq (order.ghosts.cmp name e.0) ≡ false = agrees name e.0 ∙ not in
-      rw (other, not) (ap (λ (more : Pieces). e ∷ more) (removed-found name es))
+      rw (other, not) (ap (λ (more : KeptPieces). e ∷ more) (removed-found name es))
 ]
 
 module _ (told : StationsAreTold) where
   -- what is held in the first entry
-  held-first : (e : PieceName × Option (List ℕ)) (es : Pieces) → is_some (kept_under (e ∷ es) e.0) ≡ true
+  held-first : (e : PieceName × Option (List ℕ)) (es : KeptPieces) → is_some (kept_under (e ∷ es) e.0) ≡ true
   held-first e es = rw (same-self told e.0) refl
 
   -- what holds of each name that is held, by the entries and by the names
-  each-held : (P : PieceName → Type 0) (pieces : Pieces) → AllByRecursion (λ e. P e.0) pieces → (q : PieceName)
+  each-held : (P : PieceName → Type 0) (pieces : KeptPieces) → AllByRecursion (λ e. P e.0) pieces → (q : PieceName)
       → is_some (kept_under pieces q) ≡ true → P q
   each-held P [] all q some = cc
   each-held P (e ∷ es) all q some = elim (cases_Bool (same_piece q e.0)) [
@@ -76,7 +76,7 @@ module _ (told : StationsAreTold) where
         each-held P es all.1 q later
   ]
 
-  all-held : (P : PieceName → Type 0) (pieces : Pieces) → ((q : PieceName) → is_some (kept_under pieces q) ≡ true → P q)
+  all-held : (P : PieceName → Type 0) (pieces : KeptPieces) → ((q : PieceName) → is_some (kept_under pieces q) ≡ true → P q)
       → AllByRecursion (λ e. P e.0) pieces
   all-held P [] each = tt
   all-held P (e ∷ es) each = (each e.0 (held-first e es), all-held P es (λ q some. each q (held-later e es q some)))
@@ -91,7 +91,7 @@ module _ (told : StationsAreTold) where
       (rw own (le-leb end (name.version + longest_of longest name.product) before))
 
   -- what holds of a name, and of each that was held, holds of each that is held with it
-  each-with : (P : PieceName → Type 0) (pieces : Pieces) (name q : PieceName) (payload : List ℕ) → P name
+  each-with : (P : PieceName → Type 0) (pieces : KeptPieces) (name q : PieceName) (payload : List ℕ) → P name
       → ((k : PieceName) → is_some (kept_under pieces k) ≡ true → P k)
       → is_some (held_with pieces name payload q) ≡ true → P q
   each-with P pieces name q payload own before some = elim (cases_Bool (is_some (kept_under pieces name))) [
@@ -119,7 +119,7 @@ module _ (told : StationsAreTold) where
     ]
   ]
 
-  pub places-with : (longest : Longest) (old new : List (ℕ × PieceName)) (pieces later : Pieces) (name : PieceName)
+  pub places-with : (longest : Longest) (old new : List (ℕ × PieceName)) (pieces later : KeptPieces) (name : PieceName)
       (payload : List ℕ)
       → ((q : PieceName) → kept_under later q ≡ held_with pieces name payload q) → KeepsPlaces old new
       → has_place longest new name ≡ true → PiecesHavePlaces longest old pieces → PiecesHavePlaces longest new later
@@ -128,7 +128,7 @@ module _ (told : StationsAreTold) where
       all-held P later (λ q some. each-with P pieces name q payload own
       (each-held P pieces (places-kept longest old new pieces kept placed)) (ap is_some (sym (becomes q)) ∙ some))
 
-  stale-removed : (longest : Longest) (moment : ℕ) (name : PieceName) (pieces : Pieces)
+  stale-removed : (longest : Longest) (moment : ℕ) (name : PieceName) (pieces : KeptPieces)
       → is_live longest moment name.product name.version ≡ false
       → live_pieces longest moment (remove_entry (same_piece name) pieces) ≡ live_pieces longest moment pieces
   stale-removed longest moment name [] stale = refl
@@ -138,12 +138,12 @@ module _ (told : StationsAreTold) where
         subst (λ (k : PieceName). is_live longest moment k.product k.version ≡ false) (same-is told name e.0 is) stale in
         rw (is, own) refl
     | inr not ↦ rw not (elim (cases_Bool (is_live longest moment e.0.product e.0.version)) [
-      | inl lives ↦ rw lives (ap (λ (more : Pieces). e ∷ more) (stale-removed longest moment name es stale))
+      | inl lives ↦ rw lives (ap (λ (more : KeptPieces). e ∷ more) (stale-removed longest moment name es stale))
       | inr over ↦ rw over (stale-removed longest moment name es stale)
     ])
   ]
 
-  pub live-removed : (longest : Longest) (moment : ℕ) (name : PieceName) (pieces later : Pieces)
+  pub live-removed : (longest : Longest) (moment : ℕ) (name : PieceName) (pieces later : KeptPieces)
       → is_live longest moment name.product name.version ≡ false
       → later ≡ remove_entry (is_at (order.ghosts.cmp name)) pieces
       → live_pieces longest moment later ≡ live_pieces longest moment pieces
@@ -158,14 +158,14 @@ module _ (told : StationsAreTold) where
       left (λ place. is_eq (order.ghosts.cmp place.1 q) && nat_le place.0 (q.version + longest_of longest q.product)) (rw other refl) some
 
   -- the name is removed
-  pub places-removed : (longest : Longest) (end : ℕ) (name : PieceName) (old new : List (ℕ × PieceName)) (pieces later : Pieces)
+  pub places-removed : (longest : Longest) (end : ℕ) (name : PieceName) (old new : List (ℕ × PieceName)) (pieces later : KeptPieces)
       → IsStrictlySortedBy order.ghosts.cmp (keys_of pieces) → later ≡ remove_entry (is_at (order.ghosts.cmp name)) pieces
       → HasLeft (end, name) old new → PiecesHavePlaces longest old pieces → PiecesHavePlaces longest new later
   places-removed longest end name old new pieces later sorted is left placed =
       all-held (λ k. has_place longest new k ≡ true) later (λ q some.
       let without = held-without told name q pieces (once-sorted pieces sorted) in
       let held : is_some (cond (same_piece name q) None (kept_under pieces q)) ≡ true =
-      sym (ap is_some (ap (λ (ps : Pieces). kept_under ps q) (is ∙ removed-found name pieces) ∙ without)) ∙ some in
+      sym (ap is_some (ap (λ (ps : KeptPieces). kept_under ps q) (is ∙ removed-found name pieces) ∙ without)) ∙ some in
       elim (cases_Bool (same_piece name q)) [
         | inl same ↦ let none : false ≡ true = rw same at held in cc none
         | inr other ↦
@@ -176,7 +176,7 @@ module _ (told : StationsAreTold) where
       ])
 
   -- the name is given a place again
-  pub places-again : (longest : Longest) (end again : ℕ) (name : PieceName) (old left new : List (ℕ × PieceName)) (pieces : Pieces)
+  pub places-again : (longest : Longest) (end again : ℕ) (name : PieceName) (old left new : List (ℕ × PieceName)) (pieces : KeptPieces)
       → again ≤ name.version + longest_of longest name.product → HasLeft (end, name) old left → KeepsPlaces left new
       → HasAdded (again, name) new → PiecesHavePlaces longest old pieces → PiecesHavePlaces longest new pieces
   places-again longest end again name old left new pieces before taken kept added placed =

@@ -13,7 +13,7 @@ use Rattle.apdu_core.specs.declared.unit.Seg.{Seg}
 use Rattle.uplink_frame.specs.Station.{same_station}
 use Rattle.uplink_frame.specs.Laws.{StationsAreTold}
 use Rattle.segment_core.specs.Arrival.{Arrival, is_piece, first_piece, has_piece, bytes_of_piece, joined_payload, other_numbers}
-use Rattle.segment_core.specs.Kept.{Pieces, IsNumbered, kept_under, kept_of, kept_piece, was_whole, with_number, piece_name}
+use Rattle.segment_core.specs.Kept.{KeptPieces, IsNumbered, kept_under, kept_of, kept_piece, was_whole, with_number, piece_name}
 use Rattle.segment_core.specs.Kept.{arrival_named, fields_of, same_piece}
 use Rattle.segment_core.specs.HeldPieces.{is_held, others_held, bytes_at, held_bytes, joined_held, held_answer}
 use Rattle.segment_core.specs.HeldPieces.{held_with, is_number_of}
@@ -92,13 +92,13 @@ kept_other xs a q none = kept_same (xs ++ a ∷ []) xs q
     (λ n. has-with xs a q n ∙ rw (none n) (or-false (has xs q n)))
 
 -- what is known where a segment is taken: the pieces of its file are those kept of the arrivals
-pub record IsKnown (pieces : Pieces) (taken : List Arrival) (a : Arrival) (s : Seg) : Type 0 where
+pub record IsKnown (pieces : KeptPieces) (taken : List Arrival) (a : Arrival) (s : Seg) : Type 0 where
   pub segmentation_is : a.segmentation ≡ Some s
   pub number : IsNumbered (piece_name a s)
   pub keeps : (n : ℕ) → 1 ≤ n → n ≤ s.count → kept_under pieces (with_number (piece_name a s) n)
       ≡ kept_of taken (with_number (piece_name a s) n)
 
-module _ (told : StationsAreTold) (pieces : Pieces) (taken : List Arrival) (a : Arrival) (s : Seg) (known : IsKnown pieces taken a s) where
+module _ (told : StationsAreTold) (pieces : KeptPieces) (taken : List Arrival) (a : Arrival) (s : Seg) (known : IsKnown pieces taken a s) where
   held-has : (n : ℕ) → 1 ≤ n → n ≤ s.count → is_held pieces (piece_name a s) n ≡ has taken (piece_name a s) n
   held-has n least most = ap is_some (known.keeps n least most)
       ∙ mapped_some (kept_piece (was_whole taken (with_number (piece_name a s) n))) (first taken (piece_name a s) n)

@@ -7,7 +7,7 @@ use Rattle.std.proofs.lemmas.Map.Entries.{lookup-filter-keys}
 use Rattle.apdu_core.specs.declared.unit.Seg.{Seg}
 use Rattle.uplink_frame.specs.Laws.{StationsAreTold}
 use Rattle.segment_core.specs.Arrival.{Arrival, is_piece}
-use Rattle.segment_core.specs.Kept.{Pieces, IsNumbered, kept_under, kept_of, with_number, piece_name, arrival_named, fields_of}
+use Rattle.segment_core.specs.Kept.{KeptPieces, IsNumbered, kept_under, kept_of, with_number, piece_name, arrival_named, fields_of}
 use Rattle.segment_core.specs.Kept.{same_piece}
 use Rattle.segment_core.specs.HeldPieces.{others_held, held_with, is_number_of, held_answer, arrival_answer, held_after}
 use Rattle.segment_core.specs.Store.{Store, StandsFor, IsNotBefore, FitsFile, live_answer, answer_of, taken_with}
@@ -29,10 +29,10 @@ earlier-live longest (Some kept) moment name after live =
     let below = ltb-true moment (name.version + longest_of longest name.product) live in
     lt-ltb kept (name.version + longest_of longest name.product) (omega arith)
 
-abbrev store : Longest → Option ℕ → Pieces → Store
+abbrev store : Longest → Option ℕ → KeptPieces → Store
 store longest clock pieces = record { longest = longest; clock = clock; pieces = pieces }
 
-pub stands-later : (longest : Longest) (clock : Option ℕ) (moment : ℕ) (pieces : Pieces) (taken : List Arrival)
+pub stands-later : (longest : Longest) (clock : Option ℕ) (moment : ℕ) (pieces : KeptPieces) (taken : List Arrival)
     → IsNotBefore clock moment
     → StandsFor (store longest clock pieces) taken → StandsFor (store longest (Some moment) pieces) taken
 stands-later longest clock moment pieces taken after stands = record {
@@ -41,7 +41,7 @@ stands-later longest clock moment pieces taken after stands = record {
 }
 
 -- an arrival without segment fields is held as nothing
-pub stands-whole : (longest : Longest) (clock : Option ℕ) (moment : ℕ) (pieces : Pieces) (taken : List Arrival) (a : Arrival)
+pub stands-whole : (longest : Longest) (clock : Option ℕ) (moment : ℕ) (pieces : KeptPieces) (taken : List Arrival) (a : Arrival)
     → a.segmentation ≡ None → IsNotBefore clock moment → StandsFor (store longest clock pieces) taken
     → StandsFor (store longest (Some moment) pieces) (taken ++ a ∷ [])
 stands-whole longest clock moment pieces taken a none after stands = record {
@@ -51,7 +51,7 @@ stands-whole longest clock moment pieces taken a none after stands = record {
   numbered = stands.numbered;
 }
 
-known-file : (longest : Longest) (clock : Option ℕ) (moment : ℕ) (pieces : Pieces) (taken : List Arrival) (a : Arrival)
+known-file : (longest : Longest) (clock : Option ℕ) (moment : ℕ) (pieces : KeptPieces) (taken : List Arrival) (a : Arrival)
     (s : Seg)
     → a.segmentation ≡ Some s → IsNumbered (piece_name a s) → IsNotBefore clock moment
     → is_live longest moment a.product a.version ≡ true
@@ -63,7 +63,7 @@ known-file longest clock moment pieces taken a s seg number after live stands = 
       (earlier-live longest clock moment (with_number (piece_name a s) n) after live);
 }
 
-pub takes-stale : (longest : Longest) (clock : Option ℕ) (moment : ℕ) (pieces : Pieces) (taken : List Arrival) (a : Arrival)
+pub takes-stale : (longest : Longest) (clock : Option ℕ) (moment : ℕ) (pieces : KeptPieces) (taken : List Arrival) (a : Arrival)
     → IsNotBefore clock moment → is_live longest moment a.product a.version ≡ false
     → StandsFor (store longest clock pieces) taken → StandsFor (store longest (Some moment) pieces)
     (taken_with longest moment taken a)
@@ -90,7 +90,7 @@ module _ (told : StationsAreTold) where
       let tied : same_piece q (with_number name q.number) ≡ true = sym (ap (same_piece q) at) ∙ same-self told q in
       absurd (cc))
 
-  held-other : (pieces : Pieces) (name q : PieceName) (payload : List ℕ) → same_piece q (with_number name q.number) ≡ false
+  held-other : (pieces : KeptPieces) (name q : PieceName) (payload : List ℕ) → same_piece q (with_number name q.number) ≡ false
       → held_with pieces name payload q ≡ kept_under pieces q
   held-other pieces name q payload differs =
       let not_number : is_number_of name q ≡ false = and_left _ _ (and_left _ _ differs) in
@@ -104,7 +104,7 @@ module _ (told : StationsAreTold) where
       ]
 
   -- what holds of each name that is held, of the numbers of the file and of this name holds of each that is held then
-  pub held-each : (P : PieceName → Type 0) (pieces : Pieces) (name q : PieceName) (payload : List ℕ)
+  pub held-each : (P : PieceName → Type 0) (pieces : KeptPieces) (name q : PieceName) (payload : List ℕ)
       → ((n : ℕ) → 1 ≤ n → n ≤ name.count → P (with_number name n)) → P name
       → (is_some (kept_under pieces q) ≡ true → P q) → is_some (held_with pieces name payload q) ≡ true → P q
   held-each P pieces name q payload numbers own before some = elim (cases_Bool (is_some (kept_under pieces name))) [
@@ -125,13 +125,13 @@ module _ (told : StationsAreTold) where
     ]
   ]
 
-  held-numbered : (pieces : Pieces) (name q : PieceName) (payload : List ℕ) → IsNumbered name
+  held-numbered : (pieces : KeptPieces) (name q : PieceName) (payload : List ℕ) → IsNumbered name
       → (is_some (kept_under pieces q) ≡ true → IsNumbered q) → is_some (held_with pieces name payload q) ≡ true → IsNumbered q
   held-numbered pieces name q payload number =
       held-each IsNumbered pieces name q payload (λ n least most. (least, most)) number
 
   -- a segment that was taken among the pieces
-  pub stands-piece : (longest : Longest) (clock : Option ℕ) (moment : ℕ) (pieces later : Pieces) (taken : List Arrival)
+  pub stands-piece : (longest : Longest) (clock : Option ℕ) (moment : ℕ) (pieces later : KeptPieces) (taken : List Arrival)
       (a : Arrival) (s : Seg)
       → a.segmentation ≡ Some s → IsNumbered (piece_name a s) → IsNotBefore clock moment
       → is_live longest moment a.product a.version ≡ true
@@ -159,7 +159,7 @@ module _ (told : StationsAreTold) where
             (ap is_some (sym (becomes q)) ∙ some);
       }
 
-  pub answer-piece : (longest : Longest) (clock : Option ℕ) (moment : ℕ) (pieces : Pieces) (taken : List Arrival)
+  pub answer-piece : (longest : Longest) (clock : Option ℕ) (moment : ℕ) (pieces : KeptPieces) (taken : List Arrival)
       (a : Arrival) (s : Seg)
       → a.segmentation ≡ Some s → IsNumbered (piece_name a s) → IsNotBefore clock moment
       → is_live longest moment a.product a.version ≡ true
@@ -169,14 +169,14 @@ module _ (told : StationsAreTold) where
       answers told pieces taken a s (known-file longest clock moment pieces taken a s seg number after live stands)
       ∙ sym (cond-true (is_live longest moment a.product a.version) (live_answer taken a a.segmentation) Stale live)
 
-  held-live : (longest : Longest) (moment : ℕ) (pieces : Pieces) (q : PieceName)
+  held-live : (longest : Longest) (moment : ℕ) (pieces : KeptPieces) (q : PieceName)
       → kept_under (live_pieces longest moment pieces) q ≡ cond (is_live longest moment q.product q.version) (kept_under pieces q) None
   held-live longest moment pieces q =
       lookup-filter-keys (same_piece q) (λ (k : PieceName). is_live longest moment k.product k.version)
       (is_live longest moment q.product q.version)
       (λ k same. ap (λ (p : PieceName). is_live longest moment p.product p.version) (sym (same-is told q k same))) pieces
 
-  pub stands-purged : (longest : Longest) (clock : Option ℕ) (moment : ℕ) (pieces : Pieces) (taken : List Arrival)
+  pub stands-purged : (longest : Longest) (clock : Option ℕ) (moment : ℕ) (pieces : KeptPieces) (taken : List Arrival)
       → IsNotBefore clock moment
       → StandsFor (store longest clock pieces) taken
       → StandsFor (store longest (Some moment) (live_pieces longest moment pieces)) taken
@@ -198,7 +198,7 @@ module _ (told : StationsAreTold) where
   }
 
   -- what an arrival brings, and for what the store stands with it
-  pub answer-live : (longest : Longest) (clock : Option ℕ) (moment : ℕ) (pieces : Pieces) (taken : List Arrival) (a : Arrival)
+  pub answer-live : (longest : Longest) (clock : Option ℕ) (moment : ℕ) (pieces : KeptPieces) (taken : List Arrival) (a : Arrival)
       (o : Option Seg)
       → a.segmentation ≡ o → FitsFile o → IsNotBefore clock moment → is_live longest moment a.product a.version ≡ true
       → StandsFor (store longest clock pieces) taken → arrival_answer pieces a o ≡ answer_of longest moment taken a
@@ -208,7 +208,7 @@ module _ (told : StationsAreTold) where
   answer-live longest clock moment pieces taken a (Some s) seg fits after live stands =
       answer-piece longest clock moment pieces taken a s seg (fits.0, fits.1) after live stands
 
-  pub stands-live : (longest : Longest) (clock : Option ℕ) (moment : ℕ) (pieces later : Pieces) (taken : List Arrival)
+  pub stands-live : (longest : Longest) (clock : Option ℕ) (moment : ℕ) (pieces later : KeptPieces) (taken : List Arrival)
       (a : Arrival) (o : Option Seg)
       → a.segmentation ≡ o → FitsFile o → IsNotBefore clock moment → is_live longest moment a.product a.version ≡ true
       → ((q : PieceName) → kept_under later q ≡ held_after pieces a o q)
@@ -222,7 +222,7 @@ module _ (told : StationsAreTold) where
   stands-live longest clock moment pieces later taken a (Some s) seg fits after live becomes stands =
       stands-piece longest clock moment pieces later taken a s seg (fits.0, fits.1) after live becomes stands
 
-  pub takes-live : (longest : Longest) (clock : Option ℕ) (moment : ℕ) (pieces later : Pieces) (taken : List Arrival)
+  pub takes-live : (longest : Longest) (clock : Option ℕ) (moment : ℕ) (pieces later : KeptPieces) (taken : List Arrival)
       (a : Arrival)
       → FitsFile a.segmentation → IsNotBefore clock moment → is_live longest moment a.product a.version ≡ true
       → ((q : PieceName) → kept_under later q ≡ held_after pieces a a.segmentation q)
@@ -233,7 +233,7 @@ module _ (told : StationsAreTold) where
       (sym (cond-true (is_live longest moment a.product a.version) (taken ++ a ∷ []) taken live))
       (stands-live longest clock moment pieces later taken a a.segmentation refl fits after live becomes stands)
 
-  pub live-purged : (longest : Longest) (moment : ℕ) (pieces : Pieces) (name : PieceName)
+  pub live-purged : (longest : Longest) (moment : ℕ) (pieces : KeptPieces) (name : PieceName)
       → is_some (kept_under (live_pieces longest moment pieces) name) ≡ true → is_live longest moment name.product name.version ≡ true
   live-purged longest moment pieces name some = elim (cases_Bool (is_live longest moment name.product name.version)) [
     | inl live ↦ live

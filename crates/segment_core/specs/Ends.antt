@@ -2,7 +2,7 @@
 use Rattle.std.specs.Prelude.{ℕ, ◌+◌, List, Option}
 use Rattle.undo_map.specs.Ends.{HaveMarkedPlacesBy, HavePlacesBy}
 use Rattle.undo_map.specs.Marked.{Marked}
-use Rattle.segment_core.specs.Kept.{Pieces}
+use Rattle.segment_core.specs.Kept.{KeptPieces}
 use Rattle.segment_core.specs.Store.{longest_of}
 use Rattle.segment_core.specs.contracts.piece_name.PieceNameOrd.TheImpl as order
 use Rattle.segment_core.specs.declared.arrived.Longest.{Longest}
@@ -13,7 +13,7 @@ abbrev pub stale_from : Longest → PieceName × Option (List ℕ) → ℕ
 stale_from longest piece = piece.0.version + longest_of longest piece.0.product
 
 -- each name that is held stands there, at a second that is no later
-abbrev pub PiecesHavePlaces : Longest → List (ℕ × PieceName) → Pieces → Type 0
+abbrev pub PiecesHavePlaces : Longest → List (ℕ × PieceName) → KeptPieces → Type 0
 PiecesHavePlaces longest places pieces =
     HavePlacesBy order.ghosts.cmp (stale_from longest) places pieces
 
