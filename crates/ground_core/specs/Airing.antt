@@ -49,7 +49,8 @@ waiting_segments all log moment =
 -- the longest prefix that fits the room
 abbrev pub longest_fitting : ℕ → List Segment → List Segment
 longest_fitting room [] = []
-longest_fitting room (s ∷ more) = if nat_le (room_of s) room then s ∷ longest_fitting (room - room_of s) more
+longest_fitting room (s ∷ more) = if nat_le (room_of s) room
+    then s ∷ longest_fitting (room - room_of s) more
     else []
 
 -- what a frame airs at a moment, by the items and by the log of all givings and airings so far
