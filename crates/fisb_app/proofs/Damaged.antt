@@ -1,5 +1,5 @@
 -- A frame as it is heard: its wrong bytes are put in one after another; and what it is to be near.
-use Rattle.std.proofs.Common.{◌≡◌, ℕ, ◌<◌, ◌==◌, ◌&&◌, Bool, true, false, if◌then◌else◌, IsTrue, List, [], ◌∷◌, length, map, refl, sym, ap, subst, ◌∙◌, arith, set, slice_index, get_or, inl, inr}
+use Rattle.std.proofs.Common.{◌≡◌, ℕ, ◌<◌, ◌==◌, true, if◌then◌else◌, IsTrue, List, [], ◌∷◌, length, sym, ap, subst, ◌∙◌, arith, set, slice_index, get_or, inl, inr}
 use Rattle.std.specs.List.{range_with_len}
 use Rattle.std.proofs.lemmas.Bool.{cases_Bool}
 use Rattle.std.proofs.lemmas.Bool.Decides.{nat_tests}
@@ -7,14 +7,11 @@ use Rattle.std.proofs.lemmas.List.{get_or-set_same, get_or-set_other}
 use Rattle.std.proofs.lemmas.List.FromFn.{get_or-range_with_len, length-range_with_len}
 use Rattle.std.proofs.lemmas.List.Sums.{AllPass-from_list_all}
 use Rattle.std.proofs.lemmas.Simd.{pick_l_whole}
+use Rattle.list_members.proofs.Ranges.{map_same}
 use Rattle.rs_code.specs.CodeWord.{are_near}
 use Rattle.uplink_weave.specs.Woven.{block, block_roots}
 use Rattle.fisb_app.specs.Past.{byte_heard, air_heard}
 use Rattle.fisb_app.specs.Damage.{has_near_blocks}
-
-pub both-true : (one other : Bool) → (one && other) ≡ true → (one ≡ true) × (other ≡ true)
-both-true true other e = (refl, e)
-both-true false other e = cc
 
 pub near-blocks : (heard sent : List ℕ) → has_near_blocks heard sent ≡ true → (r : ℕ) → r < 6 → IsTrue (are_near block_roots (block r heard) (block r sent))
 unfolding has_near_blocks
@@ -37,12 +34,8 @@ put-one air at byte place within =
       | inr other ↦ rw other (sym (get_or-set_other air at place byte 0 (λ e. absurd (grind (arith, nat_tests)))))
     ]
 
-map-same : (f g : ℕ → ℕ) (xs : List ℕ) → ((x : ℕ) → f x ≡ g x) → map f xs ≡ map g xs
-map-same f g [] same = refl
-map-same f g (x ∷ xs) same = ap (λ y. y ∷ map f xs) (same x) ∙ ap (λ ys. g x ∷ ys) (map-same f g xs same)
-
 pub one-put : (one : ℕ × ℕ) (more : List (ℕ × ℕ)) (air : List ℕ) → one.0 < length air → air_heard (one ∷ more) air ≡ air_heard more (set air one.0 one.1)
 unfolding air_heard
 one-put one more air within =
-    map-same (λ place. byte_heard (one ∷ more) place (slice_index air place)) (λ place. byte_heard more place (slice_index (set air one.0 one.1) place)) (range_with_len 0 552)
-    (λ place. ap (byte_heard more place) (put-one air one.0 one.1 place within))
+    map_same (λ place. byte_heard (one ∷ more) place (slice_index air place)) (λ place. byte_heard more place (slice_index (set air one.0 one.1) place)) (range_with_len 0 552)
+    (λ place there. ap (byte_heard more place) (put-one air one.0 one.1 place within))

@@ -2,11 +2,12 @@
 use Rattle.std.proofs.Common.{◌≡◌, ℕ, zero, suc, ◌+◌, ◌<◌, ◌≤◌, ◌⊎◌, nat_lt, Bool, true, false, if◌then◌else◌, All, List, [], ◌∷◌, ◌++◌, length, map, Option, Some, None, option_map, refl, sym, ap, subst, ◌∙◌, append-nil, arith, slice_get, slice_index, inl, inr}
 use Rattle.std.specs.Option.{option_or, option_and_then}
 use Rattle.std.specs.List.{cons_option}
-use Rattle.std.proofs.lemmas.Bool.{cases_Bool}
+use Rattle.std.proofs.lemmas.Bool.{cases_Bool, and_parts}
 use Rattle.std.proofs.lemmas.Bool.Decides.{nat_tests}
 use Rattle.std.proofs.lemmas.List.{get_or_past}
 use Rattle.list_members.specs.Membership.{IsIn}
 use Rattle.uplink_frame.specs.Station.{FitsStation}
+use Rattle.uplink_frame.specs.Laws.{StationsAreTold}
 use Rattle.uplink_weave.specs.Laws.{NearFrameGivesPayload}
 use Rattle.uplink_weave.specs.Functions.{payload_in, lost_block_in}
 use Rattle.life_table.specs.LifeTable.{LifeTable}
@@ -30,12 +31,12 @@ use Rattle.fisb_app.specs.Past.{events, broadcast, hearings, station_of, sent_fr
 use Rattle.fisb_app.specs.Reading.{refusal_of, own_refusal, text_refusal, frame_refusal, receiver_refusal, earlier_than, reason_of_update}
 use Rattle.fisb_app.specs.Damage.{all_near, is_near_frame}
 use Rattle.fisb_app.proofs.Judging.{or-none, IsClear, clear}
-use Rattle.fisb_app.proofs.Damaged.{near-blocks, both-true}
-use Rattle.fisb_app.proofs.Turning.{Told, history-back, unbegun-events, unbegun-frames}
+use Rattle.fisb_app.proofs.Damaged.{near-blocks}
+use Rattle.fisb_app.proofs.Turning.{history-back, unbegun-events, unbegun-frames}
 
 -- what lower crates promise
 pub record Laws : Type 0 where
-  pub told : Told
+  pub told : StationsAreTold
   pub near : NearFrameGivesPayload
   pub frames_back : FramesReadBack
   pub stay : HearingsStay
@@ -137,7 +138,7 @@ reception-heard laws table acted past moment place wrong (Some frame) rules soun
     received-sent laws table acted past moment place wrong frame rules sound none is near
 
 -- an update that is accepted, and a fill, are the next event of the broadcast
-next-event : Told → (table : LifeTable) (acted : List Line) (event : Event) → IsSound table acted → IsNext table (station_of acted) (events acted) event
+next-event : StationsAreTold → (table : LifeTable) (acted : List Line) (event : Event) → IsSound table acted → IsNext table (station_of acted) (events acted) event
     → IsBroadcast table (record { station = station_of acted; event = event } ∷ broadcast acted)
 next-event told table acted event s next =
     (s.station, subst (λ past. IsNext table (station_of acted) past event) (sym (history-back told (station_of acted) (events acted))) next, s.is_broadcast)
@@ -202,7 +203,7 @@ sound-hear laws table acted moment number size wrong rules ranges is own s =
       is_broadcast = s.is_broadcast;
       heard = (time, ranges.0, s.heard_before moment behind, s.heard);
       received_is = λ near.
-          let (own_near, past_near) = both-true (is_near_frame wrong found) (all_near table acted) near in
+          let (own_near, past_near) = and_parts (is_near_frame wrong found) (all_near table acted) near in
           ap (λ o. cons_option o (receptions table acted))
           (reception-heard laws table acted (receptions table acted) moment number wrong found rules s.is_broadcast both.1 refl time own_near)
           ∙ ap (λ rest. record { moment = moment; payload = payload_sent found } ∷ rest) (s.received_is past_near);

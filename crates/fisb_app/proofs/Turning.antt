@@ -1,8 +1,10 @@
 -- A frame more that was sent.
-use Rattle.std.proofs.Common.{◌≡◌, ◌↔◌, IsTrue, ℕ, ◌+◌, ◌||◌, Bool, true, false, List, [], ◌∷◌, ◌++◌, length, map, refl, sym, ap, ◌∙◌, decimal, codes, arith}
+use Rattle.std.proofs.Common.{◌≡◌, ℕ, ◌+◌, true, false, List, [], ◌∷◌, ◌++◌, length, map, refl, sym, ap, ◌∙◌, decimal, codes, arith}
+use Rattle.std.proofs.lemmas.Bool.{or_parts, true≢false}
 use Rattle.std.proofs.lemmas.List.{length-map}
 use Rattle.uplink_frame.specs.declared.station.StationId.{StationId}
 use Rattle.uplink_frame.specs.Station.{same_station}
+use Rattle.uplink_frame.specs.Laws.{StationsAreTold}
 use Rattle.life_table.specs.LifeTable.{LifeTable}
 use Rattle.ground_core.specs.History.{Event}
 use Rattle.ground_core.specs.Airing.{Frame, frame_after}
@@ -16,25 +18,14 @@ use Rattle.fisb_app.specs.Past.{events, station_of, sent_frames, air_of, has_beg
 use Rattle.fisb_app.specs.Output.{sent_words}
 use Rattle.fisb_app.specs.Stands.{Aired, aired_view}
 
-or-false : (a b : Bool) → (a || b) ≡ false → a ≡ false
-or-false true b e = cc
-or-false false b e = refl
-
-or-true : (a : Bool) → (a || true) ≡ false → ⊥
-or-true true e = cc
-or-true false e = cc
-
-abbrev pub Told : Type 0
-Told = (a b : StationId) → IsTrue (same_station a b) ↔ (a ≡ b)
-
 -- all events of a station are its history
-pub history-back : Told → (place : StationId) (past : List Event) → history_of place (map (λ event. record { station = place; event = event }) past) ≡ past
+pub history-back : StationsAreTold → (place : StationId) (past : List Event) → history_of place (map (λ event. record { station = place; event = event }) past) ≡ past
 history-back told place [] = refl
 history-back told place (event ∷ past) =
     let same : same_station place place ≡ true = (told place place).1 refl in
     rw same (ap (λ rest. event ∷ rest) (history-back told place past))
 
-pub frames-more : Told → (table : LifeTable) (acted : List Line) (moment slot : ℕ)
+pub frames-more : StationsAreTold → (table : LifeTable) (acted : List Line) (moment slot : ℕ)
     → sent_frames table (turn moment slot ∷ acted) ≡ sent_frames table acted ++ frame_after table (station_of acted) (events acted) moment slot ∷ []
 frames-more told table acted moment slot =
     ap (λ past. sent_frames table acted ++ frame_after table (station_of acted) past moment slot ∷ []) (history-back told (station_of acted) (events acted))
@@ -52,7 +43,7 @@ aired-alike sent frame is =
     ap (λ m. record { moment = m; air = frame.air }) is.moment ∙ ap (λ a. record { moment = sent.moment; air = a }) is.air
 
 -- one frame more is kept
-pub kept-more : Told → (table : LifeTable) (acted : List Line) (moment slot : ℕ) (kept : List Aired) (frame : AirFrame)
+pub kept-more : StationsAreTold → (table : LifeTable) (acted : List Line) (moment slot : ℕ) (kept : List Aired) (frame : AirFrame)
     → kept ≡ map aired_view (sent_frames table acted) → IsOnAir (frame_after table (station_of acted) (events acted) moment slot) frame
     → kept ++ record { moment = frame.moment; air = frame.air } ∷ [] ≡ map aired_view (sent_frames table (turn moment slot ∷ acted))
 kept-more told table acted moment slot kept frame is on =
@@ -86,13 +77,13 @@ count-alike f g xs ys e = sym (length-map xs f) ∙ ap length e ∙ length-map y
 -- before a line that is not empty there is no event
 pub unbegun-events : (acted : List Line) → has_begun acted ≡ false → events acted ≡ []
 unbegun-events [] e = refl
-unbegun-events (empty ∷ past) e = unbegun-events past (or-false (has_begun past) _ e)
-unbegun-events (station latitude longitude site ∷ past) e = absurd (or-true (has_begun past) e)
-unbegun-events (text moment version chars ∷ past) e = absurd (or-true (has_begun past) e)
-unbegun-events (turn moment slot ∷ past) e = absurd (or-true (has_begun past) e)
-unbegun-events (hear moment frame wrong ∷ past) e = absurd (or-true (has_begun past) e)
-unbegun-events (show moment ∷ past) e = absurd (or-true (has_begun past) e)
-unbegun-events (unbuilt ∷ past) e = absurd (or-true (has_begun past) e)
+unbegun-events (empty ∷ past) e = unbegun-events past ((or_parts (has_begun past) _ e).0)
+unbegun-events (station latitude longitude site ∷ past) e = absurd (true≢false (or_parts (has_begun past) true e).1)
+unbegun-events (text moment version chars ∷ past) e = absurd (true≢false (or_parts (has_begun past) true e).1)
+unbegun-events (turn moment slot ∷ past) e = absurd (true≢false (or_parts (has_begun past) true e).1)
+unbegun-events (hear moment frame wrong ∷ past) e = absurd (true≢false (or_parts (has_begun past) true e).1)
+unbegun-events (show moment ∷ past) e = absurd (true≢false (or_parts (has_begun past) true e).1)
+unbegun-events (unbuilt ∷ past) e = absurd (true≢false (or_parts (has_begun past) true e).1)
 
 -- before it no frame was sent, whatever station is named
 pub unbegun-frames : (table : LifeTable) (acted : List Line) (line : Line) → has_begun acted ≡ false → events (line ∷ acted) ≡ events acted

@@ -1,5 +1,6 @@
 -- The words that name a command.
-use Rattle.std.specs.Prelude.{ℕ, nat_lt, if◌then◌else◌, List, [], ◌∷◌, length, Option, Some, None, codes}
+use Rattle.std.specs.Prelude.{ℕ, nat_lt, if◌then◌else◌, List, [], ◌∷◌, length, Option, Some, None}
+use Rattle.std.specs.Prelude.{codes}
 use Rattle.std.specs.Str.{bytes_eq}
 use Rattle.fisb_app.specs.declared.command.Command.{Command}
 use Rattle.fisb_app.specs.declared.command.Command.TheVariants.{Link, Ground, Receive, Gdl, Make}

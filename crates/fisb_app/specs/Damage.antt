@@ -8,7 +8,8 @@ use Rattle.script_core.specs.Script.{Line, empty, station, text, turn, hear, sho
 use Rattle.fisb_app.specs.Past.{sent_frames, air_of, air_heard}
 use Rattle.fisb_app.specs.Output.{Claim}
 
--- each of the six blocks differs from the one that was sent in no more places than half the roots of its code: ten of 92
+-- each of the six blocks differs from the one that was sent in no more places than half the roots
+-- of its code: ten of 92
 unfoldable pub has_near_blocks : List ℕ → List ℕ → Bool
 has_near_blocks heard sent =
     list_all (λ r. are_near block_roots (block r heard) (block r sent)) (range_with_len 0 6)

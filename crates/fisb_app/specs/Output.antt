@@ -1,5 +1,6 @@
 -- The texts that lines give.
-use Rattle.std.specs.Prelude.{ℕ, Bool, if◌then◌else◌, List, [], ◌∷◌, ◌++◌, length, map, flat_map, Option, Some, None, slice_get, codes, decimal}
+use Rattle.std.specs.Prelude.{ℕ, Bool, if◌then◌else◌, List, [], ◌∷◌, ◌++◌, length, map, flat_map}
+use Rattle.std.specs.Prelude.{Option, Some, None, slice_get, codes, decimal}
 use Rattle.hex.specs.Hex.{encode_lower}
 use Rattle.dlac_text.specs.Plain.{plain_text}
 use Rattle.uplink_frame.specs.declared.header.UplinkHeader.{UplinkHeader}
@@ -14,13 +15,17 @@ use Rattle.receiver_core.specs.Reception.{Reception, received_picture}
 use Rattle.receiver_core.specs.UnreadParts.{UnreadPart, unread_parts}
 use Rattle.receiver_core.specs.Hearing.{HearRefusal, clock, lost, no_application, refusal_of_air}
 use Rattle.receiver_core.specs.declared.unread.UnreadReason.{UnreadReason}
-use Rattle.receiver_core.specs.declared.unread.UnreadReason.TheVariants.{Kind, Short, Flagged, Segment, Product, NoRow, Files, Time, Stale, Words, Unlisted}
+use Rattle.receiver_core.specs.declared.unread.UnreadReason.TheVariants.{Kind, Short, Flagged}
+use Rattle.receiver_core.specs.declared.unread.UnreadReason.TheVariants.{Segment, Product, NoRow}
+use Rattle.receiver_core.specs.declared.unread.UnreadReason.TheVariants.{Files, Time, Stale, Words}
+use Rattle.receiver_core.specs.declared.unread.UnreadReason.TheVariants.{Unlisted}
 use Rattle.fisb_link.specs.LinkPicture.{link_picture}
 use Rattle.script_core.specs.Script.{Line, empty, station, text, turn, hear, show, unbuilt}
 use Rattle.script_core.specs.Refusal.{spaced}
 use Rattle.fisb_app.specs.declared.party.Party.{Party}
 use Rattle.fisb_app.specs.declared.party.Party.TheVariants.{Link, Ground}
-use Rattle.fisb_app.specs.Past.{events, broadcast, hearings, station_of, sent_frames, air_of, air_heard, receptions}
+use Rattle.fisb_app.specs.Past.{events, broadcast, hearings, station_of, sent_frames, air_of}
+use Rattle.fisb_app.specs.Past.{air_heard, receptions}
 
 -- a frame that was sent; a ground alone writes its bytes on the air too
 abbrev pub sent_words : ℕ → Frame → List (List ℕ)
@@ -67,25 +72,30 @@ unread_word Words = codes "words"
 unread_word Unlisted = codes "unlisted"
 
 abbrev pub unread_text : UnreadPart → List ℕ
-unread_text part = spaced (codes "unread" ∷ unread_word part.reason ∷ decimal part.kind ∷ decimal part.product
+unread_text part =
+    spaced (codes "unread" ∷ unread_word part.reason ∷ decimal part.kind ∷ decimal part.product
     ∷ decimal part.size ∷ [])
 
--- what a reception says: the slot, the site, how many bytes of each of its six blocks were corrected, and the unread parts
+-- what a reception says: the slot, the site, how many bytes of each of its six blocks were
+-- corrected, and the unread parts
 abbrev pub heard_words : ℕ → UplinkHeader → List ℕ → List (List ℕ)
 heard_words moment header counts =
     codes "heard" ∷ decimal moment ∷ decimal header.slot ∷ decimal header.site ∷ map decimal counts
 
 abbrev pub heard_lines : ℕ → UplinkHeader → List ℕ → List UnreadPart → List ℕ
-heard_lines moment header counts unread = spaced (heard_words moment header counts) ++ flat_map unread_text unread
+heard_lines moment header counts unread =
+    spaced (heard_words moment header counts) ++ flat_map unread_text unread
 
 abbrev pub heard_payload : LifeTable → List Reception → ℕ → List ℕ → Option (List ℕ) → List ℕ
 heard_payload table past moment counts None = []
-heard_payload table past moment counts (Some payload) = heard_lines moment (header_in payload) counts
+heard_payload table past moment counts (Some payload) =
+    heard_lines moment (header_in payload) counts
     (unread_parts table past (record { moment = moment; payload = payload }))
 
 -- or that a block of the frame is lost, or that its application data are not valid
 abbrev pub heard_by : LifeTable → List Reception → ℕ → List ℕ → Option HearRefusal → List ℕ
-heard_by table past moment air None = heard_payload table past moment (counts_in air) (payload_in air)
+heard_by table past moment air None =
+    heard_payload table past moment (counts_in air) (payload_in air)
 heard_by table past moment air (Some (clock kept)) = []
 heard_by table past moment air (Some (lost block)) =
     spaced (codes "lost" ∷ decimal moment ∷ decimal block ∷ [])
@@ -107,23 +117,28 @@ Shows = LifeTable → List Line → ℕ → List Entry
 abbrev pub heard_picture : Shows
 heard_picture table acted moment = received_picture table (receptions table acted) moment
 
--- What is claimed of the lines before a picture. Where it holds the picture is the one that the link promises, which knows no
--- byte of a frame; elsewhere it is promised only that it is the picture by the bytes.
+-- What is claimed of the lines before a picture. Where it holds the picture is the one that the
+-- link promises, which knows no byte of a frame; elsewhere it is promised only that it is the
+-- picture by the bytes.
 abbrev pub Claim : Type 0
 Claim = LifeTable → List Line → Bool
 
 abbrev pub promised_picture : Claim → Shows
 promised_picture claim table acted moment = if claim table acted
-    then link_picture table (broadcast acted) (hearings acted) moment else heard_picture table acted moment
+    then link_picture table (broadcast acted) (hearings acted) moment
+    else heard_picture table acted moment
 
 -- what a line gives after the lines acted on, where `shows` gives the pictures
 abbrev pub given_text : Party → Shows → LifeTable → List Line → Line → List ℕ
 given_text party shows table past empty = []
 given_text party shows table past (station latitude longitude site) = []
 given_text party shows table past (text moment version chars) = []
-given_text party shows table past (turn moment slot) = sent_text party (length (sent_frames table past))
+given_text party shows table past (turn moment slot) =
+    sent_text party (length (sent_frames table past))
     (frame_after table (station_of past) (events past) moment slot)
 given_text party shows table past (hear moment frame wrong) =
-    heard_frame table (receptions table past) moment wrong (slice_get (sent_frames table past) frame)
-given_text party shows table past (show moment) = picture_text moment (map shown_value (shows table past moment))
+    heard_frame table (receptions table past) moment wrong
+    (slice_get (sent_frames table past) frame)
+given_text party shows table past (show moment) =
+    picture_text moment (map shown_value (shows table past moment))
 given_text party shows table past unbuilt = []

@@ -1,6 +1,7 @@
--- What the lines acted on have made: the station's history, what was heard of its frames, and what was received. The newest
--- line stands first.
-use Rattle.std.specs.Prelude.{ℕ, ◌==◌, Bool, true, false, not, ◌||◌, if◌then◌else◌, List, [], ◌∷◌, map, Option, Some, None, slice_get, slice_index}
+-- What the lines acted on have made: the station's history, what was heard of its frames, and what
+-- was received. The newest line stands first.
+use Rattle.std.specs.Prelude.{ℕ, ◌==◌, Bool, true, false, not, ◌||◌, if◌then◌else◌, List, [], ◌∷◌}
+use Rattle.std.specs.Prelude.{map, Option, Some, None, slice_get, slice_index}
 use Rattle.std.specs.List.{cons_option, filter_map, range_with_len}
 use Rattle.std.specs.Option.{option_or}
 use Rattle.uplink_weave.specs.Functions.{woven, payload_in}
@@ -59,13 +60,15 @@ sent_frames table acted = frames table (broadcast acted)
 abbrev pub air_of : Frame → List ℕ
 air_of frame = woven (frame_payload frame)
 
--- a frame as it is heard, where each of these places has a wrong byte: at every other place the byte that was sent
+-- a frame as it is heard, where each of these places has a wrong byte: at every other place the
+-- byte that was sent
 abbrev pub byte_heard : List (ℕ × ℕ) → ℕ → ℕ → ℕ
 byte_heard [] place sent = sent
 byte_heard (one ∷ more) place sent = byte_heard more place (if one.0 == place then one.1 else sent)
 
 unfoldable pub air_heard : List (ℕ × ℕ) → List ℕ → List ℕ
-air_heard wrong air = map (λ place. byte_heard wrong place (slice_index air place)) (range_with_len 0 552)
+air_heard wrong air =
+    map (λ place. byte_heard wrong place (slice_index air place)) (range_with_len 0 552)
 
 -- what was heard
 abbrev pub hearing_of : Line → Option Hearing
@@ -87,13 +90,16 @@ reception_by None moment None = None
 reception_by None moment (Some payload) = Some (record { moment = moment; payload = payload })
 
 abbrev pub reception_from : List Reception → ℕ → List ℕ → Option Reception
-reception_from past moment air = reception_by (refusal_of_air past moment air) moment (payload_in air)
+reception_from past moment air =
+    reception_by (refusal_of_air past moment air) moment (payload_in air)
 
 abbrev pub received_frame : List Reception → ℕ → List (ℕ × ℕ) → Option Frame → Option Reception
 received_frame past moment wrong None = None
-received_frame past moment wrong (Some frame) = reception_from past moment (air_heard wrong (air_of frame))
+received_frame past moment wrong (Some frame) =
+    reception_from past moment (air_heard wrong (air_of frame))
 
--- the receptions after a line, where the frames that were sent and the receptions stood so before it
+-- the receptions after a line, where the frames that were sent and the receptions stood so before
+-- it
 abbrev pub receptions_after : List Frame → List Reception → Line → List Reception
 receptions_after sent past empty = past
 receptions_after sent past (station latitude longitude site) = past
@@ -106,7 +112,8 @@ receptions_after sent past unbuilt = past
 
 abbrev pub receptions : LifeTable → List Line → List Reception
 receptions table [] = []
-receptions table (line ∷ past) = receptions_after (sent_frames table past) (receptions table past) line
+receptions table (line ∷ past) =
+    receptions_after (sent_frames table past) (receptions table past) line
 
 -- the moment of a line, and that of the last line with one; moments never fall
 abbrev pub moment_of : Line → Option ℕ

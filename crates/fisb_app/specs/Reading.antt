@@ -1,5 +1,6 @@
 -- The first reason that stands against a line after the lines acted on, the newest first.
-use Rattle.std.specs.Prelude.{◌≡◌, ℕ, ◌+◌, Bool, true, false, ◌&&◌, nat_lt, if◌then◌else◌, List, length, Option, Some, None, option_map, slice_get}
+use Rattle.std.specs.Prelude.{◌≡◌, ℕ, ◌+◌, Bool, true, false, ◌&&◌, nat_lt, if◌then◌else◌, List}
+use Rattle.std.specs.Prelude.{length, Option, Some, None, option_map, slice_get}
 use Rattle.std.specs.Option.{option_or}
 use Rattle.dlac_text.specs.Refusal.{TextRefusal, bad_character, too_long}
 use Rattle.life_table.specs.LifeTable.{LifeTable}
@@ -7,17 +8,23 @@ use Rattle.text_reports.specs.TextKey.{KeyFault, few_words, unlisted}
 use Rattle.ground_core.specs.Update as updates
 use Rattle.ground_core.specs.History.{items}
 use Rattle.ground_core.specs.Airing.{Frame}
-use Rattle.ground_core.specs.Refusal.{GiveRefusal, bad_text, no_key, coarse, ahead, expired, not_newer, no_file, give_refusal}
+use Rattle.ground_core.specs.Refusal.{GiveRefusal, bad_text, no_key, coarse, ahead, expired}
+use Rattle.ground_core.specs.Refusal.{not_newer, no_file, give_refusal}
 use Rattle.segment_core.specs.Store.{last_above}
 use Rattle.ground_core.specs.OnAir.{clock_of}
 use Rattle.receiver_core.specs.Reception.{Reception}
 use Rattle.receiver_core.specs.Hearing as heard
 use Rattle.script_core.specs.Script.{Line, empty, station, text, turn, hear, show, unbuilt}
 use Rattle.script_core.specs.declared.reason.Reason.{Reason}
-use Rattle.script_core.specs.declared.reason.Reason.TheVariants.{NotHere, Station, Clock, NoFrame, Late, Frames, BadCharacter, TextLong, FewWords, Unlisted, Coarse, Ahead, Expired, NotNewer, NoFile, NotBuilt}
+use Rattle.script_core.specs.declared.reason.Reason.TheVariants.{NotHere, Station, Clock, NoFrame}
+use Rattle.script_core.specs.declared.reason.Reason.TheVariants.{Late, Frames, BadCharacter}
+use Rattle.script_core.specs.declared.reason.Reason.TheVariants.{TextLong, FewWords, Unlisted}
+use Rattle.script_core.specs.declared.reason.Reason.TheVariants.{Coarse, Ahead, Expired, NotNewer}
+use Rattle.script_core.specs.declared.reason.Reason.TheVariants.{NoFile, NotBuilt}
 use Rattle.fisb_app.specs.declared.party.Party.{Party}
 use Rattle.fisb_app.specs.declared.party.Party.TheVariants.{Link, Ground}
-use Rattle.fisb_app.specs.Past.{events, station_of, sent_frames, receptions, moment_of, latest, has_begun}
+use Rattle.fisb_app.specs.Past.{events, station_of, sent_frames, receptions, moment_of, latest}
+use Rattle.fisb_app.specs.Past.{has_begun}
 
 -- the most frames of a run
 abbrev pub frame_limit : ℕ
@@ -74,7 +81,8 @@ clock_refusal own last = option_map Clock (earlier_than own last)
 
 -- the reasons that do not look at the content of a line
 abbrev pub front_refusal : Party → Bool → Option ℕ → Line → Option Reason
-front_refusal party begun last line = option_or (built_refusal line) (option_or (party_refusal party line)
+front_refusal party begun last line =
+    option_or (built_refusal line) (option_or (party_refusal party line)
     (option_or (station_refusal begun line) (clock_refusal (moment_of line) last)))
 
 -- the reason of a refused update
@@ -95,12 +103,14 @@ reason_of_update expired = Expired
 reason_of_update (not_newer kept) = NotNewer kept
 reason_of_update no_file = NoFile
 
--- a ground takes nothing before its last event, and a receiver nothing before its last reception; the clock of the script
--- keeps both
+-- a ground takes nothing before its last event, and a receiver nothing before its last reception;
+-- the clock of the script keeps both
 abbrev pub text_refusal : LifeTable → List Line → ℕ → ℕ → List ℕ → Option Reason
-text_refusal table acted moment version chars = option_or (option_map Clock (last_above (clock_of (events acted)) moment))
+text_refusal table acted moment version chars =
+    option_or (option_map Clock (last_above (clock_of (events acted)) moment))
     (option_map reason_of_update
-    (give_refusal table (items table (station_of acted) (events acted)) moment (updates.text version chars)))
+    (give_refusal table (items table (station_of acted) (events acted)) moment
+    (updates.text version chars)))
 
 abbrev pub turn_refusal : ℕ → List Line → ℕ → Option Reason
 turn_refusal count acted moment = if nat_lt count frame_limit
@@ -109,7 +119,8 @@ turn_refusal count acted moment = if nat_lt count frame_limit
 -- a frame is heard once it was sent, and not too late
 abbrev pub frame_refusal : ℕ → ℕ → Option Frame → Option Reason
 frame_refusal allowed moment None = Some NoFrame
-frame_refusal allowed moment (Some frame) = if nat_lt (frame.moment + allowed) moment then Some Late else None
+frame_refusal allowed moment (Some frame) = if nat_lt (frame.moment + allowed) moment then Some Late
+    else None
 
 abbrev pub receiver_refusal : List Reception → ℕ → Option Reason
 receiver_refusal past moment = option_map Clock (last_above (heard.clock_of past) moment)
@@ -119,7 +130,8 @@ abbrev pub own_refusal : LifeTable → List Line → Line → Option Reason
 own_refusal table acted empty = None
 own_refusal table acted (station latitude longitude site) = None
 own_refusal table acted (text moment version chars) = text_refusal table acted moment version chars
-own_refusal table acted (turn moment slot) = turn_refusal (length (sent_frames table acted)) acted moment
+own_refusal table acted (turn moment slot) =
+    turn_refusal (length (sent_frames table acted)) acted moment
 own_refusal table acted (hear moment frame wrong) =
     option_or (frame_refusal table.late moment (slice_get (sent_frames table acted) frame))
     (receiver_refusal (receptions table acted) moment)
@@ -128,7 +140,8 @@ own_refusal table acted unbuilt = None
 
 -- the first reason against a line of its form
 abbrev pub refusal_of : Party → LifeTable → List Line → Line → Option Reason
-refusal_of party table acted line = option_or (front_refusal party (has_begun acted) (latest acted) line)
+refusal_of party table acted line =
+    option_or (front_refusal party (has_begun acted) (latest acted) line)
     (own_refusal table acted line)
 
 -- a line that is built, and a station only before any other line

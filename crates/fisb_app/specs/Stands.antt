@@ -14,7 +14,8 @@ use Rattle.fisb_app.specs.declared.in_order.InOrder.{InOrder}
 use Rattle.fisb_app.specs.declared.link.Link.{Link}
 use Rattle.fisb_app.specs.declared.ground_alone.GroundAlone.{GroundAlone}
 use Rattle.fisb_app.specs.declared.sent.SentFrame.{SentFrame}
-use Rattle.fisb_app.specs.Past.{lines_of, station_of, events, sent_frames, air_of, reception_from, receptions, latest, has_begun}
+use Rattle.fisb_app.specs.Past.{lines_of, station_of, events, sent_frames, air_of, reception_from}
+use Rattle.fisb_app.specs.Past.{receptions, latest, has_begun}
 use Rattle.fisb_app.specs.Reading.{frame_refusal, receiver_refusal}
 use Rattle.fisb_app.specs.Output.{heard_text}
 use Rattle.fisb_app.specs.Work.{opening_table, opened_with}
@@ -28,7 +29,8 @@ abbrev pub Hears : Type 0 → Type 1
 Hears E = LifeTable → List Reception → E → Type 0
 
 -- the table was read of these bytes, and the ground stands for what the lines gave it
-pub record Holds {G : Type 0} (sends : Sends G) (bytes : List ℕ) (acted : List Line) (s : Sending G) : Type 0 where
+pub record Holds {G : Type 0} (sends : Sends G) (bytes : List ℕ) (acted : List Line)
+    (s : Sending G) : Type 0 where
   pub opened : opening_table bytes ≡ Ok s.table
   pub ground : sends s.table (station_of acted) (events acted) s.ground
 
@@ -44,20 +46,22 @@ abbrev pub aired_view : Frame → Aired
 aired_view frame = record { moment = frame.moment; air = air_of frame }
 
 -- beside the ground, the frames that were sent and the receiver stand for what the lines made
-pub record LinkHolds {G E : Type 0} (sends : Sends G) (hears : Hears E) (bytes : List ℕ) (acted : List Line)
+pub record LinkHolds {G E : Type 0} (sends : Sends G) (hears : Hears E) (bytes : List ℕ)
+    (acted : List Line)
     (link : Link G E) : Type 0 where
   pub holds : Holds sends bytes acted link.sending
   pub sent : map sent_view link.sent.items ≡ map aired_view (sent_frames link.sending.table acted)
   pub ear : hears link.sending.table (receptions link.sending.table acted) link.ear
 
-pub record AloneHolds {G : Type 0} (sends : Sends G) (bytes : List ℕ) (acted : List Line) (alone : GroundAlone G)
+pub record AloneHolds {G : Type 0} (sends : Sends G) (bytes : List ℕ) (acted : List Line)
+    (alone : GroundAlone G)
     : Type 0 where
   pub holds : Holds sends bytes acted alone.sending
   pub sent : alone.sent ≡ length (sent_frames alone.sending.table acted)
 
--- a command acted on these lines in their order: its clock and its beginning, too, are those of the lines
-pub record IsInOrder {P : Type 0} (holds : List ℕ → List Line → P → Type 0) (bytes : List ℕ) (past : List (List ℕ))
-    (s : InOrder P) : Type 0 where
+-- a command acted on these lines in their order: its clock and its beginning, too, are theirs
+pub record IsInOrder {P : Type 0} (holds : List ℕ → List Line → P → Type 0) (bytes : List ℕ)
+    (past : List (List ℕ)) (s : InOrder P) : Type 0 where
   pub parts : holds bytes (lines_of past) s.inner
   pub clock : s.clock ≡ latest (lines_of past)
   pub begun : s.has_begun ≡ has_begun (lines_of past)
@@ -67,7 +71,8 @@ abbrev pub TellsRefusal : Option Reason → Stop → Type 0
 TellsRefusal refusal (Refused why) = refusal ≡ Some why
 TellsRefusal refusal NoMemory = Unit {0}
 
--- something was done of which this holds, and there is no reason against it; or a stop tells the reason
+-- something was done of which this holds, and there is no reason against it; or a stop tells the
+-- reason
 abbrev pub HasTried : {A : Type 0} → Option Reason → (A → Type 0) → Result A Stop → Type 0
 HasTried refusal done (Ok a) = (refusal ≡ None) × done a
 HasTried refusal done (Err stop) = TellsRefusal refusal stop
@@ -75,7 +80,8 @@ HasTried refusal done (Err stop) = TellsRefusal refusal stop
 -- the bytes on the air of a frame that was sent, in time; or why there are none
 abbrev pub IsFound : ℕ → ℕ → Option Frame → Result (List ℕ) Reason → Type 0
 IsFound late moment found (Ok air) =
-    (frame : Frame) × (found ≡ Some frame) × (frame_refusal late moment found ≡ None) × (air ≡ air_of frame)
+    (frame : Frame) × (found ≡ Some frame) × (frame_refusal late moment found ≡ None)
+        × (air ≡ air_of frame)
 IsFound late moment found (Err why) = frame_refusal late moment found ≡ Some why
 
 -- a table, or a stop that tells its reason
@@ -86,4 +92,5 @@ HasRead table (Err stop) = TellsRefusal (opened_with table) stop
 -- what is told of a frame that is not heard
 abbrev pub HasUnheard : LifeTable → List Reception → ℕ → List ℕ → Result (List ℕ) Stop → Type 0
 HasUnheard table past moment air result = HasTried (receiver_refusal past moment)
-    (λ text. (text ≡ heard_text table past moment air) × (reception_from past moment air ≡ None)) result
+    (λ text. (text ≡ heard_text table past moment air)
+    × (reception_from past moment air ≡ None)) result

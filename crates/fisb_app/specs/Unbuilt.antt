@@ -5,11 +5,12 @@ use Rattle.fisb_wire.specs.Faults.{Rose}
 use Rattle.script_core.specs.Refusal.{refusal_text}
 use Rattle.script_core.specs.declared.reason.Reason.TheVariants.{NotBuilt}
 use Rattle.run_core.specs.declared.status.Status.{Status}
-use Rattle.run_core.specs.declared.status.Status.TheVariants.{Done, Usage, Refused, ReadFault, WriteFault, TooLong, NoMemory}
+use Rattle.run_core.specs.declared.status.Status.TheVariants.{Done, Usage, Refused, ReadFault}
+use Rattle.run_core.specs.declared.status.Status.TheVariants.{WriteFault, TooLong, NoMemory}
 use Rattle.run_core.specs.Run.{SinkEnd, AppendsFront}
 
--- Line 1 is refused in writing, and no write failed; or a write failed, or memory was not found, and a
--- prefix of the refusal or nothing was written.
+-- Line 1 is refused in writing, and no write failed; or a write failed, after a prefix of the
+-- refusal; or memory was not found, and nothing was written.
 abbrev pub HasRefused : SinkEnd → SinkEnd → Status → Type 0
 HasRefused old new Done = ⊥
 HasRefused old new Usage = ⊥

@@ -38,12 +38,14 @@ abbrev pub line_answer : Party → Shows → LifeTable → List Line → Line �
 line_answer party shows table acted line =
     text_unless (given_text party shows table acted line) (refusal_of party table acted line)
 
-abbrev pub formed_answer : Party → Shows → LifeTable → List Line → Option Line → Result (List ℕ) Reason
+abbrev pub formed_answer : Party → Shows → LifeTable → List Line → Option Line
+    → Result (List ℕ) Reason
 formed_answer party shows table acted None = Err Syntax
 formed_answer party shows table acted (Some line) = line_answer party shows table acted line
 
 -- no line is acted on without a table
-abbrev pub answer_under : Party → Shows → Result LifeTable Fault → List Line → Option Line → Result (List ℕ) Reason
+abbrev pub answer_under : Party → Shows → Result LifeTable Fault → List Line → Option Line
+    → Result (List ℕ) Reason
 answer_under party shows (Ok table) acted line = formed_answer party shows table acted line
 answer_under party shows (Err fault) acted line = Err (reason_of_table fault)
 
@@ -65,7 +67,7 @@ link_work = work_of Link heard_picture
 abbrev pub ground_work : Work
 ground_work = work_of Ground heard_picture
 
--- what a link promises: the pictures are told by what was given, sent and heard alone, as long as each block of each frame
--- was heard with at most ten wrong bytes
+-- what a link promises: the pictures are told by what was given, sent and heard alone, as long as
+-- each block of each frame was heard with at most ten wrong bytes
 abbrev pub promised_work : Work
 promised_work = work_of Link (promised_picture all_near)

@@ -18,6 +18,9 @@ use receiver_core::{Heard, Unread, UnreadReason};
 use std::alloc::{AllocError, Global};
 use text_reports::TextKey;
 
+/// Room for what stands beside the report in an entry's line: a key of three words of some letters, and a version.
+const ENTRY_ROOM: usize = 64;
+
 /// What a line gives that writes nothing.
 pub(crate) fn no_text(alloc: Global) -> Bytes
     ensures { result ≡ [] }
@@ -206,11 +209,13 @@ fn text_line(
     let place = key.place.all();
     let version = version.seconds();
     let report = plain(alloc, report)?;
+    let mut text = String::with_capacity(alloc, report.len().saturating_add(ENTRY_ROOM))?;
     match &key.third {
         Some(third) => {
             let third = third.all();
-            format!(in alloc; "text {kind} {place} {third} {version} {report}\n")
+            write!(text, "text {kind} {place} {third} {version} {report}\n")?;
         }
-        None => format!(in alloc; "text {kind} {place} {version} {report}\n"),
+        None => write!(text, "text {kind} {place} {version} {report}\n")?,
     }
+    Ok(text)
 }

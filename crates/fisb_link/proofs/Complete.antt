@@ -12,7 +12,7 @@ use Rattle.list_members.proofs.Members.{IsIn-either, IsIn-from_filter}
 use Rattle.list_members.proofs.ListMembers.{in_map, in_flat_map, flat_map_has}
 use Rattle.picture_core.specs.Entry.{Entry}
 use Rattle.segment_core.specs.File.{File, is_segmented, pieces, segments_needed, segment_limit, parts_of}
-use Rattle.segment_core.specs.Arrival.{Arrival, Whole, completed, completed_after}
+use Rattle.segment_core.specs.Arrival.{Arrival, Whole, whole_payloads, completed_after}
 use Rattle.segment_core.specs.Joining.{segment, arrival_of, whole_of, AreSent, HasAll}
 use Rattle.segment_core.specs.Joining as joining
 use Rattle.ground_core.specs.Item.{Item, Segment, segment_of, file_of, end_of}
@@ -42,7 +42,7 @@ abbrev pub new_link : List Item → List Frame → Hearing → List Hearing → 
 new_link all sent h past = flat_map entries_of (filter (becomes_whole sent h past) all)
 
 abbrev entries_by : LifeTable → List Arrival → List Entry
-entries_by table arrived = flat_map (whole_entries table) (completed arrived)
+entries_by table arrived = flat_map (whole_entries table) (whole_payloads arrived)
 
 pub contents-grow : (table : LifeTable) (all : List Item) (sent : List Frame) (h : Hearing)
     (past : List Hearing) → Setting table all sent
@@ -54,7 +54,7 @@ contents-grow table all sent h past setting are =
     let now = map arrival_of (files_now table sent h) in
     ap (entries_by table) (arrivals-grow table all sent h past setting are)
     ∙ ap (flat_map (whole_entries table)) (((setting.layers).files).grows before now)
-    ∙ flat_map-append (whole_entries table) (completed before) (completed_after before now)
+    ∙ flat_map-append (whole_entries table) (whole_payloads before) (completed_after before now)
     ∙ ap (λ (es : List Entry). es ++ new_entries table sent h past)
     (sym (ap (entries_by table) (arrivals-are table all sent past setting are.3)))
 
@@ -66,7 +66,7 @@ one-part file uncut =
     (segment_limit file.form) file.payload in
     ap length (cond-false (is_segmented file.form file.payload) many (file.payload ∷ []) uncut)
 
-file-completes : FileLayers → (before now : List joining.Segment) (station : StationId)
+file-completes : FileLayers → (before now : List joining.FileSegment) (station : StationId)
     (file : File) → AreSent (before ++ now)
     → 1 ≤ length (parts_of file) → HasAll (before ++ now) station file
     → (HasAll before station file → ⊥)
@@ -133,8 +133,8 @@ brought table all sent h past e setting are there =
     let found = aired-now table all sent h s setting are.0 heard in
     let aired : IsAired all found.0 s = found.2 in
     let item = s.item in
-    let station : of_file.station ≡ item.station = ap (λ (j : joining.Segment). j.station) came.2 in
-    let file : of_file.file ≡ file_of item = ap (λ (j : joining.Segment). j.file) came.2 in
+    let station : of_file.station ≡ item.station = ap (λ (j : joining.FileSegment). j.station) came.2 in
+    let file : of_file.file ≡ file_of item = ap (λ (j : joining.FileSegment). j.file) came.2 in
     let whole : by.0 ≡ whole_of (file_of item) = of_file.whole_is ∙ ap whole_of file in
     let says = ap (whole_entries table) whole
     ∙ says-entries table all item setting.items_are aired.item_in in
@@ -143,7 +143,7 @@ brought table all sent h past e setting are there =
     subst (λ (f : File). HasAll (before ++ now) item.station f) file
     (subst (λ (of : StationId). HasAll (before ++ now) of of_file.file) station of_file.has_all) in
     let has : HasAll (files_heard table sent (h ∷ past)) item.station (file_of item) =
-    subst (λ (js : List joining.Segment). HasAll js item.station (file_of item))
+    subst (λ (js : List joining.FileSegment). HasAll js item.station (file_of item))
     (sym (files-grow table sent h past)) has_now in
     let within = number-within setting.layers item s aired.of_item in
     record {
@@ -177,7 +177,7 @@ whole-brought table all sent heard moment item e setting are after item_in there
     subst (λ (arrived : List Arrival). IsIn e (entries_by table arrived))
     (sym (arrivals-are table all sent heard setting are))
     (flat_map_has (whole_entries table) (whole_of (file_of item)) e
-    (completed (map arrival_of files)) completes entry)
+    (whole_payloads (map arrival_of files)) completes entry)
 
 -- what is not whole has a part
 some-missing : (p : Segment → Bool) (f : ℕ → Segment) (count : ℕ)
@@ -199,7 +199,7 @@ becoming-brought table all sent h past moment item e setting are after item_in t
     let has =
     whole-all table all sent (h ∷ past) moment item setting are after item_in lives whole in
     let has_now : HasAll (before ++ now) item.station (file_of item) =
-    subst (λ (js : List joining.Segment). HasAll js item.station (file_of item))
+    subst (λ (js : List joining.FileSegment). HasAll js item.station (file_of item))
     (files-grow table sent h past) has in
     let completes =
     file-completes (setting.layers).files before now item.station (file_of item)

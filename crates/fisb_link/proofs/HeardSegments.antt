@@ -35,10 +35,10 @@ fresh table sent [] = []
 fresh table sent (h ∷ past) = fresh table sent past ++ fresh_now table sent h
 
 -- as segments of files
-abbrev pub files_now : LifeTable → List Frame → Hearing → List joining.Segment
+abbrev pub files_now : LifeTable → List Frame → Hearing → List joining.FileSegment
 files_now table sent h = map joint (fresh_now table sent h)
 
-abbrev pub files_heard : LifeTable → List Frame → List Hearing → List joining.Segment
+abbrev pub files_heard : LifeTable → List Frame → List Hearing → List joining.FileSegment
 files_heard table sent heard = map joint (fresh table sent heard)
 
 -- what is found of each member that passes a test

@@ -31,7 +31,7 @@ use Rattle.receiver_core.specs.declared.unread.UnreadReason.TheVariants.{Stale, 
 use Rattle.fisb_link.proofs.Layers.{Layers, AreAll, Setting}
 
 -- the segment of a file that a segment of an item is
-abbrev pub joint : Segment → joining.Segment
+abbrev pub joint : Segment → joining.FileSegment
 joint s = segment s.item.station (file_of s.item) s.number
 
 -- the segments of an item are those of its file

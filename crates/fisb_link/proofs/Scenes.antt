@@ -19,7 +19,7 @@ use Rattle.picture_core.specs.Key.{text_report}
 use Rattle.picture_core.specs.Entry.{Entry, report}
 use Rattle.picture_core.specs.Picture.{picture}
 use Rattle.segment_core.specs.File.{File}
-use Rattle.segment_core.specs.Arrival.{Arrival, completed}
+use Rattle.segment_core.specs.Arrival.{Arrival, whole_payloads}
 use Rattle.segment_core.specs.Joining.{arrival_of, segment}
 use Rattle.receiver_core.specs.Reception.{whole_entries}
 use Rattle.ground_core.specs.Item.{Item, segment_of}
@@ -306,7 +306,7 @@ long_arrivals = arrival_of (segment no_station (long_file 1699999980 long) 2)
     ∷ arrival_of (segment no_station (long_file 1699999980 long) 1)
     ∷ arrival_of (segment no_station (long_file 1700000100 long) 1) ∷ []
 
-pub long-received : flat_map (whole_entries default_table) (completed long_arrivals)
+pub long-received : flat_map (whole_entries default_table) (whole_payloads long_arrivals)
     ≡ entry 1699999980 long ∷ []
 unfolding default_table text_payload text_key reports_of
 long-received = refl

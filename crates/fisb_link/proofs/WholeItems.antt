@@ -24,7 +24,7 @@ use Rattle.fisb_link.proofs.ReadSegments.{joint, own-item, number-within, segmen
 use Rattle.fisb_link.proofs.HeardSegments.{fresh, files_heard, fresh-heard, aired-heard, heard-fresh}
 
 -- a segment of a file that has arrived is that of a segment that was heard, of an item
-pub record IsJoint (all : List Item) (among : List Segment) (j : joining.Segment) : Type 0 where
+pub record IsJoint (all : List Item) (among : List Segment) (j : joining.FileSegment) : Type 0 where
   pub of : Segment
   pub among_is : IsIn of among
   pub same : j ≡ joint of
@@ -32,7 +32,7 @@ pub record IsJoint (all : List Item) (among : List Segment) (j : joining.Segment
   pub of_item : IsIn of (segments_of of.item)
 
 pub heard-joint : (table : LifeTable) (all : List Item) (sent : List Frame) (heard : List Hearing)
-    (j : joining.Segment) → Setting table all sent
+    (j : joining.FileSegment) → Setting table all sent
     → AreHeard table.late sent heard → IsIn j (files_heard table sent heard)
     → IsJoint all (fresh table sent heard) j
 heard-joint table all sent heard j setting are h =
@@ -49,7 +49,7 @@ heard-joint table all sent heard j setting are h =
 
 -- what is heard are segments of files that are told apart
 heard-numbered : (table : LifeTable) (all : List Item) (sent : List Frame) (heard : List Hearing)
-    (j : joining.Segment) → Setting table all sent
+    (j : joining.FileSegment) → Setting table all sent
     → AreHeard table.late sent heard → IsIn j (files_heard table sent heard) → IsSegment j
 heard-numbered table all sent heard j setting are h =
     let found = heard-joint table all sent heard j setting are h in
@@ -77,21 +77,21 @@ heard-apart : (table : LifeTable) (all : List Item) (sent : List Frame) (heard :
 heard-apart table all sent heard setting are a b h k cut cut' station product version number =
     let one = heard-joint table all sent heard a setting are h in
     let other = heard-joint table all sent heard b setting are k in
-    let is_cut : joining.Segment → Bool = λ s. files.is_segmented s.file.form s.file.payload in
+    let is_cut : joining.FileSegment → Bool = λ s. files.is_segmented s.file.form s.file.payload in
     let i = (one.of).item in
     let j = (other.of).item in
-    ap (λ (s : joining.Segment). s.file) one.same
+    ap (λ (s : joining.FileSegment). s.file) one.same
     ∙ one-file table all i j setting.items_are one.item_in other.item_in
     (sym (ap is_cut one.same) ∙ cut) (sym (ap is_cut other.same) ∙ cut')
-    (sym (ap (λ (s : joining.Segment). s.station) one.same) ∙ station
-    ∙ ap (λ (s : joining.Segment). s.station) other.same)
-    (sym (ap (λ (s : joining.Segment). s.file.product) one.same) ∙ product
-    ∙ ap (λ (s : joining.Segment). s.file.product) other.same)
-    (sym (ap (λ (s : joining.Segment). s.file.version) one.same) ∙ version
-    ∙ ap (λ (s : joining.Segment). s.file.version) other.same)
-    (sym (ap (λ (s : joining.Segment). s.file.number) one.same) ∙ number
-    ∙ ap (λ (s : joining.Segment). s.file.number) other.same)
-    ∙ sym (ap (λ (s : joining.Segment). s.file) other.same)
+    (sym (ap (λ (s : joining.FileSegment). s.station) one.same) ∙ station
+    ∙ ap (λ (s : joining.FileSegment). s.station) other.same)
+    (sym (ap (λ (s : joining.FileSegment). s.file.product) one.same) ∙ product
+    ∙ ap (λ (s : joining.FileSegment). s.file.product) other.same)
+    (sym (ap (λ (s : joining.FileSegment). s.file.version) one.same) ∙ version
+    ∙ ap (λ (s : joining.FileSegment). s.file.version) other.same)
+    (sym (ap (λ (s : joining.FileSegment). s.file.number) one.same) ∙ number
+    ∙ ap (λ (s : joining.FileSegment). s.file.number) other.same)
+    ∙ sym (ap (λ (s : joining.FileSegment). s.file) other.same)
 
 pub heard-sent : (table : LifeTable) (all : List Item) (sent : List Frame) (heard : List Hearing)
     → Setting table all sent → AreHeard table.late sent heard
@@ -154,11 +154,11 @@ all-whole table all sent heard item e setting are item_in there has =
     (has s.number within.0 within.1) in
     let t = found.of in
     let one = one-item table all sent item t.item e setting item_in found.item_in
-    (ap (λ (j : joining.Segment). j.station) found.same)
-    (ap (λ (j : joining.Segment). j.file) found.same) there in
+    (ap (λ (j : joining.FileSegment). j.station) found.same)
+    (ap (λ (j : joining.FileSegment). j.file) found.same) there in
     let same : s ≡ t =
     ap₂ segment_of (own-item setting.layers item s h ∙ one)
-    (ap (λ (j : joining.Segment). j.number) found.same) in
+    (ap (λ (j : joining.FileSegment). j.number) found.same) in
     let was = fresh-heard table sent heard t found.among_is in
     in_any (same_segment s) t (heard_segments sent heard) was
     (subst (λ (x : Segment). same_segment s x ≡ true) same

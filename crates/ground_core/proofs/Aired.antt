@@ -12,7 +12,7 @@ use Rattle.uplink_frame.specs.UplinkFrame.{frame_room}
 use Rattle.ground_core.specs.Item.{Weather, Item, Segment, segments_of, room_of, end_of}
 use Rattle.ground_core.specs.Update.{weather_of}
 use Rattle.ground_core.specs.History.{Event, accepted, fill, item_of, items_made, new_items, items}
-use Rattle.ground_core.specs.Airing.{Touch, touch, is_live, is_touched, last_touches, waiting, fitting, airing, touches, log}
+use Rattle.ground_core.specs.Airing.{Touch, touch, is_live, is_touched, last_touches, waiting_segments, longest_fitting, airing, touches, log}
 use Rattle.ground_core.specs.Broadcast.{IsNotBefore, IsHistory}
 use Rattle.ground_core.specs.Sound.{AreGiven, AcceptedIsGiven}
 use Rattle.ground_core.proofs.Segments.{is_segment_of}
@@ -27,27 +27,27 @@ in_last t (x ∷ later) h = elim (cases_Bool (is_touched later x.segment)) [
   ]
 ]
 
-in_fitting : (s : Segment) (room : ℕ) (more : List Segment) → IsIn s (fitting room more) → IsIn s more
+in_fitting : (s : Segment) (room : ℕ) (more : List Segment) → IsIn s (longest_fitting room more) → IsIn s more
 in_fitting s room [] h = absurd h
 in_fitting s room (x ∷ more) h =
-    let rest = x ∷ fitting (room - room_of x) more in
+    let rest = x ∷ longest_fitting (room - room_of x) more in
     elim (cases_Bool (nat_le (room_of x) room)) [
-      | inl t ↦ let k : IsIn s (x ∷ fitting (room - room_of x) more) = subst (IsIn s) (cond-true (nat_le (room_of x) room) rest [] t) h in elim k [
+      | inl t ↦ let k : IsIn s (x ∷ longest_fitting (room - room_of x) more) = subst (IsIn s) (cond-true (nat_le (room_of x) room) rest [] t) h in elim k [
         | inl e ↦ inl e
         | inr r ↦ inr (in_fitting s (room - room_of x) more r)
       ]
       | inr f ↦ absurd (subst (IsIn s) (cond-false (nat_le (room_of x) room) rest [] f) h)
     ]
 
-pub fitting-fits : (room : ℕ) (more : List Segment) → sum_by room_of (fitting room more) ≤ room
+pub fitting-fits : (room : ℕ) (more : List Segment) → sum_by room_of (longest_fitting room more) ≤ room
 fitting-fits room [] = omega arith
 fitting-fits room (x ∷ more) =
-    let rest = x ∷ fitting (room - room_of x) more in
+    let rest = x ∷ longest_fitting (room - room_of x) more in
     elim (cases_Bool (nat_le (room_of x) room)) [
       | inl t ↦
           let fits = leb-true (room_of x) room t in
           let others = fitting-fits (room - room_of x) more in
-          let sums = sum_by-cons room_of x (fitting (room - room_of x) more) in
+          let sums = sum_by-cons room_of x (longest_fitting (room - room_of x) more) in
           subst (λ ss. sum_by room_of ss ≤ room) (sym (cond-true (nat_le (room_of x) room) rest [] t)) (omega arith)
       | inr f ↦ subst (λ ss. sum_by room_of ss ≤ room) (sym (cond-false (nat_le (room_of x) room) rest [] f)) (omega arith)
     ]
@@ -62,7 +62,7 @@ record IsLogged (all : List Item) (touched : List Touch) (moment : ℕ) (s : Seg
 aired-logged : (all : List Item) (touched : List Touch) (moment : ℕ) (s : Segment) → IsIn s (airing all touched moment) → IsLogged all touched moment s
 aired-logged all touched moment s h =
     let live : Touch → Bool = λ t. is_live all moment t.segment.item in
-    let found = in_map (λ (t : Touch). t.segment) s (filter live (last_touches touched)) (in_fitting s frame_room (waiting all touched moment) h) in
+    let found = in_map (λ (t : Touch). t.segment) s (filter live (last_touches touched)) (in_fitting s frame_room (waiting_segments all touched moment) h) in
     let lives = IsIn-from_filter live found.0 (last_touches touched) found.1 in
     record {
       last = found.0;

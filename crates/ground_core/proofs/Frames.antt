@@ -17,7 +17,7 @@ use Rattle.list_members.proofs.ListMembers.{in_map, in_one, All-members}
 use Rattle.uplink_frame.specs.UplinkFrame.{frame_room}
 use Rattle.ground_core.specs.Item.{Item, Segment, segments_of, file_of, room_of, body_of}
 use Rattle.ground_core.specs.History.{Event, accepted, fill, new_items, items}
-use Rattle.ground_core.specs.Airing.{Frame, frame_after, used_room, waiting, log}
+use Rattle.ground_core.specs.Airing.{Frame, frame_after, used_room, waiting_segments, log}
 use Rattle.ground_core.specs.Broadcast.{StationEvent, IsBroadcast, IsNext, history_of, frames_of_event, frames, all_items}
 use Rattle.ground_core.specs.Sound.{IsSound, AcceptedIsGiven, HistoriesHaveItems}
 use Rattle.ground_core.specs.Sent.{IsFrame, FramesReadBack, fisb_frames_of}
@@ -83,7 +83,7 @@ new-frame layers table station past moment slot is_table fits next is =
     let frame = frame_after table station before moment slot in
     let history = station-history layers.stations table past is station in
     let are = layers.items_are table station before is_table history in
-    let all_fit = fitting-fits frame_room (waiting (items table station before) (log table station before) moment) in
+    let all_fit = fitting-fits frame_room (waiting_segments (items table station before) (log table station before) moment) in
     let sizes = used-size layers frame.segments in
     let bodies : (body : List ℕ) → IsIn body (map body_of frame.segments) → IsBody body = λ body h.
     let found = in_map body_of body frame.segments h in

@@ -2,8 +2,10 @@
 use Rattle.std.proofs.Common.{◌≡◌, ℕ, Bool, true, false, ◌&&◌, ◌==◌, cond, if◌then◌else◌, Option, Some, None, option_map, refl, sym, ap, subst, ◌∙◌, inl, inr, arith}
 use Rattle.std.specs.Ordering.{nat_cmp, is_eq}
 use Rattle.std.specs.BTreeMap.{is_at}
+use Rattle.std.proofs.Math.Bool.{and-true, and-false}
 use Rattle.std.proofs.lemmas.Bool.{cases_Bool}
 use Rattle.std.proofs.lemmas.Bool.Decides.{nat_tests}
+use Rattle.list_members.proofs.Tests.{tied_numbers}
 use Rattle.text_reports.specs.TextKey.{TextKey, same_text_key}
 use Rattle.picture_core.specs.Key.{Key, radar_block, text_report}
 use Rattle.radar_core.specs.declared.key.BlockKey.{BlockKey}
@@ -16,15 +18,11 @@ use Rattle.ground_core.specs.declared.numbered_key.NumberedKey.{NumberedKey}
 use Rattle.ground_core.specs.contracts.numbered_key.NumberedKeyOrd.TheImpl as numbered
 use Rattle.ground_core.specs.declared.newest.Given.{Given}
 use Rattle.ground_core.proofs.KeyLemmas.{KeyLaws, text_key_is}
-use Rattle.ground_core.proofs.MapKeys.{eq_then, eq_numbers}
+use Rattle.ground_core.proofs.MapKeys.{eq_then}
 
 -- the key of the map that has another report's key
 abbrev pub with_key : NumberedKey → TextKey → NumberedKey
 with_key a k = record { number = place_number k.place; key = rc_with_value a.key (given_key k); numbered = refl }
-
-and_false : (a : Bool) → (a && false) ≡ false
-and_false true = refl
-and_false false = refl
 
 same_number : (a b : ℕ) → a ≡ b → (a == b) ≡ true
 same_number a b e = grind (arith, nat_tests)
@@ -37,12 +35,9 @@ key_at keys a k =
       | inl t ↦ (
           let same : report_key a ≡ k = text_key_is keys (report_key a) k t in
           let numbers : a.number ≡ place_number k.place = a.numbered ∙ ap (λ (x : TextKey). place_number x.place) same in
-          rw t (and_true first ∙ eq_numbers a.number (place_number k.place) ∙ same_number a.number (place_number k.place) numbers))
-      | inr f ↦ rw f (and_false first)
-    ]) where
-      and_true : (b : Bool) → (b && true) ≡ b
-      and_true true = refl
-      and_true false = refl
+          rw t (and-true first ∙ sym (tied_numbers a.number (place_number k.place)) ∙ same_number a.number (place_number k.place) numbers))
+      | inr f ↦ rw f (and-false first)
+    ])
 
 pub by_key : (P : Key → Type 0) → ((k : BlockKey) → P (radar_block k)) → ((k : TextKey) → P (text_report k)) → (key : Key) → P key
 by_key P r f (radar_block k) = r k

@@ -2,7 +2,8 @@
 use Rattle.std.proofs.Common.{◌≡◌, Bool, true, false, ◌&&◌, ◌||◌, cond, List, [], ◌∷◌, ◌++◌, map, filter, refl, sym, ap, subst, ◌∙◌, inl, inr}
 use Rattle.std.specs.List.{list_any}
 use Rattle.list_members.specs.Membership.{IsIn}
-use Rattle.std.proofs.lemmas.Bool.{cases_Bool}
+use Rattle.std.proofs.lemmas.Bool.{cases_Bool, or_right}
+use Rattle.std.proofs.Math.Bool.{and_comm}
 
 -- a fact of each element, by recursion on the list
 abbrev pub Each : {X : Type 0} → (X → Type 0) → List X → Type 0
@@ -61,12 +62,6 @@ filter_both p q (x ∷ xs) = elim (cases_Bool (p x)) [
   | inr f ↦ rw f (filter_both p q xs)
 ]
 
-and_comm : (a b : Bool) → (a && b) ≡ (b && a)
-and_comm true true = refl
-and_comm true false = refl
-and_comm false true = refl
-and_comm false false = refl
-
 pub Each-all : {X : Type 0} (P : X → Type 0) → ((x : X) → P x) → (xs : List X) → Each P xs
 Each-all P f [] = tt
 Each-all P f (x ∷ xs) = (f x, Each-all P f xs)
@@ -99,15 +94,6 @@ Each-map P f (x ∷ xs) h = (h.0, Each-map P f xs h.1)
 pub list_any-map : {X Y : Type 0} (p : Y → Bool) (f : X → Y) (xs : List X) → list_any p (map f xs) ≡ list_any (λ x. p (f x)) xs
 list_any-map p f [] = refl
 list_any-map p f (x ∷ xs) = ap (λ b. p (f x) || b) (list_any-map p f xs)
-
--- tests that agree at each element find the same
-pub list_any-same : {X : Type 0} (p q : X → Bool) (xs : List X) → Each (λ x. p x ≡ q x) xs → list_any p xs ≡ list_any q xs
-list_any-same p q [] h = refl
-list_any-same p q (x ∷ xs) h = rw h.0 (ap (λ b. q x || b) (list_any-same p q xs h.1))
-
-or_right : (a b : Bool) → b ≡ true → (a || b) ≡ true
-or_right true b h = refl
-or_right false b h = h
 
 pub list_any-weaker : {X : Type 0} (p q : X → Bool) → ((x : X) → p x ≡ true → q x ≡ true) → (xs : List X) → list_any p xs ≡ true → list_any q xs ≡ true
 list_any-weaker p q f [] h = h

@@ -1,5 +1,5 @@
 -- Keys of maps are compared by what they are.
-use Rattle.std.proofs.Common.{◌≡◌, ℕ, ◌+◌, ◌<◌, ◌≤◌, true, false, ◌&&◌, ◌==◌, nat_lt, nat_le, cond, if◌then◌else◌, List, [], ◌∷◌, length, Option, Some, None, is_some, IsSome, unwrap_or, refl, sym, ap, subst, ◌∙◌, inl, inr, arith}
+use Rattle.std.proofs.Common.{◌≡◌, ℕ, ◌+◌, ◌<◌, ◌≤◌, true, false, ◌&&◌, ◌==◌, nat_lt, nat_le, cond, if◌then◌else◌, List, [], ◌∷◌, length, Option, Some, None, IsSome, unwrap_or, refl, sym, ap, subst, ◌∙◌, inl, inr, arith}
 use Rattle.std.specs.Ordering.{nat_cmp, ordering_then, is_eq, is_gt}
 use Rattle.std.specs.declared.cmp.Ordering.{Ordering}
 use Rattle.std.specs.declared.cmp.Ordering.TheVariants.{Less, Equal, Greater}
@@ -7,6 +7,7 @@ use Rattle.std.specs.BTreeMap.{BTreeMap, is_at, get, IsLowerBound}
 use Rattle.std.specs.Map.{lookup}
 use Rattle.std.proofs.lemmas.Bool.{cases_Bool, lt-ltb, le-ltb, leb-true, leb-false}
 use Rattle.std.proofs.lemmas.Bool.Decides.{nat_tests}
+use Rattle.list_members.proofs.Tests.{tied_numbers}
 use Rattle.ground_core.specs.Views.{count_at}
 use Rattle.ground_core.specs.declared.files.Files.{Files}
 
@@ -15,15 +16,8 @@ eq_then Less b = refl
 eq_then Equal b = refl
 eq_then Greater b = refl
 
-pub eq_numbers : (a b : ℕ) → is_eq (nat_cmp a b) ≡ (a == b)
-eq_numbers a b = grind (arith, nat_tests)
-
 pub pair_at : (a b c d : ℕ) → is_eq (ordering_then (nat_cmp a c) (nat_cmp b d)) ≡ ((a == c) && (b == d))
-pair_at a b c d = eq_then (nat_cmp a c) (nat_cmp b d) ∙ ap (λ x. x && is_eq (nat_cmp b d)) (eq_numbers a c) ∙ ap (λ x. (a == c) && x) (eq_numbers b d)
-
-pub none_from : {X : Type 0} (o : Option X) → is_some o ≡ false → o ≡ None
-none_from None h = refl
-none_from (Some x) h = cc
+pair_at a b c d = eq_then (nat_cmp a c) (nat_cmp b d) ∙ ap (λ x. x && is_eq (nat_cmp b d)) (sym (tied_numbers a c)) ∙ ap (λ x. (a == c) && x) (sym (tied_numbers b d))
 
 abbrev pub pair_cmp : (ℕ × ℕ) → (ℕ × ℕ) → Ordering
 pair_cmp x y = ordering_then (nat_cmp x.0 y.0) (nat_cmp x.1 y.1)

@@ -4,6 +4,7 @@ use Rattle.std.proofs.lemmas.List.Sums.{sum_by-append}
 use Rattle.std.proofs.lemmas.List.{length-map}
 use Rattle.life_table.specs.LifeTable.{LifeTable}
 use Rattle.uplink_frame.specs.declared.station.StationId.{StationId}
+use Rattle.uplink_frame.specs.Laws.{StationsAreTold}
 use Rattle.uplink_frame.specs.UplinkFrame.{fisb_frame, spelled_frames, information_frame}
 use Rattle.ground_core.specs.Item.{Segment, body_of, room_of}
 use Rattle.ground_core.specs.History.{Event, items}
@@ -21,15 +22,15 @@ use Rattle.ground_core.proofs.State.{filled_of, clock_below, lives_same}
 abbrev pub sent_of : LifeTable → StationId → List Event → ℕ → List Segment
 sent_of table station history moment = airing (items table station history) (log table station history) moment
 
-pub aired_pieces : KeyLaws → (table : LifeTable) (station : StationId) (history : List Event) (moment slot : ℕ) (old : Ground) (new : List Piece) → StandsFor table station old history
+pub aired_pieces : StationsAreTold → KeyLaws → (table : LifeTable) (station : StationId) (history : List Event) (moment slot : ℕ) (old : Ground) (new : List Piece) → StandsFor table station old history
     → last_above (clock_of history) moment ≡ None
     → filter (live_by (latest_at old.newest) moment) new
     ≡ left_pieces 424 (filter (live_by (latest_at old.newest) moment) (pieces_in old.line))
     ++ fitting_pieces 424 (filter (live_by (latest_at old.newest) moment) (pieces_in old.line))
     → fitting_pieces 424 (filter (live_by (latest_at old.newest) moment) (pieces_in old.line)) ≡ map piece_of (sent_of table station history moment)
-aired_pieces keys table station history moment slot old new s e n =
+aired_pieces told keys table station history moment slot old new s e n =
     ap (λ f. fitting_pieces 424 (filter f (pieces_in old.line))) (lives_same table station history moment old s (clock_below history moment e))
-    ∙ sym (filled_of keys table station history moment slot old new s e n).aired
+    ∙ sym (filled_of told keys table station history moment slot old new s e n).aired
 
 pub frames_are : (ps : List Piece) (sent : List Segment) → ps ≡ map piece_of sent → map frame_of ps ≡ map (λ s. fisb_frame (body_of s)) sent
 frames_are ps sent e = ap (map frame_of) e ∙ each sent where

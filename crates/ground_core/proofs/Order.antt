@@ -1,13 +1,14 @@
 -- The order of last places: what it is of a log that goes on, and what a turn of its front makes of it.
-use Rattle.std.proofs.Common.{◌≡◌, ℕ, Bool, true, false, not, ◌||◌, cond, List, [], ◌∷◌, ◌++◌, map, filter, refl, sym, ap, subst, ◌∙◌, inl, inr, arith}
-use Rattle.std.proofs.lemmas.Bool.{cases_Bool}
+use Rattle.std.proofs.Common.{◌≡◌, ℕ, Bool, true, false, not, ◌||◌, ◌==◌, cond, List, [], ◌∷◌, ◌++◌, map, filter, refl, sym, ap, subst, ◌∙◌, inl, inr, arith}
+use Rattle.std.proofs.lemmas.Bool.{cases_Bool, and_from, or_parts, or_from, or_left, or_right, not_from_true, not_from_false, eq-eqb}
 use Rattle.std.proofs.lemmas.Bool.Decides.{nat_tests}
 use Rattle.std.proofs.lemmas.List.Elements.{filter-append}
 use Rattle.std.proofs.lemmas.List.Folds.{list_any-append}
 use Rattle.std.specs.List.{list_any}
-use Rattle.uplink_frame.specs.Station.{same_flag}
-use Rattle.ground_core.specs.Item.{Item, Segment, same_segment}
-use Rattle.ground_core.specs.Airing.{Touch, is_touched, last_touches, is_live, waiting}
+use Rattle.uplink_frame.specs.Station.{same_flag, same_station}
+use Rattle.uplink_frame.specs.Laws.{StationsAreTold}
+use Rattle.ground_core.specs.Item.{Item, Segment, same_item, same_segment}
+use Rattle.ground_core.specs.Airing.{Touch, is_touched, last_touches, is_live, waiting_segments}
 use Rattle.ground_core.proofs.ListLemmas.{Each, Each-weaker, Each-front, Each-back, filter_passes, filter_all, filter_none, filter_swap, filter-map, list_any-map}
 
 -- the segments of a log, each at its last place
@@ -35,7 +36,7 @@ last_touches_are (t ∷ later) =
     ]
 
 pub waiting_is : (all : List Item) (log : List Touch) (moment : ℕ)
-    → waiting all log moment ≡ filter (λ s. is_live all moment s.item) (last_places (segments_in log))
+    → waiting_segments all log moment ≡ filter (λ s. is_live all moment s.item) (last_places (segments_in log))
 waiting_is all log moment =
     sym (filter-map (λ s. is_live all moment s.item) (λ (t : Touch). t.segment) (last_touches log))
     ∙ ap (filter (λ s. is_live all moment s.item)) (last_touches_are log)
@@ -46,15 +47,14 @@ same_flag_comm true false = refl
 same_flag_comm false true = refl
 same_flag_comm false false = refl
 
-same_flag_refl : (a : Bool) → same_flag a a ≡ true
-same_flag_refl true = refl
-same_flag_refl false = refl
-
 pub same_segment_comm : (a b : Segment) → same_segment a b ≡ same_segment b a
 same_segment_comm a b = rw (same_flag_comm a.item.station.position_valid b.item.station.position_valid) (grind (arith, nat_tests))
 
-pub same_segment_refl : (a : Segment) → same_segment a a ≡ true
-same_segment_refl a = rw (same_flag_refl a.item.station.position_valid) (grind (arith, nat_tests))
+pub same_segment_refl : StationsAreTold → (a : Segment) → same_segment a a ≡ true
+same_segment_refl told a =
+    and_from (same_item a.item a.item) (a.number == a.number)
+    (and_from (same_station a.item.station a.item.station) (a.item.serial == a.item.serial)
+    ((told a.item.station a.item.station).1 refl) (eq-eqb _ _ refl)) (eq-eqb _ _ refl)
 
 pub stands_in-append : (xs ys : List Segment) (s : Segment) → stands_in (xs ++ ys) s ≡ (stands_in xs s || stands_in ys s)
 stands_in-append xs ys s = list_any-append (same_segment s) xs ys
@@ -64,34 +64,23 @@ abbrev pub Once : List Segment → Type 0
 Once [] = Unit {0}
 Once (s ∷ more) = (stands_in more s ≡ false) × Once more
 
-or_false_left : (a b : Bool) → (a || b) ≡ false → a ≡ false
-or_false_left true b h = cc
-or_false_left false b h = refl
-
-or_false_right : (a b : Bool) → (a || b) ≡ false → b ≡ false
-or_false_right true b h = cc
-or_false_right false b h = h
-
-or_false : (a b : Bool) → a ≡ false → b ≡ false → (a || b) ≡ false
-or_false a b h k = cc
-
 -- what does not stand in a list does not stand in a part of it
 stands_in-filter : (p : Segment → Bool) (xs : List Segment) (s : Segment) → stands_in xs s ≡ false → stands_in (filter p xs) s ≡ false
 stands_in-filter p [] s h = refl
 stands_in-filter p (x ∷ xs) s h =
-    let rest = stands_in-filter p xs s (or_false_right (same_segment s x) (stands_in xs s) h) in
+    let rest = stands_in-filter p xs s (or_parts (same_segment s x) (stands_in xs s) h).1 in
     elim (cases_Bool (p x)) [
-      | inl t ↦ rw t (or_false (same_segment s x) (stands_in (filter p xs) s) (or_false_left (same_segment s x) (stands_in xs s) h) rest)
+      | inl t ↦ rw t (or_from (same_segment s x) (stands_in (filter p xs) s) (or_parts (same_segment s x) (stands_in xs s) h).0 rest)
       | inr f ↦ rw f rest
     ]
 
 stands_in-last_places : (xs : List Segment) (s : Segment) → stands_in xs s ≡ false → stands_in (last_places xs) s ≡ false
 stands_in-last_places [] s h = refl
 stands_in-last_places (x ∷ xs) s h =
-    let rest = stands_in-last_places xs s (or_false_right (same_segment s x) (stands_in xs s) h) in
+    let rest = stands_in-last_places xs s (or_parts (same_segment s x) (stands_in xs s) h).1 in
     elim (cases_Bool (stands_in xs x)) [
       | inl t ↦ rw t rest
-      | inr f ↦ rw f (or_false (same_segment s x) (stands_in (last_places xs) s) (or_false_left (same_segment s x) (stands_in xs s) h) rest)
+      | inr f ↦ rw f (or_from (same_segment s x) (stands_in (last_places xs) s) (or_parts (same_segment s x) (stands_in xs s) h).0 rest)
     ]
 
 pub Once-last_places : (xs : List Segment) → Once (last_places xs)
@@ -110,7 +99,7 @@ Once-filter p (x ∷ xs) h = elim (cases_Bool (p x)) [
 
 Once-front : (xs ys : List Segment) → Once (xs ++ ys) → Once xs
 Once-front [] ys h = tt
-Once-front (x ∷ xs) ys h = (or_false_left (stands_in xs x) (stands_in ys x) (rw (stands_in-append xs ys x) at h.0), Once-front xs ys h.1)
+Once-front (x ∷ xs) ys h = ((or_parts (stands_in xs x) (stands_in ys x) (rw (stands_in-append xs ys x) at h.0)).0, Once-front xs ys h.1)
 
 -- a list where each stands once is its own order of last places
 pub last_places_once : (xs : List Segment) → Once xs → last_places xs ≡ xs
@@ -134,7 +123,7 @@ last_places-append (x ∷ xs) ys =
 other_than : (s : Segment) (xs : List Segment) → stands_in xs s ≡ false → Each (λ x. same_segment x s ≡ false) xs
 other_than s [] h = tt
 other_than s (x ∷ xs) h =
-    (same_segment_comm x s ∙ or_false_left (same_segment s x) (stands_in xs s) h, other_than s xs (or_false_right (same_segment s x) (stands_in xs s) h))
+    (same_segment_comm x s ∙ (or_parts (same_segment s x) (stands_in xs s) h).0, other_than s xs (or_parts (same_segment s x) (stands_in xs s) h).1)
 
 -- what stands behind a front is not in the front
 behind_front : (xs ys : List Segment) → Once (xs ++ ys) → Each (λ s. stands_in xs s ≡ false) ys
@@ -146,37 +135,23 @@ behind_front (x ∷ xs) ys h =
     both ys (Each-back _ xs ys (other_than x (xs ++ ys) h.0)) (behind_front xs ys h.1) where
       both : (ys : List Segment) → Each (λ s. same_segment s x ≡ false) ys → Each (λ s. stands_in xs s ≡ false) ys → Each (λ s. stands_in (x ∷ xs) s ≡ false) ys
       both [] u v = tt
-      both (y ∷ ys) u v = (or_false (same_segment y x) (stands_in xs y) u.0 v.0, both ys u.1 v.1)
+      both (y ∷ ys) u v = (or_from (same_segment y x) (stands_in xs y) u.0 v.0, both ys u.1 v.1)
 
-or_true_right : (a b : Bool) → b ≡ true → (a || b) ≡ true
-or_true_right true b h = refl
-or_true_right false b h = h
-
-or_true_left : (a b : Bool) → a ≡ true → (a || b) ≡ true
-or_true_left true b h = refl
-or_true_left false b h = cc
-
-each_stands : (xs : List Segment) → Each (λ s. stands_in xs s ≡ true) xs
-each_stands [] = tt
-each_stands (x ∷ xs) =
-    (or_true_left (same_segment x x) (stands_in xs x) (same_segment_refl x), Each-weaker _ _ (λ s h. or_true_right (same_segment s x) (stands_in xs s) h) xs (each_stands xs))
-
-not_true : (a : Bool) → a ≡ true → not a ≡ false
-not_true a h = ap not h
-
-not_false : (a : Bool) → a ≡ false → not a ≡ true
-not_false a h = ap not h
+each_stands : StationsAreTold → (xs : List Segment) → Each (λ s. stands_in xs s ≡ true) xs
+each_stands told [] = tt
+each_stands told (x ∷ xs) =
+    (or_left (same_segment x x) (stands_in xs x) (same_segment_refl told x), Each-weaker _ _ (λ s h. or_right (same_segment s x) (stands_in xs s) h) xs (each_stands told xs))
 
 -- a turn of a front that is aired
-pub turned : (p : Segment → Bool) (xs front rest : List Segment) → filter p (last_places xs) ≡ front ++ rest → filter p (last_places (xs ++ front)) ≡ rest ++ front
-turned p xs front rest h =
+pub turned : StationsAreTold → (p : Segment → Bool) (xs front rest : List Segment) → filter p (last_places xs) ≡ front ++ rest → filter p (last_places (xs ++ front)) ≡ rest ++ front
+turned told p xs front rest h =
     let once : Once (front ++ rest) = subst Once h (Once-filter p (last_places xs) (Once-last_places xs)) in
     let passing : Each (λ s. p s ≡ true) (front ++ rest) = subst (Each (λ s. p s ≡ true)) h (filter_passes p (last_places xs)) in
     let off : Segment → Bool = λ s. not (stands_in front s) in
     let places : last_places (xs ++ front) ≡ filter off (last_places xs) ++ front
     = last_places-append xs front ∙ ap (λ l. filter off (last_places xs) ++ l) (last_places_once front (Once-front front rest once)) in
-    let none : filter off front ≡ [] = filter_none off front (Each-weaker _ _ (λ s k. not_true (stands_in front s) k) front (each_stands front)) in
-    let all : filter off rest ≡ rest = filter_all off rest (Each-weaker _ _ (λ s k. not_false (stands_in front s) k) rest (behind_front front rest once)) in
+    let none : filter off front ≡ [] = filter_none off front (Each-weaker _ _ (λ s k. not_from_true (stands_in front s) k) front (each_stands told front)) in
+    let all : filter off rest ≡ rest = filter_all off rest (Each-weaker _ _ (λ s k. not_from_false (stands_in front s) k) rest (behind_front front rest once)) in
     let left : filter p (filter off (last_places xs)) ≡ rest
     = filter_swap p off (last_places xs) ∙ ap (filter off) h ∙ filter-append off front rest ∙ ap (λ l. l ++ filter off rest) none ∙ all in
     ap (filter p) places ∙ filter-append p (filter off (last_places xs)) front ∙ ap (λ l. l ++ filter p front) left
@@ -185,4 +160,4 @@ turned p xs front rest h =
 -- segments that are given stand behind all others
 pub given_last : (xs : List Segment) (s : Segment) → Each (λ x. same_segment x s ≡ false) (last_places xs) → last_places (xs ++ s ∷ []) ≡ last_places xs ++ s ∷ []
 given_last xs s h = last_places-append xs (s ∷ [])
-    ∙ ap (λ l. l ++ s ∷ []) (filter_all (λ x. not (stands_in (s ∷ []) x)) (last_places xs) (Each-weaker _ _ (λ x k. not_false (stands_in (s ∷ []) x) (or_false (same_segment x s) false k refl)) (last_places xs) h))
+    ∙ ap (λ l. l ++ s ∷ []) (filter_all (λ x. not (stands_in (s ∷ []) x)) (last_places xs) (Each-weaker _ _ (λ x k. not_from_false (stands_in (s ∷ []) x) (or_from (same_segment x s) false k refl)) (last_places xs) h))

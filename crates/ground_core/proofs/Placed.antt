@@ -1,14 +1,14 @@
 -- Nothing is kept of a key but of an item that has a place in the queue.
-use Rattle.std.proofs.Common.{◌≡◌, ℕ, zero, suc, ◌≤◌, Bool, true, false, ◌&&◌, ◌||◌, ◌==◌, nat_lt, if◌then◌else◌, List, [], ◌∷◌, ◌++◌, map, Option, Some, None, refl, sym, ap, subst, ◌∙◌, inl, inr, arith}
+use Rattle.std.proofs.Common.{◌≡◌, ℕ, zero, suc, ◌≤◌, true, false, ◌&&◌, ◌==◌, nat_lt, if◌then◌else◌, List, [], ◌∷◌, ◌++◌, map, Option, Some, None, refl, sym, ap, subst, ◌∙◌, inl, inr, arith}
 use Rattle.std.specs.List.{list_any, range_with_len}
-use Rattle.std.proofs.lemmas.Bool.{cases_Bool}
+use Rattle.std.proofs.lemmas.Bool.{cases_Bool, or_left}
 use Rattle.std.proofs.lemmas.Bool.Decides.{nat_tests}
 use Rattle.list_members.specs.Membership.{IsIn}
 use Rattle.list_members.proofs.Members.{IsIn-before, IsIn-after}
 use Rattle.text_reports.specs.TextKey.{TextKey}
 use Rattle.ground_core.specs.NumberedKeys.{report_key}
 use Rattle.picture_core.specs.Key.{Key, radar_block, text_report, same_key}
-use Rattle.ground_core.specs.Piece.{Piece, Latest, ArePlaced, IsKept, while_living, lives_as, live_by}
+use Rattle.ground_core.specs.Piece.{Piece, Latest, ArePlaced, IsLastOrEnded, while_living, lives_as, live_by}
 use Rattle.ground_core.specs.Putting.{IsPut}
 use Rattle.ground_core.specs.Views.{latest_at, pieces_in, piece_at}
 use Rattle.ground_core.specs.declared.item.SentItem.{SentItem}
@@ -29,7 +29,7 @@ placed_aired latest old new behind front e f = placed_among latest old new (λ p
       | inr more ↦ IsIn-before p behind (front ∷ []) more
     ]))
 
-was_kept : (moment : ℕ) (last after : Option Latest) (kept : Latest) → IsKept moment last after → after ≡ Some kept → last ≡ Some kept
+was_kept : (moment : ℕ) (last after : Option Latest) (kept : Latest) → IsLastOrEnded moment last after → after ≡ Some kept → last ≡ Some kept
 was_kept moment last after kept (inl e) s = sym e ∙ s
 was_kept moment last after kept (inr n) s = cc (n.0)
 
@@ -52,14 +52,10 @@ itself n = grind (arith, nat_tests)
 lives_at : (moment serial : ℕ) (kept : Latest) → nat_lt moment kept.until ≡ true → serial ≡ kept.serial → lives_as moment serial (Some kept) ≡ true
 lives_at moment serial kept t e = ap (λ b. b && (kept.serial == serial)) t ∙ ap (λ n. kept.serial == n) e ∙ itself kept.serial
 
-or_true : (a b : Bool) → a ≡ true → (a || b) ≡ true
-or_true true b h = refl
-or_true false b h = cc
-
 -- the place of a dead front is that of no key of which something is kept behind it
 pub placed_dropped : (latest after : Key → Option Latest) (moment : ℕ) (own : Key) (old behind : List Piece) (front : Piece)
     → old ≡ front ∷ behind → front.keys ≡ own ∷ [] → live_by latest moment front ≡ false
-    → ((key : Key) → IsKept moment (latest key) (after key)) → after own ≡ while_living moment (latest own)
+    → ((key : Key) → IsLastOrEnded moment (latest key) (after key)) → after own ≡ while_living moment (latest own)
     → ArePlaced latest old → ArePlaced after behind
 placed_dropped latest after moment own old behind front e k dead kept_all living h key kept s =
     let before : latest key ≡ Some kept = was_kept moment (latest key) (after key) kept (kept_all key) s in
@@ -72,7 +68,7 @@ placed_dropped latest after moment own old behind front e k dead kept_all living
           let serial : front.serial ≡ kept.serial = ap (λ (p : Piece). p.serial) (sym same) ∙ at.serial in
           let alive : lives_as moment front.serial (latest own) ≡ true = ap (lives_as moment front.serial) here ∙ lives_at moment front.serial kept lives serial in
           let live : live_by latest moment front ≡ true
-          = ap (λ keys. list_any (λ x. lives_as moment front.serial (latest x)) keys) k ∙ or_true (lives_as moment front.serial (latest own)) false alive in
+          = ap (λ keys. list_any (λ x. lives_as moment front.serial (latest x)) keys) k ∙ or_left (lives_as moment front.serial (latest own)) false alive in
           absurd (cc))
       | inr more ↦ record { piece = at.piece; waits = more; serial = at.serial; of_key = at.of_key }
     ]

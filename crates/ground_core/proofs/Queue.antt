@@ -1,18 +1,19 @@
 -- What is live of the queue is what waits: at a later moment, behind a frame that was filled, and behind an item that was given.
 use Rattle.std.proofs.Common.{◌≡◌, ℕ, zero, suc, ◌+◌, ◌-◌, ◌<◌, ◌≤◌, Bool, true, false, not, ◌&&◌, ◌==◌, nat_lt, nat_le, if◌then◌else◌, List, [], ◌∷◌, ◌++◌, length, map, filter, flat_map, Option, Some, None, refl, sym, ap, ◌∙◌, inl, inr, arith, append-nil}
 use Rattle.std.specs.List.{range_with_len}
-use Rattle.std.proofs.lemmas.Bool.{cases_Bool, lt-ltb, ltb-true, and_parts, and_from}
+use Rattle.std.proofs.lemmas.Bool.{cases_Bool, lt-ltb, ltb-true, and_parts, and_from, and_right}
 use Rattle.std.proofs.lemmas.Bool.Decides.{nat_tests}
 use Rattle.std.proofs.lemmas.List.{map-append}
 use Rattle.std.proofs.lemmas.List.Elements.{filter-append}
 use Rattle.life_table.specs.LifeTable.{LifeTable}
 use Rattle.uplink_frame.specs.declared.station.StationId.{StationId}
 use Rattle.uplink_frame.specs.Station.{same_station}
+use Rattle.uplink_frame.specs.Laws.{StationsAreTold}
 use Rattle.picture_core.specs.Key.{Key}
 use Rattle.ground_core.specs.Item.{Weather, Item, Segment, segments_of, segment_of, same_item, same_segment, room_of}
 use Rattle.ground_core.specs.History.{Event, accepted, fill, items, new_items, items_made, item_of}
 use Rattle.ground_core.specs.Update.{Update, weather_of}
-use Rattle.ground_core.specs.Airing.{log, airing, waiting, fitting, is_live, has_key}
+use Rattle.ground_core.specs.Airing.{log, airing, waiting_segments, longest_fitting, is_live, has_key}
 use Rattle.ground_core.specs.Piece.{Piece, Latest, piece_of, lives_as, live_by, fitting_pieces, left_pieces}
 use Rattle.ground_core.specs.StandsFor.{latest_of, latest_of_item}
 use Rattle.ground_core.proofs.KeyLemmas.{KeyLaws}
@@ -37,7 +38,7 @@ pub logged_places : (table : LifeTable) (station : StationId) (history : List Ev
 logged_places table station history = Each-last_places _ _ (logged table station history)
 
 pub waits_are : KeyLaws → (table : LifeTable) (station : StationId) (history : List Event) (moment : ℕ)
-    → map piece_of (waiting (items table station history) (log table station history) moment)
+    → map piece_of (waiting_segments (items table station history) (log table station history) moment)
     ≡ filter (live_by (latest_of (items table station history)) moment) (map piece_of (places table station history))
 waits_are keys table station history moment =
     ap (map piece_of) (waiting_is (items table station history) (log table station history) moment)
@@ -61,8 +62,8 @@ later_lives latest clock moment p le h =
 
 -- at a later moment
 pub line_later : KeyLaws → (table : LifeTable) (station : StationId) (history : List Event) (clock moment : ℕ) (line : List Piece) → clock ≤ moment
-    → filter (live_by (latest_of (items table station history)) clock) line ≡ map piece_of (waiting (items table station history) (log table station history) clock)
-    → filter (live_by (latest_of (items table station history)) moment) line ≡ map piece_of (waiting (items table station history) (log table station history) moment)
+    → filter (live_by (latest_of (items table station history)) clock) line ≡ map piece_of (waiting_segments (items table station history) (log table station history) clock)
+    → filter (live_by (latest_of (items table station history)) moment) line ≡ map piece_of (waiting_segments (items table station history) (log table station history) moment)
 line_later keys table station history clock moment line le e =
     let latest : Key → Option Latest = latest_of (items table station history) in
     let less : (xs : List Piece) → Each (λ x. live_by latest moment x ≡ true → live_by latest clock x ≡ true) xs
@@ -71,7 +72,7 @@ line_later keys table station history clock moment line le e =
     (e ∙ waits_are keys table station history clock) ∙ sym (waits_are keys table station history moment)
 
 -- pieces fit as their segments do
-pub fitting_pieces_are : (room : ℕ) (xs : List Segment) → map piece_of (fitting room xs) ≡ fitting_pieces room (map piece_of xs)
+pub fitting_pieces_are : (room : ℕ) (xs : List Segment) → map piece_of (longest_fitting room xs) ≡ fitting_pieces room (map piece_of xs)
 fitting_pieces_are room [] = refl
 fitting_pieces_are room (x ∷ xs) = elim (cases_Bool (nat_le (room_of x) room)) [
   | inl t ↦ rw t (ap (λ l. piece_of x ∷ l) (fitting_pieces_are (room - room_of x) xs))
@@ -89,7 +90,7 @@ left_pieces_are room (x ∷ xs) = elim (cases_Bool (nat_le (room_of x) room)) [
   | inr f ↦ rw f refl
 ]
 
-pub fitting_left : (room : ℕ) (xs : List Segment) → xs ≡ fitting room xs ++ left room xs
+pub fitting_left : (room : ℕ) (xs : List Segment) → xs ≡ longest_fitting room xs ++ left room xs
 fitting_left room [] = refl
 fitting_left room (x ∷ xs) = elim (cases_Bool (nat_le (room_of x) room)) [
   | inl t ↦ rw t (ap (λ l. x ∷ l) (fitting_left (room - room_of x) xs))
@@ -101,53 +102,49 @@ pub record IsFilled (table : LifeTable) (station : StationId) (past : List Event
   pub aired : map piece_of (airing (items table station past) (log table station past) moment)
       ≡ fitting_pieces 424 (filter (live_by (latest_of (items table station past)) moment) old)
   pub line : filter (live_by (latest_of (items table station past)) moment) new
-      ≡ map piece_of (waiting (items table station (fill moment slot ∷ past)) (log table station (fill moment slot ∷ past)) moment)
+      ≡ map piece_of (waiting_segments (items table station (fill moment slot ∷ past)) (log table station (fill moment slot ∷ past)) moment)
 
 -- what waits behind a fill: what was left, and then what was aired
-pub waiting_filled : (table : LifeTable) (station : StationId) (past : List Event) (moment slot : ℕ)
-    → waiting (items table station (fill moment slot ∷ past)) (log table station (fill moment slot ∷ past)) moment
-    ≡ left 424 (waiting (items table station past) (log table station past) moment)
+pub waiting_filled : StationsAreTold → (table : LifeTable) (station : StationId) (past : List Event) (moment slot : ℕ)
+    → waiting_segments (items table station (fill moment slot ∷ past)) (log table station (fill moment slot ∷ past)) moment
+    ≡ left 424 (waiting_segments (items table station past) (log table station past) moment)
     ++ airing (items table station past) (log table station past) moment
-waiting_filled table station past moment slot =
+waiting_filled told table station past moment slot =
     let all : List Item = items table station past in
     let before : List Segment = segments_in (log table station past) in
-    let now : List Segment = waiting all (log table station past) moment in
-    let front : List Segment = fitting 424 now in
+    let now : List Segment = waiting_segments all (log table station past) moment in
+    let front : List Segment = longest_fitting 424 now in
     let live : Segment → Bool = λ s. is_live all moment s.item in
     let cut : filter live (last_places before) ≡ front ++ left 424 now = sym (waiting_is all (log table station past) moment) ∙ fitting_left 424 now in
     waiting_is (all ++ []) (log table station (fill moment slot ∷ past)) moment
     ∙ ap (λ is. filter (λ s. is_live is moment s.item) (last_places (segments_in (log table station (fill moment slot ∷ past))))) (append-nil all)
     ∙ ap (λ l. filter live (last_places l)) (log_filled table station past moment slot)
-    ∙ turned live before front (left 424 now) cut
+    ∙ turned told live before front (left 424 now) cut
 
-pub filled : KeyLaws → (table : LifeTable) (station : StationId) (past : List Event) (clock moment slot : ℕ) (old new : List Piece) → clock ≤ moment
-    → filter (live_by (latest_of (items table station past)) clock) old ≡ map piece_of (waiting (items table station past) (log table station past) clock)
+pub filled : StationsAreTold → KeyLaws → (table : LifeTable) (station : StationId) (past : List Event) (clock moment slot : ℕ) (old new : List Piece) → clock ≤ moment
+    → filter (live_by (latest_of (items table station past)) clock) old ≡ map piece_of (waiting_segments (items table station past) (log table station past) clock)
     → filter (live_by (latest_of (items table station past)) moment) new
     ≡ left_pieces 424 (filter (live_by (latest_of (items table station past)) moment) old)
     ++ fitting_pieces 424 (filter (live_by (latest_of (items table station past)) moment) old)
     → IsFilled table station past moment slot old new
-filled keys table station past clock moment slot old new le e n =
+filled told keys table station past clock moment slot old new le e n =
     let all : List Item = items table station past in
-    let now : List Segment = waiting all (log table station past) moment in
+    let now : List Segment = waiting_segments all (log table station past) moment in
     let live : filter (live_by (latest_of all) moment) old ≡ map piece_of now = line_later keys table station past clock moment old le e in
     record {
       aired = fitting_pieces_are 424 now ∙ ap (fitting_pieces 424) (sym live);
       line = n ∙ ap (λ l. left_pieces 424 l ++ fitting_pieces 424 l) live
           ∙ ap (λ l. l ++ fitting_pieces 424 (map piece_of now)) (sym (left_pieces_are 424 now))
           ∙ ap (λ l. map piece_of (left 424 now) ++ l) (sym (fitting_pieces_are 424 now))
-          ∙ sym (map-append piece_of (left 424 now) (fitting 424 now))
-          ∙ ap (map piece_of) (sym (waiting_filled table station past moment slot));
+          ∙ sym (map-append piece_of (left 424 now) (longest_fitting 424 now))
+          ∙ ap (map piece_of) (sym (waiting_filled told table station past moment slot));
     }
-
-and_false : (a b : Bool) → b ≡ false → (a && b) ≡ false
-and_false true b h = h
-and_false false b h = refl
 
 -- segments of one item are told apart by their numbers
 none_below : (item : Item) (low at n : ℕ) → low < at → stands_in (map (segment_of item) (range_with_len at n)) (segment_of item low) ≡ false
 none_below item low at zero lt = refl
 none_below item low at (suc n) lt =
-    let head : same_segment (segment_of item low) (segment_of item at) ≡ false = and_false (same_item item item) (low == at) (grind (arith, nat_tests)) in
+    let head : same_segment (segment_of item low) (segment_of item at) ≡ false = and_right (same_item item item) (low == at) (grind (arith, nat_tests)) in
     rw head (none_below item low (at + 1) n (omega arith))
 
 once_numbers : (item : Item) (at n : ℕ) → Once (map (segment_of item) (range_with_len at n))
@@ -159,7 +156,7 @@ none_of_item : (s : Segment) (serial : ℕ) (xs : List Segment) → s.item.seria
 none_of_item s serial [] lt h = refl
 none_of_item s serial (x ∷ xs) lt h =
     let other : (s.item.serial == x.item.serial) ≡ false = rw h.0 (grind (arith, nat_tests)) in
-    let head : same_segment s x ≡ false = ap (λ b. b && (s.number == x.number)) (and_false (same_station s.item.station x.item.station) (s.item.serial == x.item.serial) other) in
+    let head : same_segment s x ≡ false = ap (λ b. b && (s.number == x.number)) (and_right (same_station s.item.station x.item.station) (s.item.serial == x.item.serial) other) in
     rw head (none_of_item s serial xs lt h.1)
 
 item_of_each : (item : Item) → Each (λ x. x.item.serial ≡ item.serial) (segments_of item)
@@ -202,10 +199,10 @@ older_lives all item clock moment p e le lt h =
 pub given_line : KeyLaws → (table : LifeTable) (station : StationId) (past : List Event) (moment : ℕ) (update : Update) (w : Weather) (clock : ℕ) (old new : List Piece)
     → weather_of table update ≡ w ∷ [] → clock ≤ moment
     → Each (λ p. p.serial < length (items table station past)) old
-    → filter (live_by (latest_of (items table station past)) clock) old ≡ map piece_of (waiting (items table station past) (log table station past) clock)
+    → filter (live_by (latest_of (items table station past)) clock) old ≡ map piece_of (waiting_segments (items table station past) (log table station past) clock)
     → new ≡ old ++ map piece_of (segments_of (item_of table station moment (items table station past) w))
     → filter (live_by (latest_of (items table station (accepted moment update ∷ past))) moment) new
-    ≡ map piece_of (waiting (items table station (accepted moment update ∷ past)) (log table station (accepted moment update ∷ past)) moment)
+    ≡ map piece_of (waiting_segments (items table station (accepted moment update ∷ past)) (log table station (accepted moment update ∷ past)) moment)
 given_line keys table station past moment update w clock old new we le low e n =
     let all : List Item = items table station past in
     let item : Item = item_of table station moment all w in

@@ -1,6 +1,7 @@
 -- Items are numbered by their place, and what is logged are segments of items that were given.
 use Rattle.std.proofs.Common.{◌≡◌, ℕ, ◌+◌, ◌-◌, ◌<◌, ◌≤◌, Bool, true, false, not, ◌&&◌, ◌==◌, nat_lt, nat_le, if◌then◌else◌, List, [], ◌∷◌, ◌++◌, length, map, flat_map, Option, Some, None, refl, sym, ap, subst, ◌∙◌, inl, inr, arith, length-append}
 use Rattle.std.specs.List.{list_any}
+use Rattle.std.proofs.Math.Bool.{and-false}
 use Rattle.std.proofs.lemmas.Bool.{cases_Bool, lt-ltb}
 use Rattle.std.proofs.lemmas.Bool.Decides.{nat_tests}
 use Rattle.std.proofs.lemmas.List.{map-append}
@@ -12,14 +13,15 @@ use Rattle.uplink_frame.specs.declared.station.StationId.{StationId}
 use Rattle.picture_core.specs.Key.{Key, same_key}
 use Rattle.picture_core.specs.Entry.{Entry}
 use Rattle.uplink_frame.specs.UplinkFrame.{frame_room}
+use Rattle.list_members.proofs.Ranges.{list_any_same}
 use Rattle.ground_core.specs.Item.{Weather, Item, Segment, segments_of, end_of, room_of}
 use Rattle.ground_core.specs.History.{Event, accepted, fill, items, new_items, items_made, item_of}
 use Rattle.ground_core.specs.Update.{Update, weather_of}
-use Rattle.ground_core.specs.Airing.{Touch, touch, log, airing, waiting, fitting, has_key, is_newest_for, is_live}
+use Rattle.ground_core.specs.Airing.{Touch, touch, log, airing, waiting_segments, longest_fitting, has_key, is_newest_for, is_live}
 use Rattle.ground_core.specs.Piece.{Latest, piece_of, lives_as, live_by}
 use Rattle.ground_core.specs.StandsFor.{latest_after, latest_of, latest_of_item}
 use Rattle.ground_core.proofs.KeyLemmas.{KeyLaws, same_key_itself}
-use Rattle.ground_core.proofs.ListLemmas.{Each, Each-append, Each-weaker, Each-filter, Each-in, list_any-map, list_any-same}
+use Rattle.ground_core.proofs.ListLemmas.{Each, Each-append, Each-weaker, Each-filter, Each-in, list_any-map}
 use Rattle.ground_core.proofs.Segments.{is_segment_of}
 use Rattle.ground_core.proofs.Order.{last_places, segments_in, stands_in, waiting_is}
 
@@ -86,7 +88,7 @@ Each-last_places P (x ∷ xs) h = elim (cases_Bool (stands_in xs x)) [
   | inr f ↦ rw f (h.0, Each-last_places P xs h.1)
 ]
 
-pub Each-fitting : (P : Segment → Type 0) (room : ℕ) (xs : List Segment) → Each P xs → Each P (fitting room xs)
+pub Each-fitting : (P : Segment → Type 0) (room : ℕ) (xs : List Segment) → Each P xs → Each P (longest_fitting room xs)
 Each-fitting P room [] h = tt
 Each-fitting P room (x ∷ xs) h = elim (cases_Bool (nat_le (room_of x) room)) [
   | inl t ↦ rw t (h.0, Each-fitting P (room - room_of x) xs h.1)
@@ -110,7 +112,7 @@ log_filled table station past moment slot =
     map-append (λ (t : Touch). t.segment) (log table station past) (map (touch (Some moment)) new)
     ∙ ap (λ l. segments_in (log table station past) ++ l) (segments_of_touches (Some moment) new)
 
-pub Each-waiting : (P : Segment → Type 0) (all : List Item) (touched : List Touch) (moment : ℕ) → Each P (segments_in touched) → Each P (waiting all touched moment)
+pub Each-waiting : (P : Segment → Type 0) (all : List Item) (touched : List Touch) (moment : ℕ) → Each P (segments_in touched) → Each P (waiting_segments all touched moment)
 Each-waiting P all touched moment h = subst (Each P) (sym (waiting_is all touched moment))
     (Each-filter P (λ s. is_live all moment s.item) _ (Each-last_places P (segments_in touched) h))
 
@@ -130,10 +132,6 @@ logged table station (fill moment slot ∷ past) =
     (Each-weaker _ _ (logged_more all []) _
     (Each-append _ (segments_in (log table station past)) _ before
     (Each-fitting _ frame_room _ (Each-waiting _ all (log table station past) moment before))))
-
-and_false : (b : Bool) → (b && false) ≡ false
-and_false true = refl
-and_false false = refl
 
 abbrev has_serial : ℕ → Option Latest → Bool
 has_serial serial None = false
@@ -192,10 +190,10 @@ ends_as serial until key (o ∷ more) before h e =
 
 lives_split : (moment serial until : ℕ) (latest : Option Latest) → EndsAs serial until latest
     → lives_as moment serial latest ≡ (nat_lt moment until && has_serial serial latest)
-lives_split moment serial until None h = sym (and_false (nat_lt moment until))
+lives_split moment serial until None h = sym (and-false (nat_lt moment until))
 lives_split moment serial until (Some latest) h = elim (cases_Bool (latest.serial == serial)) [
   | inl t ↦ ap (λ n. nat_lt moment n && (latest.serial == serial)) (h (grind (arith, nat_tests)))
-  | inr f ↦ rw f (and_false (nat_lt moment latest.until) ∙ sym (and_false (nat_lt moment until)))
+  | inr f ↦ rw f (and-false (nat_lt moment latest.until) ∙ sym (and-false (nat_lt moment until)))
 ]
 
 any_and : {X : Type 0} (b : Bool) (p : X → Bool) (xs : List X) → list_any (λ x. b && p x) xs ≡ (b && list_any p xs)
@@ -230,11 +228,11 @@ live_same keys all moment s h i =
     let ends = Each-in (λ o. o.serial ≡ s.item.serial → end_of o.weather ≡ until) all (λ o j e.
     ap (λ (x : Item). end_of x.weather) (one_serial 0 all o s.item h j i e)) in
     list_any-map (λ key. lives_as moment s.item.serial (latest_of all key)) (λ (entry : Entry). entry.key) s.item.weather.entries
-    ∙ list_any-same _ (λ entry. nat_lt moment until && is_newest_for all s.item entry.key) s.item.weather.entries
-    (Each-in _ s.item.weather.entries (λ entry j.
+    ∙ list_any_same _ (λ entry. nat_lt moment until && is_newest_for all s.item entry.key) s.item.weather.entries
+    (λ entry j.
     lives_split moment s.item.serial until (latest_of all entry.key) (ends_as s.item.serial until entry.key all None ends tt)
     ∙ ap (λ b. nat_lt moment until && b)
-    (latest_is 0 entry.key all None s.item h i (in_any (λ e. same_key entry.key e.key) entry s.item.weather.entries j (same_key_itself keys entry.key)))))
+    (latest_is 0 entry.key all None s.item h i (in_any (λ e. same_key entry.key e.key) entry s.item.weather.entries j (same_key_itself keys entry.key))))
     ∙ any_and (nat_lt moment until) (λ entry. is_newest_for all s.item entry.key) s.item.weather.entries
 
 pub latest_push : (key : Key) (xs : List Item) (item : Item) (before : Option Latest)

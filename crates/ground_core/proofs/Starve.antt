@@ -6,12 +6,13 @@ use Rattle.list_members.specs.Membership.{IsIn}
 use Rattle.list_members.proofs.Members.{IsIn-before, IsIn-after, IsIn-from_filter}
 use Rattle.life_table.specs.LifeTable.{LifeTable}
 use Rattle.uplink_frame.specs.declared.station.StationId.{StationId}
+use Rattle.uplink_frame.specs.Laws.{StationsAreTold}
 use Rattle.segment_core.specs.Cutting.{PartsFitFrames}
 use Rattle.ground_core.specs.Item.{Weather, Item, Segment, room_of, segments_of, file_of, end_of}
 use Rattle.ground_core.specs.Update.{Update, text, weather_of}
 use Rattle.ground_core.specs.Piece.{piece_of}
 use Rattle.ground_core.specs.History.{Event, accepted, fill, moment_of, items, items_made, new_items, item_of}
-use Rattle.ground_core.specs.Airing.{log, fitting, is_live}
+use Rattle.ground_core.specs.Airing.{log, longest_fitting, is_live}
 use Rattle.ground_core.specs.Broadcast.{IsHistory, IsNotBefore}
 use Rattle.ground_core.specs.Starving.{bytes_of, waiting_after, fills, WaitsStill, AreFrom, NoStarvation}
 use Rattle.ground_core.proofs.KeyLemmas.{KeyLaws}
@@ -102,7 +103,7 @@ front_before (x ∷ front) rest (b ∷ before) s after e absent =
     }
 
 -- what stands behind a front that fits does not fit with it
-left_over : (room : ℕ) (xs : List Segment) (y : Segment) (more : List Segment) → left room xs ≡ y ∷ more → room < bytes_of (fitting room xs) + room_of y
+left_over : (room : ℕ) (xs : List Segment) (y : Segment) (more : List Segment) → left room xs ≡ y ∷ more → room < bytes_of (longest_fitting room xs) + room_of y
 left_over room [] y more e = absurd (cc)
 left_over room (x ∷ xs) y more e = elim (cases_Bool (nat_le (room_of x) room)) [
   | inl t ↦ (
@@ -116,11 +117,11 @@ left_over room (x ∷ xs) y more e = elim (cases_Bool (nat_le (room_of x) room))
       rw f (omega arith))
 ]
 
-head_fits : (room : ℕ) (x : Segment) (xs : List Segment) → room_of x ≤ room → fitting room (x ∷ xs) ≡ x ∷ fitting (room - room_of x) xs
-head_fits room x xs le = ap (λ b. if b then x ∷ fitting (room - room_of x) xs else []) (le-leb (room_of x) room le)
+head_fits : (room : ℕ) (x : Segment) (xs : List Segment) → room_of x ≤ room → longest_fitting room (x ∷ xs) ≡ x ∷ longest_fitting (room - room_of x) xs
+head_fits room x xs le = ap (λ b. if b then x ∷ longest_fitting (room - room_of x) xs else []) (le-leb (room_of x) room le)
 
 step_near : (count bytes : ℕ) (s : Segment) (front between before : List Segment) (after rest line : List Segment)
-    → before ≡ front ++ between → rest ≡ between ++ s ∷ after → rest ≡ left 424 line → front ≡ fitting 424 line
+    → before ≡ front ++ between → rest ≡ between ++ s ∷ after → rest ≡ left 424 line → front ≡ longest_fitting 424 line
     → 425 * count + 2 * bytes_of before ≤ 2 * bytes + head_bytes before → head_bytes before ≤ bytes_of front
     → IsNear (count + 1) bytes between
 step_near count bytes s front [] before after rest line b r l f h k =
@@ -129,33 +130,33 @@ step_near count bytes s front [] before after rest line b r l f h k =
 step_near count bytes s front (y ∷ between) before after rest line b r l f h k =
     let all : bytes_of before ≡ bytes_of front + (room_of y + bytes_of between) = ap bytes_of b ∙ bytes-append front (y ∷ between) in
     let over = left_over 424 line y (between ++ s ∷ after) (sym l ∙ r) in
-    let same : bytes_of front ≡ bytes_of (fitting 424 line) = ap bytes_of f in
+    let same : bytes_of front ≡ bytes_of (longest_fitting 424 line) = ap bytes_of f in
     inl (omega arith)
 
 nothing : (b : Segment) (before : List Segment) → b ∷ before ≡ [] → ⊥
 nothing b before h = cc
 
 -- a fill without the segment brings it nearer
-placed-filled : (count bytes : ℕ) (s : Segment) (line : List Segment) → Each (λ x. room_of x ≤ 424) line → (IsIn s (fitting 424 line) → ⊥)
+placed-filled : (count bytes : ℕ) (s : Segment) (line : List Segment) → Each (λ x. room_of x ≤ 424) line → (IsIn s (longest_fitting 424 line) → ⊥)
     → IsPlaced count bytes s line → IsPlaced (count + 1) bytes s (left 424 line)
 placed-filled count bytes s line fits absent h = go h.before refl where
   go : (before : List Segment) → before ≡ h.before → IsPlaced (count + 1) bytes s (left 424 line)
   go [] e =
       let line_is : line ≡ s ∷ h.after = h.line_is ∙ ap (λ b. b ++ s ∷ h.after) (sym e) in
       let first = (subst (Each (λ x. room_of x ≤ 424)) line_is fits).0 in
-      absurd (absent (subst (λ l. IsIn s (fitting 424 l)) (sym line_is) (subst (IsIn s) (sym (head_fits 424 s h.after first)) (inl refl))))
+      absurd (absent (subst (λ l. IsIn s (longest_fitting 424 l)) (sym line_is) (subst (IsIn s) (sym (head_fits 424 s h.after first)) (inl refl))))
   go (b ∷ before) e =
       let line_is : line ≡ (b ∷ before) ++ s ∷ h.after = h.line_is ∙ ap (λ l. l ++ s ∷ h.after) (sym e) in
       let first = (subst (Each (λ x. room_of x ≤ 424)) line_is fits).0 in
-      let taken : fitting 424 line ≡ b ∷ fitting (424 - room_of b) (before ++ s ∷ h.after) = ap (fitting 424) line_is ∙ head_fits 424 b (before ++ s ∷ h.after) first in
-      let more : room_of b ≤ bytes_of (fitting 424 line) = subst (λ l. room_of b ≤ bytes_of l) (sym taken) (omega arith) in
-      let f = front_before (fitting 424 line) (left 424 line) (b ∷ before) s h.after (sym line_is ∙ fitting_left 424 line) absent in
+      let taken : longest_fitting 424 line ≡ b ∷ longest_fitting (424 - room_of b) (before ++ s ∷ h.after) = ap (longest_fitting 424) line_is ∙ head_fits 424 b (before ++ s ∷ h.after) first in
+      let more : room_of b ≤ bytes_of (longest_fitting 424 line) = subst (λ l. room_of b ≤ bytes_of l) (sym taken) (omega arith) in
+      let f = front_before (longest_fitting 424 line) (left 424 line) (b ∷ before) s h.after (sym line_is ∙ fitting_left 424 line) absent in
       record {
         before = f.between;
         after = h.after;
         line_is = f.rest_is;
         near = elim (subst (IsNear count bytes) (sym e) h.near) [
-          | inl a ↦ step_near count bytes s (fitting 424 line) f.between (b ∷ before) h.after (left 424 line) line f.before_is f.rest_is refl refl a more
+          | inl a ↦ step_near count bytes s (longest_fitting 424 line) f.between (b ∷ before) h.after (left 424 line) line f.before_is f.rest_is refl refl a more
           | inr n ↦ absurd (nothing b before n.0)
         ];
       }
@@ -252,15 +253,15 @@ logged_later : (table : LifeTable) (station : StationId) (past later : List Even
 logged_later table station past [] s h = h
 logged_later table station past (event ∷ later) s h = logged_more (items table station (later ++ past)) _ s (logged_later table station past later s h)
 
-placed : KeyLaws → PartsFitFrames → (table : LifeTable) (station : StationId) (past later : List Event) (at : ℕ) (s : Segment) (before after : List Segment)
+placed : StationsAreTold → KeyLaws → PartsFitFrames → (table : LifeTable) (station : StationId) (past later : List Event) (at : ℕ) (s : Segment) (before after : List Segment)
     → IsHistory table station (later ++ past) → AreFrom at later → IsLogged (items table station past) s
     → waiting_after table station past at ≡ before ++ s ∷ after → WaitsStill table station past s later
     → (moment : ℕ) → IsLater at moment later → is_live (items table station (later ++ past)) moment s.item ≡ true
     → IsPlaced (fills later) (bytes_of before) s (waiting_after table station (later ++ past) moment)
-placed keys fit table station past [] at s before after h f l e w moment le t =
+placed told keys fit table station past [] at s before after h f l e w moment le t =
     subst (IsPlaced 0 (bytes_of before) s) (sym (waiting_later table station past at moment le))
     (placed-filter 0 (bytes_of before) s _ (waiting_after table station past at) t (record { before = before; after = after; line_is = e; near = inl (omega arith) }))
-placed keys fit table station past (accepted given (text version chars) ∷ later) at s before after h f l e w moment le t =
+placed told keys fit table station past (accepted given (text version chars) ∷ later) at s before after h f l e w moment le t =
     let history : List Event = later ++ past in
     let all : List Item = items table station history in
     let c = clear table all given version chars h.0.is_accepted.1 in
@@ -272,40 +273,40 @@ placed keys fit table station past (accepted given (text version chars) ∷ late
     = live_before keys all item moment s refl (numbered_items table station history) m (logged_later table station past later s l)
     (ap (λ is. is_live is moment s.item) (sym items_are) ∙ t) in
     let g = waiting_given keys table station history given moment (text version chars) (text_weather c.key c.row version chars) we in
-    let old = placed keys fit table station past later at s before after h.1 f.1 l e w moment (later_more at given moment past later (accepted given (text version chars)) le h.0.not_before f.0) lived in
+    let old = placed told keys fit table station past later at s before after h.1 f.1 l e w moment (later_more at given moment past later (accepted given (text version chars)) le h.0.not_before f.0) lived in
     subst (IsPlaced (fills later) (bytes_of before) s) (sym g.1) (placed-more (fills later) (bytes_of before) s _ g.0 (placed-filter (fills later) (bytes_of before) s _ _ t old))
-placed keys fit table station past (fill now slot ∷ later) at s before after h f l e w moment le t =
+placed told keys fit table station past (fill now slot ∷ later) at s before after h f l e w moment le t =
     let history : List Event = later ++ past in
     let all : List Item = items table station history in
     let line : List Segment = waiting_after table station history now in
     let lived : is_live all now s.item ≡ true
     = (IsIn-from_filter (λ x. is_live all now x.item) s _ (subst (IsIn s) (waiting_is all (log table station history) now) w.0)).1 in
-    let old = placed keys fit table station past later at s before after h.1 f.1 l e w.2 now (later_now at past later (fill now slot) h.0.not_before f.0) lived in
+    let old = placed told keys fit table station past later at s before after h.1 f.1 l e w.2 now (later_now at past later (fill now slot) h.0.not_before f.0) lived in
     let new = placed-filled (fills later) (bytes_of before) s line (rooms_fit fit table station history now) w.1 old in
     subst (IsPlaced (fills later + 1) (bytes_of before) s) (sym (waiting_later table station (fill now slot ∷ history) now moment le))
     (placed-filter (fills later + 1) (bytes_of before) s _ _ t
-    (subst (IsPlaced (fills later + 1) (bytes_of before) s) (sym (waiting_filled table station history now slot)) (placed-more (fills later + 1) (bytes_of before) s (left 424 line) _ new)))
+    (subst (IsPlaced (fills later + 1) (bytes_of before) s) (sym (waiting_filled told table station history now slot)) (placed-more (fills later + 1) (bytes_of before) s (left 424 line) _ new)))
 
 few_left : (count bytes : ℕ) → 425 * count ≤ 2 * bytes → count + 1 < 2 * bytes / 425 + 2
 few_left count bytes h = omega arith
 
-run : KeyLaws → PartsFitFrames → (table : LifeTable) (station : StationId) (past later : List Event) (at : ℕ) (s : Segment) (before after : List Segment)
+run : StationsAreTold → KeyLaws → PartsFitFrames → (table : LifeTable) (station : StationId) (past later : List Event) (at : ℕ) (s : Segment) (before after : List Segment)
     → IsHistory table station (later ++ past) → AreFrom at later → IsLogged (items table station past) s
     → waiting_after table station past at ≡ before ++ s ∷ after → WaitsStill table station past s later
     → fills later < 2 * bytes_of before / 425 + 2
-run keys fit table station past [] at s before after h f l e w = omega arith
-run keys fit table station past (accepted given update ∷ later) at s before after h f l e w = run keys fit table station past later at s before after h.1 f.1 l e w
-run keys fit table station past (fill now slot ∷ later) at s before after h f l e w =
+run told keys fit table station past [] at s before after h f l e w = omega arith
+run told keys fit table station past (accepted given update ∷ later) at s before after h f l e w = run told keys fit table station past later at s before after h.1 f.1 l e w
+run told keys fit table station past (fill now slot ∷ later) at s before after h f l e w =
     let history : List Event = later ++ past in
     let all : List Item = items table station history in
     let lived : is_live all now s.item ≡ true
     = (IsIn-from_filter (λ x. is_live all now x.item) s _ (subst (IsIn s) (waiting_is all (log table station history) now) w.0)).1 in
-    let old = placed keys fit table station past later at s before after h.1 f.1 l e w.2 now (later_now at past later (fill now slot) h.0.not_before f.0) lived in
+    let old = placed told keys fit table station past later at s before after h.1 f.1 l e w.2 now (later_now at past later (fill now slot) h.0.not_before f.0) lived in
     let new = placed-filled (fills later) (bytes_of before) s (waiting_after table station history now) (rooms_fit fit table station history now) w.1 old in
     few_left (fills later) (bytes_of before) (few_fills (fills later) (bytes_of before) s _ new)
 
-pub no_starvation : KeyLaws → PartsFitFrames → NoStarvation
-no_starvation keys fit table station past later at s before after h f e w =
+pub no_starvation : StationsAreTold → KeyLaws → PartsFitFrames → NoStarvation
+no_starvation told keys fit table station past later at s before after h f e w =
     let here : IsIn s (waiting_after table station past at) = subst (IsIn s) (sym e) (IsIn-after s before (s ∷ after) (inl refl)) in
     let l = Each-at _ (waiting_after table station past at) s (Each-waiting _ (items table station past) (log table station past) at (logged table station past)) here in
-    run keys fit table station past later at s before after h f l e w
+    run told keys fit table station past later at s before after h f l e w

@@ -8,10 +8,12 @@ use Rattle.std.proofs.lemmas.List.Elements.{filter-append}
 use Rattle.list_members.specs.Membership.{IsIn}
 use Rattle.list_members.proofs.Members.{IsIn-before, IsIn-after, IsIn-either}
 use Rattle.list_members.proofs.ListMembers.{in_map}
+use Rattle.list_members.proofs.Ranges.{map_same}
 use Rattle.fisb_time.specs.Moment.{IsMoment}
 use Rattle.fisb_time.specs.declared.form.TimeForm.{TimeForm}
 use Rattle.life_table.specs.LifeTable.{LifeTable, TextRow, text_row, greatest_life}
 use Rattle.uplink_frame.specs.declared.station.StationId.{StationId}
+use Rattle.uplink_frame.specs.Laws.{StationsAreTold}
 use Rattle.text_reports.specs.TextKey.{TextKey}
 use Rattle.ground_core.specs.NumberedKeys.{report_key}
 use Rattle.segment_core.specs.File.{parts_of}
@@ -20,10 +22,10 @@ use Rattle.picture_core.specs.Key.{Key, text_report, same_key}
 use Rattle.ground_core.specs.Item.{Weather, Item, Segment, segments_of, segment_of, is_segmented, file_of}
 use Rattle.ground_core.specs.Update.{text}
 use Rattle.ground_core.specs.History.{Event, accepted, fill, moment_of, items, items_made, new_items, item_of, number_for}
-use Rattle.ground_core.specs.Airing.{log, waiting, has_key}
+use Rattle.ground_core.specs.Airing.{log, waiting_segments, has_key}
 use Rattle.ground_core.specs.Broadcast.{IsNotBefore}
 use Rattle.ground_core.specs.Refusal.{give_refusal}
-use Rattle.ground_core.specs.Piece.{Piece, Latest, IsKept, HasPlace, ArePlaced, piece_of, live_by, left_pieces, fitting_pieces}
+use Rattle.ground_core.specs.Piece.{Piece, Latest, IsLastOrEnded, HasPlace, ArePlaced, piece_of, live_by, left_pieces, fitting_pieces}
 use Rattle.ground_core.specs.Putting.{IsPut, IsAsBefore, IsItemOf}
 use Rattle.ground_core.specs.StandsFor.{StandsFor, clock_of, moment_now, latest_of, latest_of_item, is_filed}
 use Rattle.ground_core.specs.Told.{refusal_by}
@@ -58,7 +60,7 @@ clock_below (event ∷ past) moment h = not_early (moment_of event) moment h
 
 -- what is kept counts at each later moment as all that was given
 pub kept_at : (table : LifeTable) (station : StationId) (history : List Event) (moment : ℕ) (sender : Ground) → StandsFor table station sender history
-    → moment_now history ≤ moment → (key : Key) → IsKept moment (latest_of (items table station history) key) (latest_at sender.newest key)
+    → moment_now history ≤ moment → (key : Key) → IsLastOrEnded moment (latest_of (items table station history) key) (latest_at sender.newest key)
 kept_at table station history moment sender s le key = kept_later (moment_now history) moment _ _ le (s.newest_is key)
 
 pub lives_same : (table : LifeTable) (station : StationId) (history : List Event) (moment : ℕ) (sender : Ground) → StandsFor table station sender history
@@ -85,7 +87,7 @@ counts_now table station history moment version product sender s le lt =
 
 pub line_of : (table : LifeTable) (station : StationId) (history : List Event) (sender : Ground) (s : StandsFor table station sender history)
     → filter (live_by (latest_of (items table station history)) (moment_now history)) (pieces_in sender.line)
-    ≡ map piece_of (waiting (items table station history) (log table station history) (moment_now history))
+    ≡ map piece_of (waiting_segments (items table station history) (log table station history) (moment_now history))
 line_of table station history sender s =
     let now : moment_now history ≤ moment_now history = omega arith in
     ap (λ f. filter f (pieces_in sender.line)) (sym (lives_same table station history (moment_now history) sender s now)) ∙ s.line_is
@@ -99,7 +101,7 @@ same_stands table station history old new s b = record {
   station_is = b.station ∙ s.station_is;
   clock_is = b.clock ∙ s.clock_is;
   given_is = b.given ∙ s.given_is;
-  newest_is = λ key. subst (IsKept (moment_now history) (latest_of (items table station history) key)) (sym (b.newest key)) (s.newest_is key);
+  newest_is = λ key. subst (IsLastOrEnded (moment_now history) (latest_of (items table station history) key)) (sym (b.newest key)) (s.newest_is key);
   files_are = λ v p. b.files v p ∙ s.files_are v p;
   placed = λ key kept e. subst (λ l. HasPlace l key kept) (sym b.line) (s.placed key kept (sym (b.newest key) ∙ e));
   of_log = λ p i. s.of_log p (subst (IsIn p) b.line i);
@@ -113,7 +115,7 @@ pub record IsTaken (old : Ground) (moment : ℕ) (new : Ground) : Type 0 where
   pub station : new.station ≡ old.station
   pub clock : new.clock ≡ Some moment
   pub given : new.given ≡ old.given
-  pub newest : (key : Key) → IsKept moment (latest_at old.newest key) (latest_at new.newest key)
+  pub newest : (key : Key) → IsLastOrEnded moment (latest_at old.newest key) (latest_at new.newest key)
   pub files : (version product : ℕ) → count_at new.files version product
       ≡ (if nat_lt moment (version + old.life) then count_at old.files version product else 0)
   pub line : filter (live_by (latest_at old.newest) moment) (pieces_in new.line)
@@ -122,25 +124,25 @@ pub record IsTaken (old : Ground) (moment : ℕ) (new : Ground) : Type 0 where
   pub placed : ArePlaced (latest_at old.newest) (pieces_in old.line) → ArePlaced (latest_at new.newest) (pieces_in new.line)
   pub among : (p : Piece) → IsIn p (pieces_in new.line) → IsIn p (pieces_in old.line)
 
-pub filled_of : KeyLaws → (table : LifeTable) (station : StationId) (history : List Event) (moment slot : ℕ) (old : Ground) (new : List Piece) → StandsFor table station old history
+pub filled_of : StationsAreTold → KeyLaws → (table : LifeTable) (station : StationId) (history : List Event) (moment slot : ℕ) (old : Ground) (new : List Piece) → StandsFor table station old history
     → last_above (clock_of history) moment ≡ None
     → filter (live_by (latest_at old.newest) moment) new
     ≡ left_pieces 424 (filter (live_by (latest_at old.newest) moment) (pieces_in old.line))
     ++ fitting_pieces 424 (filter (live_by (latest_at old.newest) moment) (pieces_in old.line))
     → IsFilled table station history moment slot (pieces_in old.line) new
-filled_of keys table station history moment slot old new s e n =
-    filled keys table station history (moment_now history) moment slot (pieces_in old.line) new (clock_below history moment e)
+filled_of told keys table station history moment slot old new s e n =
+    filled told keys table station history (moment_now history) moment slot (pieces_in old.line) new (clock_below history moment e)
     (line_of table station history old s)
     (subst (λ f. filter f new ≡ left_pieces 424 (filter f (pieces_in old.line)) ++ fitting_pieces 424 (filter f (pieces_in old.line)))
     (lives_same table station history moment old s (clock_below history moment e)) n)
 
-pub fill_stands : KeyLaws → (table : LifeTable) (station : StationId) (history : List Event) (moment slot : ℕ) (old new : Ground) → StandsFor table station old history
+pub fill_stands : StationsAreTold → KeyLaws → (table : LifeTable) (station : StationId) (history : List Event) (moment slot : ℕ) (old new : Ground) → StandsFor table station old history
     → last_above (clock_of history) moment ≡ None → slot < 32 → IsMoment moment → IsTaken old moment new
     → StandsFor table station new (fill moment slot ∷ history)
-fill_stands keys table station history moment slot old new s e lt m t =
+fill_stands told keys table station history moment slot old new s e lt m t =
     let all : List Item = items table station history in
     let same : items table station (fill moment slot ∷ history) ≡ all = append-nil all in
-    let f = filled_of keys table station history moment slot old (pieces_in new.line) s e t.line in
+    let f = filled_of told keys table station history moment slot old (pieces_in new.line) s e t.line in
     let le : moment_now history ≤ moment = clock_below history moment e in
     let life : old.life ≡ greatest_life table = old.longest ∙ ap greatest_life s.table_is in
     record {
@@ -149,7 +151,7 @@ fill_stands keys table station history moment slot old new s e lt m t =
       station_is = t.station ∙ s.station_is;
       clock_is = t.clock;
       given_is = t.given ∙ s.given_is ∙ ap length (sym same);
-      newest_is = λ key. subst (λ is. IsKept moment (latest_of is key) (latest_at new.newest key)) (sym same)
+      newest_is = λ key. subst (λ is. IsLastOrEnded moment (latest_of is key) (latest_at new.newest key)) (sym same)
           (kept_then moment (latest_of all key) (latest_at old.newest key) (latest_at new.newest key) (kept_at table station history moment old s le key) (t.newest key));
       files_are = λ v p. t.files v p ∙ ap (λ n. if nat_lt moment (v + n) then count_at old.files v p else 0) life
           ∙ counts_later (λ n. n) (moment_now history) moment (v + greatest_life table) (count_at old.files v p) (length (filed v p all)) le (s.files_are v p)
@@ -178,10 +180,6 @@ number_shown : (segmented : Bool) (number : Option ℕ) (count : ℕ) → (segme
     → (if segmented then count else 0) ≡ unwrap_or (if segmented then number else None) 0
 number_shown true number count f = sym (ap (λ o. unwrap_or o 0) (f refl))
 number_shown false number count f = refl
-
-map_same : (f g : ℕ → Piece) (xs : List ℕ) → ((n : ℕ) → f n ≡ g n) → map f xs ≡ map g xs
-map_same f g [] h = refl
-map_same f g (x ∷ xs) h = rw (h x) (ap (λ l. g x ∷ l) (map_same f g xs h))
 
 map_map : (f : ℕ → Segment) (xs : List ℕ) → map piece_of (map f xs) ≡ map (λ n. piece_of (f n)) xs
 map_map f [] = refl
@@ -242,7 +240,7 @@ is_made table station history moment version chars old item law s le none i =
       until = until;
       product = i.product;
       segmented = segmented;
-      pieces = map_same (piece_at item) (λ n. piece_of (segment_of spec n)) (range_with_len 1 item.count) one
+      pieces = map_same (piece_at item) (λ n. piece_of (segment_of spec n)) (range_with_len 1 item.count) (λ n there. one n)
           ∙ ap (λ n. map (λ m. piece_of (segment_of spec m)) (range_with_len 1 n)) size
           ∙ sym (map_map (segment_of spec) (range_with_len 1 (length (parts_of (file_of spec)))));
     }
@@ -253,8 +251,8 @@ one_count false xs item = ap length (append-nil xs) ∙ zero_more (length xs) wh
   zero_more : (n : ℕ) → n ≡ n + 0
   zero_more n = omega arith
 
-given_kept : (b : Bool) (moment : ℕ) (latest : Latest) (last kept : Option Latest) → IsKept moment last kept
-    → IsKept moment (if b then Some latest else last) (if b then Some latest else kept)
+given_kept : (b : Bool) (moment : ℕ) (latest : Latest) (last kept : Option Latest) → IsLastOrEnded moment last kept
+    → IsLastOrEnded moment (if b then Some latest else last) (if b then Some latest else kept)
 given_kept true moment latest last kept h = inl refl
 given_kept false moment latest last kept h = h
 
@@ -281,9 +279,9 @@ give_stands keys table station history moment version chars old new item s e m v
     ∙ ap (λ n. if has_key key spec then Some (record { version = n; serial = item.serial; until = item.until }) else latest_at old.newest key) i.version_is
     ∙ ap (λ n. if has_key key spec then Some (record { version = version; serial = n; until = item.until }) else latest_at old.newest key) i.serial
     ∙ ap (λ n. if has_key key spec then Some (record { version = version; serial = length all; until = n }) else latest_at old.newest key) i.until in
-    let newest : (key : Key) → IsKept moment (latest_of (items table station after) key) (latest_at new.newest key) = λ (key : Key).
-    subst (λ l. IsKept moment l (latest_at new.newest key)) (sym (latest_push key all spec None) ∙ ap (λ is. latest_of is key) (sym items_are))
-    (subst (IsKept moment (if has_key key spec then Some (latest_of_item spec) else latest_of all key)) (sym (put key))
+    let newest : (key : Key) → IsLastOrEnded moment (latest_of (items table station after) key) (latest_at new.newest key) = λ (key : Key).
+    subst (λ l. IsLastOrEnded moment l (latest_at new.newest key)) (sym (latest_push key all spec None) ∙ ap (λ is. latest_of is key) (sym items_are))
+    (subst (IsLastOrEnded moment (if has_key key spec then Some (latest_of_item spec) else latest_of all key)) (sym (put key))
     (given_kept (has_key key spec) moment (latest_of_item spec) (latest_of all key) (latest_at old.newest key) (kept_at table station history moment old s le key))) in
     let pieces : pieces_in new.line ≡ pieces_in old.line ++ map piece_of (segments_of spec) = p.line ∙ ap (λ l. pieces_in old.line ++ l) i.pieces in
     let logs : segments_in (log table station after) ≡ segments_in (log table station history) ++ segments_of spec

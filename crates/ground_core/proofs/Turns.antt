@@ -9,7 +9,7 @@ use Rattle.list_members.specs.Membership.{IsIn}
 use Rattle.list_members.proofs.Members.{IsIn-before, IsIn-after, IsIn-either, IsIn-from_filter}
 use Rattle.uplink_frame.specs.UplinkFrame.{InformationFrame, fisb_frame, spelled_frames}
 use Rattle.ground_core.specs.Piece.{Piece, room_of_piece, body_of_piece, fitting_pieces, left_pieces}
-use Rattle.ground_core.specs.Turn.{HasFront, IsDropped, IsAired, IsTooLong, IsStopped, fits_in}
+use Rattle.ground_core.specs.Turn.{HasFront, IsDropped, IsFrontAired, IsTooLong, IsStopped, fits_in}
 use Rattle.ground_core.specs.Views.{place_view, piece_at}
 use Rattle.ground_core.specs.declared.item.SentItem.{SentItem}
 use Rattle.ground_core.specs.declared.place.Place.{Place}
@@ -130,7 +130,7 @@ two_each : (p : Piece) → 2 ≤ room_of_piece p
 two_each p = omega arith
 
 air_step : (live : Piece → Bool) (start : List Piece) (turns : ℕ) (frames sent : List InformationFrame) (now new : List Piece) (aired : ℕ)
-    (h : IsTurned live start turns frames now aired) → (ahead : List Piece) → ahead ≡ h.ahead → turns < length start → IsAired live now frames new sent
+    (h : IsTurned live start turns frames now aired) → (ahead : List Piece) → ahead ≡ h.ahead → turns < length start → IsFrontAired live now frames new sent
     → IsTurned live start (turns + 1) sent new (aired + 1)
 air_step live start turns frames sent now new aired h [] e lt d =
     let size : length start ≡ length h.seen + length h.ahead = ap length h.start_is ∙ length-append h.seen h.ahead in
@@ -177,7 +177,7 @@ air_step live start turns frames sent now new aired h (x ∷ more) e lt d =
       less_room a b r u = omega arith
 
 pub turned_air : (live : Piece → Bool) (start : List Piece) (turns : ℕ) (frames sent : List InformationFrame) (now new : List Piece) (aired : ℕ)
-    → IsTurned live start turns frames now aired → turns < length start → IsAired live now frames new sent
+    → IsTurned live start turns frames now aired → turns < length start → IsFrontAired live now frames new sent
     → IsTurned live start (turns + 1) sent new (aired + 1)
 turned_air live start turns frames sent now new aired h lt d = air_step live start turns frames sent now new aired h h.ahead refl lt d
 

@@ -20,7 +20,7 @@ use Rattle.ground_core.specs.History.{Event, accepted, fill, items, items_made, 
 use Rattle.ground_core.specs.Airing.{has_key}
 use Rattle.ground_core.specs.Refusal.{GiveRefusal, coarse, ahead, expired, not_newer, no_file, give_refusal, age_refusal, version_refusal, file_refusal, given_version, text_fault_refusal, key_refusal, weather_refusal}
 use Rattle.ground_core.specs.Broadcast.{IsHistory}
-use Rattle.ground_core.specs.Piece.{Latest, IsKept}
+use Rattle.ground_core.specs.Piece.{Latest, IsLastOrEnded}
 use Rattle.ground_core.specs.StandsFor.{latest_of, latest_of_item}
 use Rattle.ground_core.specs.Told.{latest_version, count_refusal, weather_refusal_by, key_refusal_by, refusal_by}
 use Rattle.ground_core.proofs.KeyLemmas.{KeyLaws, text_key_is}
@@ -145,7 +145,7 @@ above_ended version life latest moment le e lt =
     grind (arith, nat_tests)
 
 -- what has ended stands against no version that is not over too
-kept_age : (moment version life : ℕ) (last kept : Option Latest) (later : Option GiveRefusal) → IsKept moment last kept → EndsBy life last → moment < version + life
+kept_age : (moment version life : ℕ) (last kept : Option Latest) (later : Option GiveRefusal) → IsLastOrEnded moment last kept → EndsBy life last → moment < version + life
     → age_refusal version (latest_version kept) later ≡ age_refusal version (latest_version last) later
 kept_age moment version life last kept later (inl e) h lt = ap (λ l. age_refusal version (latest_version l) later) e
 kept_age moment version life None kept later (inr n) h lt = ap (λ l. age_refusal version (latest_version l) later) n.0
@@ -155,7 +155,7 @@ kept_age moment version life (Some latest) kept later (inr n) h lt =
 
 -- what is kept, as far as it counts against a text at a moment
 pub record Keeps (table : LifeTable) (before : List Item) (moment : ℕ) (latest : Key → Option Latest) (count : ℕ → ℕ → ℕ) : Type 0 where
-  pub newest : (key : Key) → IsKept moment (latest_of before key) (latest key)
+  pub newest : (key : Key) → IsLastOrEnded moment (latest_of before key) (latest key)
   pub files : (version product : ℕ) → moment < version + greatest_life table → count version product ≡ length (filed version product before)
   pub one_life : (key : TextKey) (row : TextRow) → text_row table key.kind ≡ Some row → EndsBy row.life (latest_of before (text_report key))
 

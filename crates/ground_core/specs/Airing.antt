@@ -42,19 +42,20 @@ last_touches (t ∷ later) = if is_touched later t.segment then last_touches lat
     else t ∷ last_touches later
 
 -- the segments that wait at a moment, in the order in which they are sent
-abbrev pub waiting : List Item → List Touch → ℕ → List Segment
-waiting all log moment =
+abbrev pub waiting_segments : List Item → List Touch → ℕ → List Segment
+waiting_segments all log moment =
     map (λ t. t.segment) (filter (λ t. is_live all moment t.segment.item) (last_touches log))
 
 -- the longest prefix that fits the room
-abbrev pub fitting : ℕ → List Segment → List Segment
-fitting room [] = []
-fitting room (s ∷ more) = if nat_le (room_of s) room then s ∷ fitting (room - room_of s) more
+abbrev pub longest_fitting : ℕ → List Segment → List Segment
+longest_fitting room [] = []
+longest_fitting room (s ∷ more) = if nat_le (room_of s) room
+    then s ∷ longest_fitting (room - room_of s) more
     else []
 
 -- what a frame airs at a moment, by the items and by the log of all givings and airings so far
 abbrev pub airing : List Item → List Touch → ℕ → List Segment
-airing all log moment = fitting frame_room (waiting all log moment)
+airing all log moment = longest_fitting frame_room (waiting_segments all log moment)
 
 -- what an event adds to the log
 abbrev pub touches : LifeTable → StationId → List Item → List Touch → Event → List Touch

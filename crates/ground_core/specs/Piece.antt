@@ -67,8 +67,8 @@ abbrev pub HasEnded : ℕ → Option Latest → Type 0
 HasEnded moment None = Unit {0}
 HasEnded moment (Some latest) = latest.until ≤ moment
 
-abbrev pub IsKept : ℕ → Option Latest → Option Latest → Type 0
-IsKept moment last kept = (kept ≡ last) ⊎ ((kept ≡ None) × HasEnded moment last)
+abbrev pub IsLastOrEnded : ℕ → Option Latest → Option Latest → Type 0
+IsLastOrEnded moment last kept = (kept ≡ last) ⊎ ((kept ≡ None) × HasEnded moment last)
 
 -- what is kept of a key is of an item that has a place in the queue
 pub record HasPlace (line : List Piece) (key : Key) (kept : Latest) : Type 0 where

@@ -8,10 +8,10 @@ use Rattle.uplink_frame.specs.declared.station.StationId.{StationId}
 use Rattle.picture_core.specs.Key.{Key}
 use Rattle.ground_core.specs.Item.{Item, Segment, is_segmented, end_of}
 use Rattle.ground_core.specs.History.{Event, items}
-use Rattle.ground_core.specs.Airing.{has_key, log, waiting}
+use Rattle.ground_core.specs.Airing.{has_key, log, waiting_segments}
 use Rattle.ground_core.specs.Broadcast.{IsHistory}
 pub use Rattle.ground_core.specs.OnAir.{clock_of, moment_now, IsOnAir}
-use Rattle.ground_core.specs.Piece.{Piece, Latest, IsKept, ArePlaced, piece_of, live_by}
+use Rattle.ground_core.specs.Piece.{Piece, Latest, IsLastOrEnded, ArePlaced, piece_of, live_by}
 use Rattle.ground_core.specs.Views.{latest_at, count_at, pieces_in}
 use Rattle.ground_core.specs.declared.ground.Ground.{Ground}
 
@@ -54,7 +54,7 @@ pub record StandsFor (table : LifeTable) (station : StationId) (sender : Ground)
   pub clock_is : sender.clock ≡ clock_of history
   pub given_is : sender.given ≡ length (items table station history)
   pub newest_is : (key : Key)
-      → IsKept (moment_now history) (latest_of (items table station history) key)
+      → IsLastOrEnded (moment_now history) (latest_of (items table station history) key)
       (latest_at sender.newest key)
   pub files_are : (version product : ℕ)
       → count_at sender.files version product
@@ -65,5 +65,5 @@ pub record StandsFor (table : LifeTable) (station : StationId) (sender : Ground)
   pub of_log : (p : Piece) → IsIn p (pieces_in sender.line) → IsOfLog table station history p
   pub line_is : filter (live_by (latest_at sender.newest) (moment_now history))
       (pieces_in sender.line)
-      ≡ map piece_of (waiting (items table station history) (log table station history)
+      ≡ map piece_of (waiting_segments (items table station history) (log table station history)
       (moment_now history))

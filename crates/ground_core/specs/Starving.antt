@@ -5,7 +5,7 @@ use Rattle.life_table.specs.LifeTable.{LifeTable}
 use Rattle.uplink_frame.specs.declared.station.StationId.{StationId}
 use Rattle.ground_core.specs.Item.{Segment, room_of}
 use Rattle.ground_core.specs.History.{Event, accepted, fill, moment_of, items}
-use Rattle.ground_core.specs.Airing.{log, waiting, airing}
+use Rattle.ground_core.specs.Airing.{log, waiting_segments, airing}
 use Rattle.ground_core.specs.Broadcast.{IsHistory}
 
 -- how many bytes of frames some segments take
@@ -15,7 +15,7 @@ bytes_of (s ∷ more) = room_of s + bytes_of more
 
 abbrev pub waiting_after : LifeTable → StationId → List Event → ℕ → List Segment
 waiting_after table station history moment =
-    waiting (items table station history) (log table station history) moment
+    waiting_segments (items table station history) (log table station history) moment
 
 abbrev pub aired_after : LifeTable → StationId → List Event → ℕ → List Segment
 aired_after table station history moment =

@@ -22,7 +22,7 @@ pub record IsDropped (live : Piece → Bool) (old : List Piece) (frames : List I
   pub line : new ≡ has.behind
   pub frames_stay : sent ≡ frames
 
-pub record IsAired (live : Piece → Bool) (old : List Piece) (frames : List InformationFrame)
+pub record IsFrontAired (live : Piece → Bool) (old : List Piece) (frames : List InformationFrame)
     (new : List Piece) (sent : List InformationFrame) : Type 0 where
   pub has : HasFront old
   pub lives : live has.front ≡ true
@@ -46,5 +46,5 @@ pub record IsStopped (live : Piece → Bool) (old : List Piece) (frames : List I
 abbrev pub IsTurn : (Piece → Bool) → List Piece → List InformationFrame → List Piece
     → List InformationFrame → Turn → Type 0
 IsTurn live old frames new sent Dropped = IsDropped live old frames new sent
-IsTurn live old frames new sent Aired = IsAired live old frames new sent
+IsTurn live old frames new sent Aired = IsFrontAired live old frames new sent
 IsTurn live old frames new sent Stopped = IsStopped live old frames new sent

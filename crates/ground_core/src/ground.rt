@@ -26,7 +26,7 @@ use picture_core::laws::keys_are_ordered;
 use segment_core::{is_segmented, part_count};
 use std::alloc::Global;
 use std::rc::Rc;
-use uplink_frame::{AppData, StationId};
+use uplink_frame::{AppData, StationId, stations_are_told};
 
 /// The product of reports.
 const REPORTS: u16 = 413;
@@ -116,7 +116,7 @@ impl Ground {
     {
         longest_is_greatest();
         keys_are_ordered();
-        if let Some(kept) = self.later_clock(moment) {
+        if let Some(kept) = self.last_above(moment) {
             return Err(GiveFault::Clock { kept });
         }
         let item = self.item_of_text(moment, version, text)?;
@@ -153,7 +153,8 @@ impl Ground {
     {
         apdu_reads_back();
         keys_are_ordered();
-        if let Some(kept) = self.later_clock(moment) {
+        stations_are_told();
+        if let Some(kept) = self.last_above(moment) {
             return Err(FillFault::Clock { kept });
         }
         let mut frames = AppData::new();
@@ -170,7 +171,7 @@ impl Ground {
     }
 
     /// The moment of the last accepted call, where the given one is below it.
-    fn later_clock(&self, moment: Moment) -> Option<Moment>
+    fn last_above(&self, moment: Moment) -> Option<Moment>
         ensures last { result ≡ last_above self.now.clock moment }
         ensures in_range { IsMoment moment }
     {

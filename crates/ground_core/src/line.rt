@@ -6,7 +6,7 @@ ghost use Rattle.list_members.specs.Membership.{IsIn};
 ghost use Rattle.uplink_frame.specs.UplinkFrame.{fisb_frame};
 ghost use Rattle.ground_core.specs.Views.{latest_at, piece_at};
 ghost use Rattle.picture_core.specs.Key.{Key};
-ghost use Rattle.ground_core.specs.Piece.{live_by, IsKept, ArePlaced};
+ghost use Rattle.ground_core.specs.Piece.{live_by, IsLastOrEnded, ArePlaced};
 
 use crate::item::SentItem;
 use crate::newest::Newest;
@@ -117,7 +117,7 @@ impl Line {
             (pieces_in self.old)) }
         ensures among { (p : Piece) → IsIn p (pieces_in self.new) → IsIn p (pieces_in self.old) }
         ensures kept { (key : Key)
-            → IsKept moment (latest_at newest.old key) (latest_at newest.new key) }
+            → IsLastOrEnded moment (latest_at newest.old key) (latest_at newest.new key) }
         ensures placed { ArePlaced (latest_at newest.old) (pieces_in self.old)
             → ArePlaced (latest_at newest.new) (pieces_in self.new) }
     {
@@ -142,7 +142,7 @@ impl Line {
         frames: &mut AppData,
     ) -> Turn
         ensures kept { (key : Key)
-            → IsKept moment (latest_at newest.old key) (latest_at newest.new key) }
+            → IsLastOrEnded moment (latest_at newest.old key) (latest_at newest.new key) }
         ensures placed { ArePlaced (latest_at newest.old) (pieces_in self.old)
             → ArePlaced (latest_at newest.new) (pieces_in self.new) }
         ensures turn { IsTurn (live_by (latest_at newest.old) moment)

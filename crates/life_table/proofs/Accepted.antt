@@ -6,6 +6,7 @@ use Rattle.std.specs.Ordering.{int_eq}
 use Rattle.std.specs.Prelude.{int_lt, unsigned_abs}
 use Rattle.std.proofs.lemmas.Bool.{cases_Bool, leb-true, ltb-false, false≢true, not-false}
 use Rattle.std.proofs.lemmas.Slice.Eq.{bytes_eq-Decides}
+use Rattle.list_members.proofs.Tests.{none_from}
 use Rattle.toml.specs.Data.{Data, Items, no_items, item}
 use Rattle.fisb_time.specs.declared.form.TimeForm.{TimeForm}
 use Rattle.fisb_time.specs.declared.form.TimeForm.TheVariants.{Minute, Second, DayMinute, DaySecond}
@@ -68,10 +69,6 @@ two_or_three z n h =
       | inr f ↦ let e = rw f at h in let (_, same) = some_if (int_eq z (pos 3)) 3 n e in inr (sym same)
     ]
 
-absent : {X : Type 0} (o : Option X) → is_some o ≡ false → o ≡ None
-absent None h = refl
-absent (Some x) h = absurd (false≢true (sym h))
-
 own_is_new : (late : ℕ) (rows : List TextRow) (word : List ℕ) (words life form : ℤ) (r : TextRow) → own_row late rows word words life form ≡ Ok r → IsNew late rows r
 own_is_new late rows word words life form r h =
     let (spelt, h1) = let_through (not (is_word word)) Word _ r h in
@@ -83,7 +80,7 @@ own_is_new late rows word words life form r h =
     let (lives, within) = life_lives late shown life seconds e5 in
     let is : is_word word ≡ true = not-false (is_word word) spelt in
     let sound : IsSound late (row word word count seconds shown) = record { word = is; kind = is; words = two_or_three words count e3; lives = lives; within = within } in
-    subst (IsNew late rows) same (record { sound = sound; new = absent (find (λ q. bytes_eq q.word word) rows) none; named = inl refl })
+    subst (IsNew late rows) same (record { sound = sound; new = none_from (find (λ q. bytes_eq q.word word) rows) none; named = inl refl })
 
 alike_is_new : (late : ℕ) (rows : List TextRow) (word kind : List ℕ) (r : TextRow) → AllBehind (IsNew late) rows → alike_row rows word kind ≡ Ok r → IsNew late rows r
 alike_is_new late rows word kind r all h =
@@ -101,7 +98,7 @@ alike_is_new late rows word kind r all h =
     let named : find (λ q. bytes_eq q.word kind) rows ≡ Some (row kind kind own.words own.life own.form) = e4 ∙ ap Some whole in
     let sound : IsSound late (row word kind own.words own.life own.form) =
     record { word = not-false (is_word word) spelt; kind = not-false (is_word kind) spelt_kind; words = base.words; lives = base.lives; within = base.within } in
-    subst (IsNew late rows) same (record { sound = sound; new = absent (find (λ q. bytes_eq q.word word) rows) none; named = inr named })
+    subst (IsNew late rows) same (record { sound = sound; new = none_from (find (λ q. bytes_eq q.word word) rows) none; named = inr named })
 
 entry_is_new : (late : ℕ) (rows : List TextRow) (value : Data) (r : TextRow) → AllBehind (IsNew late) rows → text_entry late rows value ≡ Ok r → IsNew late rows r
 unfolding text_entry own_text alike_text
@@ -153,7 +150,7 @@ radar_is_new late rows value r h =
     let same : radar number seconds shown ≡ r = cc in
     let (lives, within) = life_lives late shown life seconds e7 in
     subst (IsNewRadar late rows) same
-    (record { product = radar_number product number e4; lives = lives; within = within; new = absent (find (λ q. q.product == number) rows) none })
+    (record { product = radar_number product number e4; lives = lives; within = within; new = none_from (find (λ q. q.product == number) rows) none })
 
 radars_behind : (late before : ℕ) (rows : List RadarRow) (items : Items) (all : List RadarRow) → AllBehind (IsNewRadar late) rows → radar_rows late before rows items ≡ Ok all
     → AllBehind (IsNewRadar late) all

@@ -5,6 +5,7 @@ use Rattle.std.specs.List.{AllByRecursion}
 use Rattle.std.proofs.lemmas.Slice.Eq.{bytes_eq-Decides}
 use Rattle.std.proofs.lemmas.List.Folds.{fold-map}
 use Rattle.std.specs.Str.{bytes_eq}
+use Rattle.list_members.proofs.Tests.{mapped_some}
 use Rattle.life_table.specs.LifeTable.{TextRow, RadarRow, row, radar, text_row, radar_row, greatest_of, longest}
 use Rattle.life_table.specs.Views.{text_view, radar_view, table_of, greater}
 use Rattle.life_table.specs.declared.rows.KeptText.{KeptText}
@@ -92,18 +93,14 @@ radar_lent product late ks rs k h =
     let w : k.product ≡ product = found_product product (map radar_view rs) (radar_view k) (sym e) in
     subst (λ p. Some (radar p k.life k.form) ≡ radar_row (table_of late ks rs) product) w e
 
-is_some_map : {X Y : Type 0} (v : X → Y) (o : Option X) → is_some (option_map v o) ≡ is_some o
-is_some_map v None = refl
-is_some_map v (Some x) = refl
-
 -- whether a row stands, and the row, over kept rows and over the rows that they stand for
 pub text_stands : (word : List ℕ) (ks : List KeptText) (o : Option (Bor KeptText)) → option_map (λ r. r.now) o ≡ find (λ k. bytes_eq (string_bytes k.word) word) ks
     → is_some o ≡ is_some (find (λ r. bytes_eq r.word word) (map text_view ks))
-text_stands word ks o e = rw (← find_text word ks, is_some_map text_view (find (λ k. bytes_eq (string_bytes k.word) word) ks), ← e, is_some_map (λ (r : Bor KeptText). r.now) o)
+text_stands word ks o e = rw (← find_text word ks, mapped_some text_view (find (λ k. bytes_eq (string_bytes k.word) word) ks), ← e, mapped_some (λ (r : Bor KeptText). r.now) o)
 
 pub radar_stands : (product : ℕ) (ks : List KeptRadar) (o : Option (Bor KeptRadar)) → option_map (λ r. r.now) o ≡ find (λ k. k.product == product) ks
     → is_some o ≡ is_some (find (λ r. r.product == product) (map radar_view ks))
-radar_stands product ks o e = rw (← find_radar product ks, is_some_map radar_view (find (λ k. k.product == product) ks), ← e, is_some_map (λ (r : Bor KeptRadar). r.now) o)
+radar_stands product ks o e = rw (← find_radar product ks, mapped_some radar_view (find (λ k. k.product == product) ks), ← e, mapped_some (λ (r : Bor KeptRadar). r.now) o)
 
 pub text_earlier : (word : List ℕ) (ks : List KeptText) (o : Option (Bor KeptText)) → option_map (λ r. r.now) o ≡ find (λ k. bytes_eq (string_bytes k.word) word) ks
     → option_map (λ r. text_view r.now) o ≡ find (λ r. bytes_eq r.word word) (map text_view ks)

@@ -1,6 +1,6 @@
 -- Members of numbers that follow one another, tests of all members of a list, and what is found among those that pass
 -- another test.
-use Rattle.std.proofs.Common.{◌≡◌, ℕ, zero, suc, ◌+◌, ◌<◌, ◌≤◌, Bool, true, false, List, [], ◌∷◌, filter, flat_map, find}
+use Rattle.std.proofs.Common.{◌≡◌, ℕ, zero, suc, ◌+◌, ◌<◌, ◌≤◌, Bool, true, false, List, [], ◌∷◌, filter, flat_map, find, map}
 use Rattle.std.proofs.Common.{refl, ap, ◌∙◌, inl, inr, arith}
 use Rattle.std.specs.List.{list_all, list_any, range_with_len}
 use Rattle.std.proofs.lemmas.Bool.{cases_Bool, cases_eq, and_parts, and_cases, and_from, false_from_ne_true}
@@ -52,6 +52,13 @@ list_any_same p q [] each = refl
 list_any_same p q (x ∷ xs) each =
     let here : p x ≡ q x = each x (inl refl) in
     let later : list_any p xs ≡ list_any q xs = list_any_same p q xs (λ y h. each y (inr h)) in cc
+
+pub map_same : {A B : Type 0} (f g : A → B) (xs : List A) → ((x : A) → IsIn x xs → f x ≡ g x)
+    → map f xs ≡ map g xs
+map_same f g [] each = refl
+map_same f g (x ∷ xs) each =
+    let here : f x ≡ g x = each x (inl refl) in
+    let later : map f xs ≡ map g xs = map_same f g xs (λ y h. each y (inr h)) in cc
 
 pub flat_map_same : {A B : Type 0} (f g : A → List B) (xs : List A) → ((x : A) → IsIn x xs → f x ≡ g x)
     → flat_map f xs ≡ flat_map g xs

@@ -9,6 +9,7 @@ use Rattle.std.specs.Ordering.{nat_cmp, is_eq, ordering_reverse, ordering_then}
 use Rattle.std.specs.declared.cmp.Ordering.TheVariants.{Less, Equal, Greater}
 use Rattle.std.proofs.lemmas.Cmp.{nat_cmp_total, nat_list_cmp_total, then_total, on_total, tied_itself}
 use Rattle.std.proofs.lemmas.Bool.{cases_Bool, eqb-true, and_parts, and_from}
+use Rattle.std.proofs.Math.Bool.{and_assoc}
 use Rattle.std.proofs.lemmas.Map.Text.{is_eq-slice_cmp}
 use Rattle.bit_fields.specs.Bits.{bit}
 use Rattle.radar_core.specs.Keys.{block_key_cmp}
@@ -147,10 +148,6 @@ is_eq-third None (Some w) = refl
 is_eq-third (Some v) None = refl
 is_eq-third (Some v) (Some w) = is_eq-slice_cmp v w
 
-and_regroup : (x y z : Bool) → (x && (y && z)) ≡ ((x && y) && z)
-and_regroup true y z = refl
-and_regroup false y z = refl
-
 is_eq-text_key_cmp : (a b : TextKey) → is_eq (text_key_cmp a b) ≡ same_text_key a b
 is_eq-text_key_cmp a b =
     let kind = slice_cmp nat_cmp a.kind b.kind in
@@ -158,7 +155,7 @@ is_eq-text_key_cmp a b =
     let third = option_cmp (slice_cmp nat_cmp) a.third b.third in
     sym (tied_then kind (ordering_then place third))
     ∙ ap (λ (r : Bool). is_eq kind && r) (sym (tied_then place third))
-    ∙ and_regroup (is_eq kind) (is_eq place) (is_eq third)
+    ∙ sym (and_assoc (is_eq kind) (is_eq place) (is_eq third))
     ∙ ap₂ (λ (r s : Bool). r && s)
     (ap₂ (λ (r s : Bool). r && s) (is_eq-slice_cmp a.kind b.kind) (is_eq-slice_cmp a.place b.place))
     (is_eq-third a.third b.third)

@@ -1,4 +1,4 @@
-use crate::{Poly, degree_laws, end_zero_laws, few_roots, ring_laws, value_laws};
+use crate::Poly;
 use gf256_core::Uat;
 
 // Whether these are the coefficients, lowest power first.
@@ -107,14 +107,4 @@ fn a_division_leaves_a_rest_of_lower_degree(rt: HostRuntime) {
     let (none, whole) = division(&divisor, &dividend).expect(&rt, "a divisor");
     assert!(rt; has(&none, &[]));
     assert!(rt; has(&whole, &[0x03, 0x87, 0x02]));
-}
-
-#[test]
-fn laws_may_be_called(rt: HostRuntime) {
-    ring_laws();
-    end_zero_laws();
-    degree_laws();
-    value_laws();
-    few_roots();
-    assert!(rt; has(&Poly::<8>::zero(), &[]));
 }

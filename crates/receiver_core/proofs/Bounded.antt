@@ -4,14 +4,14 @@ use Rattle.std.specs.List.{sum_by}
 use Rattle.std.specs.Option.{unwrap_or}
 use Rattle.uplink_frame.specs.Laws.{StationsAreTold}
 use Rattle.life_table.specs.LifeTable.{LifeTable}
-use Rattle.segment_core.specs.Arrival.{Arrival, completed}
+use Rattle.segment_core.specs.Arrival.{Arrival, whole_payloads}
 use Rattle.segment_core.specs.Bound.{StoresAreBounded, live_arrivals, pieces_size}
 use Rattle.segment_core.specs.Store.{is_live}
 use Rattle.picture_core.specs.Entry.{Entry}
 use Rattle.picture_core.specs.Kept.{IsStore, live_entries}
 use Rattle.receiver_core.specs.Bound.{IsBounded, IsFewFor, IsPurgedAt, number_alive}
 use Rattle.receiver_core.specs.Reception.{Reception, arrivals, contents}
-use Rattle.receiver_core.specs.StandsFor.{Held, StandsFor, last_moment, longest_lives}
+use Rattle.receiver_core.specs.StandsFor.{Held, StandsFor, moment_now, longest_lives}
 use Rattle.receiver_core.proofs.Completing.{completed_weight}
 use Rattle.receiver_core.proofs.FewEntries.{RowsAreWithin, live_contents}
 use Rattle.receiver_core.proofs.FrameArrivals.{NamesNear}
@@ -60,7 +60,7 @@ module _ (laws : HasLaws) (table : LifeTable) (heard : List Reception) (held : H
       let most = segments_sum laws.names table moment heard stands.receptions in
       omega (arith, bound, same, weighs, most)
 
-  last_is : last_moment heard ≡ moment
+  last_is : moment_now heard ≡ moment
   last_is = ap (λ o. unwrap_or o 0) (sym stands.clock ∙ purged.segments.clock)
 
   few_entries : length held.picture.entries ≤ 2120 * alive
@@ -69,7 +69,7 @@ module _ (laws : HasLaws) (table : LifeTable) (heard : List Reception) (held : H
       subst (λ now. IsStore now (contents table heard) held.picture.entries) last_is stands.shows in
       let bound = laws.entries moment (contents table heard) held.picture.entries shows in
       let kept = ap length purged.entries in
-      let whole = live_contents laws.rows table moment (completed (arrivals table heard)) in
+      let whole = live_contents laws.rows table moment (whole_payloads (arrivals table heard)) in
       let once = completed_weight laws.told (lives_now laws.names table moment) (arrivals table heard)
       (are_numbered laws.names table heard) in
       let most = bytes_sum laws.names table moment heard stands.receptions in

@@ -10,7 +10,7 @@ use Rattle.list_members.proofs.Ranges.{all_in, list_all_same, list_any_same, ran
 use Rattle.apdu_core.specs.declared.unit.Seg.{Seg}
 use Rattle.uplink_frame.specs.Laws.{StationsAreTold}
 use Rattle.uplink_frame.specs.Station.{same_station}
-use Rattle.segment_core.specs.Arrival.{Arrival, Whole, completed, completed_after, completes, has_piece, is_piece, joined_payload, other_numbers, same_file, whole_with}
+use Rattle.segment_core.specs.Arrival.{Arrival, Whole, whole_payloads, completed_after, completes, has_piece, is_piece, joined_payload, other_numbers, same_file, whole_with}
 use Rattle.receiver_core.proofs.JoinedSizes.{is_of_file, joined_size}
 use Rattle.receiver_core.proofs.Weights.{all_but, all_more, cond_below, sum_above, sum_of_two}
 
@@ -232,7 +232,7 @@ module _ (told : StationsAreTold) (live : ℕ → ℕ → Bool) where
       (completed_after (came ++ a ∷ []) later) in
       omega (arith, here, more, moved, split)
 
-  pub completed_weight : (came : List Arrival) → AreNumbered came → sum_by whole_weight (completed came) ≤ sum_by weight came
+  pub completed_weight : (came : List Arrival) → AreNumbered came → sum_by whole_weight (whole_payloads came) ≤ sum_by weight came
   completed_weight came numbered =
       let done = completed_more [] came numbered in
       let least = sum_above (done_weight came) weight came (λ b. cond_below (is_done came b b.segmentation) true (weight b)

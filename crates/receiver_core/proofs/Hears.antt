@@ -12,7 +12,7 @@ use Rattle.receiver_core.specs.Answers.{HasHeard}
 use Rattle.receiver_core.specs.Hearing.{HearRefusal, IsHeardOf, clock_of, clock, is_valid, lost, no_application, payload_refusal, refusal_of_air}
 use Rattle.receiver_core.specs.Laws.{FramesAreReception, KeepsReception, arrivals_heard, entries_heard}
 use Rattle.receiver_core.specs.Reception.{Reception, contents}
-use Rattle.receiver_core.specs.StandsFor.{Held, StandsFor, last_moment}
+use Rattle.receiver_core.specs.StandsFor.{Held, StandsFor, moment_now}
 use Rattle.receiver_core.specs.declared.heard.Heard.{Heard}
 
 pub in_time : (clock : Option ℕ) (moment : ℕ) → IsNotBefore clock moment → last_above clock moment ≡ None
@@ -65,7 +65,7 @@ stands_after frames keeps table before after past moment payload s t =
       clock = t.clock;
       joins = subst (StandsForArrivals after.joiner.store) (frames table past heard) t.joins;
       shows = subst (IsStore moment (contents table (heard ∷ past))) (sym t.entries)
-          (keeps table past heard (last_moment past) before.picture.entries (last_below (clock_of past) moment below) s.shows);
+          (keeps table past heard (moment_now past) before.picture.entries (last_below (clock_of past) moment below) s.shows);
     }
 
 abbrev refusal_by : Bool → Option HearRefusal

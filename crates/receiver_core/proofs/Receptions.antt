@@ -8,7 +8,7 @@ use Rattle.list_members.proofs.Members.{IsIn-either}
 use Rattle.life_table.specs.LifeTable.{LifeTable}
 use Rattle.uplink_frame.specs.declared.station.StationId.{StationId}
 use Rattle.uplink_frame.specs.UplinkFrame.{InformationFrame, information_frames}
-use Rattle.segment_core.specs.Arrival.{Arrival, Whole, completed, completed_after, completes}
+use Rattle.segment_core.specs.Arrival.{Arrival, Whole, whole_payloads, completed_after, completes}
 use Rattle.segment_core.specs.Joining.{CompletedGrows}
 use Rattle.picture_core.specs.Contents.{life_of, payload_entries}
 use Rattle.picture_core.specs.Entry.{Entry}
@@ -76,7 +76,7 @@ unfolding arrivals_of_frames
 contents_added grows table past heard =
     ap (λ es. contents table past ++ es)
     (entries_all table (station_heard heard) heard.moment (arrivals table past) (information_frames heard.payload))
-    ∙ sym (flat_map-append (whole_entries table) (completed (arrivals table past))
+    ∙ sym (flat_map-append (whole_entries table) (whole_payloads (arrivals table past))
     (completed_after (arrivals table past) (arrivals_in table heard)))
     ∙ ap (flat_map (whole_entries table)) (sym (grows (arrivals table past) (arrivals_in table heard)))
 
@@ -96,7 +96,7 @@ lives_whole payloads table (whole ∷ more) =
     (payloads table whole.product whole.version whole.payload) (lives_whole payloads table more)
 
 pub lives_contents : PayloadsLive → (table : LifeTable) (past : List Reception) → HaveLife (life_of table) (contents table past)
-lives_contents payloads table past = lives_whole payloads table (completed (arrivals table past))
+lives_contents payloads table past = lives_whole payloads table (whole_payloads (arrivals table past))
 
 pub lives_heard : PayloadsLive → (table : LifeTable) (past : List Reception) (heard : Reception)
     → HaveLife (life_of table) (entries_heard table past heard)

@@ -6,7 +6,7 @@ use Rattle.life_table.specs.LifeTable.{LifeTable, greatest_life}
 use Rattle.segment_core.specs.Bound.{IsPurged, pieces_size}
 use Rattle.picture_core.specs.Kept.{live_entries}
 use Rattle.receiver_core.specs.Reception.{Reception}
-use Rattle.receiver_core.specs.StandsFor.{Held, IsSettled, StandsFor, last_moment}
+use Rattle.receiver_core.specs.StandsFor.{Held, IsSettled, StandsFor, moment_now}
 
 -- something that a reception brought may live at the moment
 abbrev pub may_live : LifeTable → ℕ → Reception → Bool
@@ -29,7 +29,7 @@ pub record IsFewFor (held : Held) (number : ℕ) : Type 0 where
 -- what is held for these receptions is little, by those of which something may live at the last of
 -- them
 abbrev pub IsBounded : LifeTable → List Reception → Held → Type 0
-IsBounded table heard held = IsFewFor held (number_alive table (last_moment heard) heard)
+IsBounded table heard held = IsFewFor held (number_alive table (moment_now heard) heard)
 
 -- nothing is held that has ended at the moment
 pub record IsPurgedAt (held : Held) (moment : ℕ) : Type 0 where

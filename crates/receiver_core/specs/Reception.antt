@@ -14,7 +14,7 @@ use Rattle.apdu_core.specs.Apdu.{Apdu, apdu_of}
 use Rattle.life_table.specs.Products.{is_read_product}
 use Rattle.life_table.specs.LifeTable.{LifeTable, longest}
 use Rattle.segment_core.specs.File.{most_segments}
-use Rattle.segment_core.specs.Arrival.{Arrival, Whole, completed}
+use Rattle.segment_core.specs.Arrival.{Arrival, Whole, whole_payloads}
 use Rattle.picture_core.specs.Contents.{payload_entries}
 use Rattle.picture_core.specs.Entry.{Entry}
 use Rattle.picture_core.specs.Picture.{picture}
@@ -86,7 +86,7 @@ whole_entries table whole = payload_entries table whole.product whole.version wh
 
 -- what a list of receptions brought, and the picture of it
 abbrev pub contents : LifeTable → List Reception → List Entry
-contents table heard = flat_map (whole_entries table) (completed (arrivals table heard))
+contents table heard = flat_map (whole_entries table) (whole_payloads (arrivals table heard))
 
 abbrev pub received_picture : LifeTable → List Reception → ℕ → List Entry
 received_picture table heard moment = picture (contents table heard) moment

@@ -31,8 +31,8 @@ pub record IsSettled (held : Held) : Type 0 where
   pub no_entries_marked : held.picture.mark ≡ None
 
 -- the moment of the last reception; 0 before the first
-abbrev pub last_moment : List Reception → ℕ
-last_moment heard = unwrap_or (clock_of heard) 0
+abbrev pub moment_now : List Reception → ℕ
+moment_now heard = unwrap_or (clock_of heard) 0
 
 -- A receiver stands for the receptions that it heard, the newest first: its joiner stands for what
 -- arrived, and its entries are the picture of all that became whole, from the last reception on.
@@ -41,4 +41,4 @@ pub record StandsFor (table : LifeTable) (held : Held) (heard : List Reception) 
   pub receptions : AreReceptions heard
   pub clock : held.joiner.store.clock ≡ clock_of heard
   pub joins : StandsForArrivals held.joiner.store (arrivals table heard)
-  pub shows : IsStore (last_moment heard) (contents table heard) held.picture.entries
+  pub shows : IsStore (moment_now heard) (contents table heard) held.picture.entries

@@ -5,16 +5,13 @@ use Rattle.std.specs.Result.{result_ok}
 use Rattle.uplink_frame.specs.declared.station.StationId.{StationId}
 use Rattle.uplink_frame.specs.UplinkFrame.{InformationFrame}
 use Rattle.life_table.specs.LifeTable.{LifeTable}
-use Rattle.segment_core.specs.Arrival.{Arrival, Whole, completes, whole_with}
+use Rattle.segment_core.specs.Arrival.{Arrival, Whole, completes}
 use Rattle.segment_core.specs.Store.{is_live}
 use Rattle.segment_core.specs.Views.{arrival_view}
 use Rattle.segment_core.specs.declared.arrived.Arrived.{Arrived}
 use Rattle.segment_core.specs.declared.arrived.Longest.{Longest}
-use Rattle.segment_core.specs.declared.arrived.Taken.{Taken}
-use Rattle.segment_core.specs.declared.arrived.Taken.TheVariants as taken
 use Rattle.picture_core.specs.Entry.{Entry}
 use Rattle.receiver_core.specs.Reception.{arrival_in, whole_entries}
-use Rattle.receiver_core.specs.UnreadParts.{whole_reasons}
 use Rattle.receiver_core.specs.declared.unread.UnreadReason.{UnreadReason}
 use Rattle.receiver_core.specs.declared.unread.UnreadReason.TheVariants.{Stale}
 
@@ -23,20 +20,6 @@ abbrev pub arrival_in_time : Longest → ℕ → Result Arrived UnreadReason →
 arrival_in_time lives moment (Err reason) = Err reason
 arrival_in_time lives moment (Ok a) =
     if is_live lives moment a.product a.version then Ok (arrival_view a) else Err Stale
-
--- the payload that an answer makes whole
-abbrev pub whole_taken : Arrival → Taken → Option Whole
-whole_taken a (taken.Whole payload) = Some (whole_with a payload)
-whole_taken a taken.Waits = None
-whole_taken a taken.Again = None
-whole_taken a taken.Stale = None
-
--- why it is passed on unread, or what is in it
-abbrev pub taken_reasons : LifeTable → Arrival → Taken → List UnreadReason
-taken_reasons table a (taken.Whole payload) = whole_reasons table (Some (whole_with a payload))
-taken_reasons table a taken.Waits = []
-taken_reasons table a taken.Again = []
-taken_reasons table a taken.Stale = Stale ∷ []
 
 -- the entries of the payload that a frame makes whole
 abbrev pub entries_of_whole : LifeTable → Option Whole → List Entry

@@ -1,18 +1,20 @@
 -- What a reception passes on unread, in the order in which it was found.
 use Rattle.std.specs.Prelude.{ℕ, ◌==◌, if◌then◌else◌, List, [], ◌∷◌, ◌++◌, map, flat_map, Option}
-use Rattle.std.specs.Prelude.{Some, None, option_to_list, Result, Ok, Err, length}
-use Rattle.std.specs.Result.{result_ok}
+use Rattle.std.specs.Prelude.{Some, None, Result, Ok, Err, length}
 use Rattle.dlac_text.specs.Reports.{reports_of}
 use Rattle.uplink_frame.specs.declared.station.StationId.{StationId}
 use Rattle.uplink_frame.specs.UplinkFrame.{InformationFrame, information_frames}
 use Rattle.apdu_core.specs.Apdu.{product_of}
 use Rattle.life_table.specs.LifeTable.{LifeTable}
 use Rattle.text_reports.specs.TextKey.{TextKey, KeyFault, few_words, unlisted, text_key}
-use Rattle.segment_core.specs.Arrival.{Arrival, Whole, completes}
+use Rattle.segment_core.specs.Arrival.{Arrival, Whole, completes, whole_with}
+use Rattle.segment_core.specs.declared.arrived.Taken.{Taken}
+use Rattle.segment_core.specs.declared.arrived.Taken.TheVariants as taken
 use Rattle.life_table.specs.Products.{text_product}
 use Rattle.receiver_core.specs.Reception.{Reception, arrival_in, arrivals, station_heard}
+use Rattle.receiver_core.specs.Steps.{arrived_with}
 use Rattle.receiver_core.specs.declared.unread.UnreadReason.{UnreadReason}
-use Rattle.receiver_core.specs.declared.unread.UnreadReason.TheVariants.{Words, Unlisted}
+use Rattle.receiver_core.specs.declared.unread.UnreadReason.TheVariants.{Stale, Unlisted, Words}
 
 -- a part that is passed on: why, the type of its information frame, its product or 0, and the
 -- length of its body
@@ -42,6 +44,13 @@ whole_reasons table (Some whole) = if whole.product == text_product
     then flat_map (λ text. report_reasons (text_key table text)) (reports_of whole.payload)
     else []
 
+-- why an arrival is passed on unread, or what is in the payload that the answer to it makes whole
+abbrev pub taken_reasons : LifeTable → Arrival → Taken → List UnreadReason
+taken_reasons table a (taken.Whole payload) = whole_reasons table (Some (whole_with a payload))
+taken_reasons table a taken.Waits = []
+taken_reasons table a taken.Again = []
+taken_reasons table a taken.Stale = Stale ∷ []
+
 -- an information frame that does not arrive, or the reports without a key of the payload that it
 -- makes whole
 abbrev pub frame_reasons : LifeTable → List Arrival → Result Arrival UnreadReason
@@ -56,7 +65,7 @@ unread_after table station moment before [] = []
 unread_after table station moment before (frame ∷ more) =
     let arrived = arrival_in table station moment frame in
     map (part_in frame) (frame_reasons table before arrived)
-    ++ unread_after table station moment (before ++ option_to_list (result_ok arrived)) more
+    ++ unread_after table station moment (arrived_with before arrived) more
 
 -- the unread parts of a reception after those before it
 abbrev pub unread_parts : LifeTable → List Reception → Reception → List UnreadPart

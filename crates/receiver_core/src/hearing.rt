@@ -1,9 +1,11 @@
 //! What the information frames of a payload bring, and what of them is passed on unread.
 ghost use Rattle.std.specs.Prelude.{◌≡◌, ◌≤◌, ◌++◌, List, IfOk, OnOk, length, map};
+ghost use Rattle.std.specs.Option.{option_map};
 ghost use Rattle.uplink_frame.specs.UplinkFrame.{information_frames};
 ghost use Rattle.uplink_frame.specs.Views.{frame_view};
 ghost use Rattle.picture_core.specs.Kept.{put_all};
-ghost use Rattle.segment_core.specs.Arrival.{Arrival};
+ghost use Rattle.segment_core.specs.Arrival.{Arrival, whole_with};
+ghost use Rattle.segment_core.specs.Bound.{payload_made_whole};
 ghost use Rattle.segment_core.specs.Store.{IsNotBefore, StandsFor};
 ghost use Rattle.segment_core.specs.Views.{arrival_view};
 ghost use Rattle.receiver_core.specs.Hearing.{unread_view};
@@ -11,8 +13,8 @@ ghost use Rattle.receiver_core.specs.Reception.{arrival_in};
 ghost use Rattle.receiver_core.specs.StandsFor.{longest_lives};
 ghost use Rattle.receiver_core.specs.Steps.{arrivals_after, arrived_with, entries_after};
 ghost use Rattle.receiver_core.specs.Steps.{entries_of_whole, frame_entries};
-ghost use Rattle.receiver_core.specs.Steps.{taken_reasons, whole_taken};
-ghost use Rattle.receiver_core.specs.UnreadParts.{frame_reasons, part_in, unread_after};
+ghost use Rattle.receiver_core.specs.UnreadParts.{frame_reasons, part_in, taken_reasons};
+ghost use Rattle.receiver_core.specs.UnreadParts.{unread_after};
 
 use crate::arrival::read_arrival;
 use crate::reports::take_whole;
@@ -20,6 +22,7 @@ use crate::unread::{Unread, UnreadReason};
 use fisb_time::Moment;
 use life_table::LifeTable;
 use picture_core::Picture;
+use segment_core::laws::answers_complete;
 use segment_core::{Arrived, Joiner, Taken};
 use std::alloc::{AllocError, Global};
 use uplink_frame::{InfoFrame, StationId, frames};
@@ -97,6 +100,7 @@ fn take_frame(
     ensures joiner_mark { joiner.new.mark ≡ joiner.old.mark }
     ensures picture_mark { picture.new.mark ≡ picture.old.mark }
 {
+    answers_complete();
     let arrived = match read_arrival(table, station, moment, frame) {
         Ok(arrived) => arrived,
         Err(reason) => {
@@ -121,7 +125,8 @@ fn take_answer(
 ) -> Result<(), AllocError>
     requires { length frame.now.body.now ≤ 424 }
     ensures entries { OnOk result (picture.new.entries ≡ put_all
-        (entries_of_whole table.now (whole_taken (arrival_view arrived.now) taken))
+        (entries_of_whole table.now (option_map (whole_with (arrival_view arrived.now))
+        (payload_made_whole taken)))
         picture.old.entries) }
     ensures unread { OnOk result (map unread_view unread.new.items
         ≡ map unread_view unread.old.items ++ map (part_in (frame_view frame.now))

@@ -1,7 +1,8 @@
--- Reed-Solomon code words over the field of the uplink. A code has words of `count` bytes, and `roots` elements at which
--- each code word is 0: the powers of 2, which is x, from `first` on. The first byte of a word is the coefficient of the
--- highest power.
-use Rattle.std.specs.Prelude.{◌≡◌, ℕ, suc, ◌+◌, ◌*◌, ◌/◌, ◌%◌, ◌<◌, ◌≤◌, ◌==◌, nat_le, Bool, IsTrue, List, [], ◌∷◌, cond, length, slice_index, bit_xor}
+-- Reed-Solomon code words over the field of the uplink. A code has words of `count` bytes, and
+-- `roots` elements at which each code word is 0: the powers of 2, which is x, from `first` on. The
+-- first byte of a word is the coefficient of the highest power.
+use Rattle.std.specs.Prelude.{◌≡◌, ℕ, suc, ◌+◌, ◌*◌, ◌/◌, ◌%◌, ◌<◌, ◌≤◌, ◌==◌, nat_le, Bool, IsTrue}
+use Rattle.std.specs.Prelude.{List, [], ◌∷◌, cond, length, slice_index, bit_xor}
 use Rattle.poly256.specs.Polynomial.{element_product, element_power}
 
 -- the numbers that make a code
@@ -11,10 +12,12 @@ pub record IsInstance (count roots first : ℕ) : Type 0 where
   pub short : count ≤ 255
   pub high : first + roots ≤ 255
 
--- the value of a word at 2 raised to j: each byte times that element raised to the number of bytes behind it
+-- the value of a word at 2 raised to j: each byte times that element raised to the number of bytes
+-- behind it
 unfoldable pub power_sum : List ℕ → ℕ → ℕ
 power_sum [] j = 0
-power_sum (b ∷ bs) j = bit_xor (element_product b (element_power 2 (j * length bs))) (power_sum bs j)
+power_sum (b ∷ bs) j =
+    bit_xor (element_product b (element_power 2 (j * length bs))) (power_sum bs j)
 
 pub record IsCodeWord (count roots first : ℕ) (word : List ℕ) : Type 0 where
   pub long : length word ≡ count

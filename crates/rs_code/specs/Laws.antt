@@ -1,5 +1,6 @@
 -- The laws of the distance between code words, and of the functions that give code words.
-use Rattle.std.specs.Prelude.{◌≡◌, ◌≢◌, ◌↔◌, ℕ, ◌+◌, ◌-◌, ◌<◌, ◌≤◌, ◌⊎◌, List, length, take, slice_index, IsTrue, Some, None}
+use Rattle.std.specs.Prelude.{◌≡◌, ◌≢◌, ◌↔◌, ℕ, ◌+◌, ◌-◌, ◌<◌, ◌≤◌, ◌⊎◌, List, length, take}
+use Rattle.std.specs.Prelude.{slice_index, IsTrue, Some, None}
 use Rattle.rs_code.specs.CodeWord.{IsInstance, IsCodeWord, IsNear, IsCorrectable, differences}
 use Rattle.rs_code.specs.Functions.{is_code_word, encoded, corrected}
 
@@ -22,13 +23,14 @@ pub record HaveDistances : Type 0 where
       (word other : List ℕ) → IsCodeWord 48 14 120 word → IsCodeWord 48 14 120 other → word ≢ other
       → 15 ≤ differences word other
 
--- a word differs from itself in no place, and words that are the same outside some consecutive places differ in no more
--- places than these
+-- a word differs from itself in no place, and words that are the same outside some consecutive
+-- places differ in no more places than these
 pub record CountsDifferences : Type 0 where
   pub none : (word : List ℕ) → differences word word ≡ 0
   pub window :
       (first many : ℕ) (word other : List ℕ) → length word ≡ length other
-      → ((k : ℕ) → k < length word → (k < first) ⊎ (first + many ≤ k) → slice_index word k ≡ slice_index other k)
+      → ((k : ℕ) → k < length word → (k < first) ⊎ (first + many ≤ k) →
+      slice_index word k ≡ slice_index other k)
       → differences word other ≤ many
 
 -- at most one code word is near a word
@@ -40,14 +42,17 @@ HasOneNearest =
 -- the test of a code word tells them
 abbrev pub HasCodeWordTest : Type 0
 HasCodeWordTest =
-    (count roots first : ℕ) (word : List ℕ) → IsTrue (is_code_word count roots first word) ↔ IsCodeWord count roots first word
+    (count roots first : ℕ) (word : List ℕ)
+    → IsTrue (is_code_word count roots first word) ↔ IsCodeWord count roots first word
 
 -- one word alone is a code word and begins with a message: the one that `encoded` gives
 abbrev pub HasOneEncoded : Type 0
 HasOneEncoded =
-    (count roots first : ℕ) (message word : List ℕ) → IsInstance count roots first → length message ≡ count - roots
+    (count roots first : ℕ) (message word : List ℕ) → IsInstance count roots first
+    → length message ≡ count - roots
     → ((i : ℕ) → slice_index message i < 256)
-    → (word ≡ encoded count roots first message) ↔ (IsCodeWord count roots first word × (take (count - roots) word ≡ message))
+    → (word ≡ encoded count roots first message)
+    ↔ (IsCodeWord count roots first word × (take (count - roots) word ≡ message))
 
 -- `corrected` gives the code word near a word, and none exactly where none is near
 pub record IsCorrected : Type 0 where

@@ -38,7 +38,8 @@ impl<const N: usize, const ROOTS: usize, const FIRST: usize> Rs<N, ROOTS, FIRST>
     pub fn encode(&self, word: &mut [u8; N])
         ensures code { IsCodeWord N ROOTS FIRST word.new }
         ensures front { take (N - ROOTS) word.new ≡ take (N - ROOTS) word.old }
-        ensures only { (other : List ℕ) → IsCodeWord N ROOTS FIRST other → take (N - ROOTS) other ≡ take (N - ROOTS) word.old → other ≡ word.new }
+        ensures only { (other : List ℕ) → IsCodeWord N ROOTS FIRST other →
+            take (N - ROOTS) other ≡ take (N - ROOTS) word.old → other ≡ word.new }
         ensures function { word.new ≡ encoded N ROOTS FIRST (take (N - ROOTS) word.old) }
     {
         one_encoded();
@@ -61,7 +62,8 @@ impl<const N: usize, const ROOTS: usize, const FIRST: usize> Rs<N, ROOTS, FIRST>
     /// word stays as it is.
     pub fn correct(&self, word: &mut [u8; N]) -> Result<u8, Uncorrectable>
         ensures exactly { IsTrue (is_ok result) ↔ IsCorrectable N ROOTS FIRST word.old }
-        ensures corrected { IfOk result (λ changed. IsNear N ROOTS FIRST word.old word.new × (changed ≡ differences word.old word.new)) }
+        ensures corrected { IfOk result (λ changed. IsNear N ROOTS FIRST word.old word.new
+            × (changed ≡ differences word.old word.new)) }
         ensures unchanged { OnErr result (word.new ≡ word.old) }
         ensures function { OnOk result (corrected N ROOTS FIRST word.old ≡ Some word.new) }
         ensures none { OnErr result (corrected N ROOTS FIRST word.old ≡ None) }
@@ -85,7 +87,9 @@ impl<const N: usize, const ROOTS: usize, const FIRST: usize> Rs<N, ROOTS, FIRST>
 
     // In how many places a word differs from another, where that one is a code word near it.
     fn near_count(&self, word: &[u8; N], mended: &[u8; N]) -> Option<u8>
-        ensures { MatchOption result (IsNear N ROOTS FIRST word.now mended.now → ⊥) (λ changed. IsNear N ROOTS FIRST word.now mended.now × (changed ≡ differences word.now mended.now)) }
+        ensures { MatchOption result (IsNear N ROOTS FIRST word.now mended.now → ⊥)
+            (λ changed. IsNear N ROOTS FIRST word.now mended.now
+            × (changed ≡ differences word.now mended.now)) }
     {
         let changed = count_differences(word, mended);
         if changed > ROOTS / 2 {

@@ -11,8 +11,11 @@ use poly256::degree_laws;
 #[inline]
 fn take_root(coefficients: &mut [u8], degree: usize, root: Uat)
     requires { degree < length coefficients.old }
-    ensures written { (k : ℕ) → k ≤ degree → slice_index coefficients.new k ≡ bit_xor (slice_index coefficients.old k) (element_product root (slice_index (1 ∷ coefficients.old) k)) }
-    ensures kept { (k : ℕ) → degree < k → slice_index coefficients.new k ≡ slice_index coefficients.old k }
+    ensures written { (k : ℕ) → k ≤ degree → slice_index coefficients.new k
+        ≡ bit_xor (slice_index coefficients.old k)
+        (element_product root (slice_index (1 ∷ coefficients.old) k)) }
+    ensures kept { (k : ℕ) → degree < k →
+        slice_index coefficients.new k ≡ slice_index coefficients.old k }
 {
     let mut above = Uat::of(1);
     for k in 0..degree + 1 {

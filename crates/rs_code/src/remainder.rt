@@ -13,7 +13,8 @@ use poly256::degree_laws;
 // its last 20 bytes, and has the power sums of the word.
 fn divide_by_rows(word: &mut [u8])
     requires { 20 ≤ length word.old }
-    ensures { (j : ℕ) → 120 ≤ j → j < 140 → power_sum (drop (length word.old - 20) word.new) j ≡ power_sum word.old j }
+    ensures { (j : ℕ) → 120 ≤ j → j < 140 →
+        power_sum (drop (length word.old - 20) word.new) j ≡ power_sum word.old j }
 {
     field_laws::<UatTables>();
     degree_laws();
@@ -26,7 +27,9 @@ fn divide_by_rows(word: &mut [u8])
 // The same by another generator.
 fn divide_by(word: &mut [u8], generator: &[u8])
     requires { length generator.now ≤ length word.old }
-    ensures { (j : ℕ) → power_sum (1 ∷ generator.now) j ≡ 0 → power_sum (drop (length word.old - length generator.now) word.new) j ≡ power_sum word.old j }
+    ensures { (j : ℕ) → power_sum (1 ∷ generator.now) j ≡ 0 →
+        power_sum (drop (length word.old - length generator.now) word.new) j
+        ≡ power_sum word.old j }
 {
     field_laws::<UatTables>();
     degree_laws();
@@ -41,7 +44,8 @@ fn divide_by(word: &mut [u8], generator: &[u8])
 fn divide<const ROOTS: usize, const FIRST: usize>(word: &mut [u8])
     requires room { ROOTS ≤ length word.old }
     requires high { FIRST + ROOTS ≤ 255 }
-    ensures { (j : ℕ) → FIRST ≤ j → j < FIRST + ROOTS → power_sum (drop (length word.old - ROOTS) word.new) j ≡ power_sum word.old j }
+    ensures { (j : ℕ) → FIRST ≤ j → j < FIRST + ROOTS →
+        power_sum (drop (length word.old - ROOTS) word.new) j ≡ power_sum word.old j }
 {
     if ROOTS == 20 {
         if FIRST == 120 {
@@ -57,7 +61,8 @@ fn divide<const ROOTS: usize, const FIRST: usize>(word: &mut [u8])
 fn divided<const N: usize, const ROOTS: usize, const FIRST: usize>(word: &[u8; N]) -> [u8; ROOTS]
     requires room { ROOTS ≤ N }
     requires high { FIRST + ROOTS ≤ 255 }
-    ensures sums { (j : ℕ) → FIRST ≤ j → j < FIRST + ROOTS → power_sum result j ≡ power_sum word.now j }
+    ensures sums { (j : ℕ) → FIRST ≤ j → j < FIRST + ROOTS →
+        power_sum result j ≡ power_sum word.now j }
     ensures long { length result ≡ ROOTS }
 {
     let mut copy = *word;
@@ -75,7 +80,8 @@ pub(crate) fn remainder<const N: usize, const ROOTS: usize, const FIRST: usize>(
     word: &[u8; N],
 ) -> [u8; ROOTS]
     requires { IsInstance N ROOTS FIRST }
-    ensures sums { (j : ℕ) → FIRST ≤ j → j < FIRST + ROOTS → power_sum result j ≡ power_sum word.now j }
+    ensures sums { (j : ℕ) → FIRST ≤ j → j < FIRST + ROOTS →
+        power_sum result j ≡ power_sum word.now j }
     ensures long { length result ≡ ROOTS }
     ensures bytes { (k : ℕ) → slice_index result k < 256 }
     ensures code { ((k : ℕ) → slice_index result k ≡ 0) ↔ IsCodeWord N ROOTS FIRST word.now }

@@ -11,7 +11,8 @@ use gf256_core::{Uat, UatTables, field_laws};
 // plus this one.
 #[inline]
 fn weigh(sums: &mut [u8], point: Uat)
-    ensures { (k : ℕ) → k < length sums.old → slice_index sums.new k ≡ bit_xor (slice_index sums.old k) (element_product point (slice_index (0 ∷ sums.old) k)) }
+    ensures { (k : ℕ) → k < length sums.old → slice_index sums.new k
+        ≡ bit_xor (slice_index sums.old k) (element_product point (slice_index (0 ∷ sums.old) k)) }
 {
     let mut before = Uat::of(0);
     for i in 0..sums.len() {
@@ -26,7 +27,9 @@ fn weigh(sums: &mut [u8], point: Uat)
 fn unweigh(points: &[u8], values: &mut [u8], point: Uat)
     requires long { length points.now ≡ length values.old }
     requires apart { (i : ℕ) → i < length points.now → slice_index points.now i ≢ point }
-    ensures { (i : ℕ) → i < length points.now → element_product (slice_index values.new i) (bit_xor (slice_index points.now i) point) ≡ slice_index values.old i }
+    ensures { (i : ℕ) → i < length points.now →
+        element_product (slice_index values.new i) (bit_xor (slice_index points.now i) point)
+        ≡ slice_index values.old i }
 {
     for (i, other) in points.iter().enumerate() {
         let weight = Uat::of(*other).add(point);
@@ -50,7 +53,10 @@ fn total(bytes: &[u8]) -> u8
 pub(crate) fn solve(points: &[u8], sums: &mut [u8])
     requires long { length points.now ≡ length sums.old }
     requires different { AreDifferent points.now }
-    ensures { (values : List ℕ) → length values ≡ length points.now → ((i : ℕ) → slice_index values i < 256) → ((n : ℕ) → n < length values → slice_index sums.old n ≡ points_sum points.now values n) → sums.new ≡ values }
+    ensures { (values : List ℕ) → length values ≡ length points.now →
+        ((i : ℕ) → slice_index values i < 256) →
+        ((n : ℕ) → n < length values → slice_index sums.old n ≡ points_sum points.now values n) →
+        sums.new ≡ values }
 {
     field_laws::<UatTables>();
     if points.len() == 0 {
@@ -76,7 +82,11 @@ pub(crate) fn add_errors<const N: usize>(
     requires inside { (i : ℕ) → i < length places.now → slice_index places.now i < N }
     requires short { N ≤ 255 }
     requires first { first ≤ 255 }
-    ensures { (errors : List ℕ) → length errors ≡ length places.now → ((i : ℕ) → slice_index errors i < 256) → ((i : ℕ) → i < length errors → element_product (slice_index errors i) (element_power 2 (first * slice_index places.now i)) ≡ slice_index values.now i) → word.new ≡ with_errors word.old places.now errors }
+    ensures { (errors : List ℕ) → length errors ≡ length places.now →
+        ((i : ℕ) → slice_index errors i < 256) →
+        ((i : ℕ) → i < length errors → element_product (slice_index errors i)
+        (element_power 2 (first * slice_index places.now i)) ≡ slice_index values.now i) →
+        word.new ≡ with_errors word.old places.now errors }
 {
     field_laws::<UatTables>();
     for (i, place) in places.iter().enumerate() {

@@ -1,5 +1,6 @@
 -- Which lines of an input are acted on, what they give, and the first fault.
-use Rattle.std.specs.Prelude.{ℕ, ◌+◌, Bool, nat_lt, if◌then◌else◌, List, [], ◌∷◌, ◌++◌, length, take, Option, Some, None, Result, Ok, Err}
+use Rattle.std.specs.Prelude.{ℕ, ◌+◌, Bool, nat_lt, if◌then◌else◌, List, [], ◌∷◌, ◌++◌, length}
+use Rattle.std.specs.Prelude.{take, Option, Some, None, Result, Ok, Err}
 use Rattle.script_core.specs.declared.reason.Reason.{Reason}
 use Rattle.script_core.specs.declared.reason.Reason.TheVariants.{LineLong}
 use Rattle.run_core.specs.Limits.{line_limit}
@@ -28,7 +29,8 @@ fault_with number start (Err reason) later =
 -- the first fault of lines of which the first has this number and begins at this place of the input
 abbrev pub fault_of : Telling → List (List ℕ) → ℕ → ℕ → List (List ℕ) → List ℕ → Option Fault
 fault_of told past number start [] part = part_fault number start part
-fault_of told past number start (line ∷ later) part = fault_with number start (reading told past line)
+fault_of told past number start (line ∷ later) part =
+    fault_with number start (reading told past line)
     (fault_of told (line ∷ past) (number + 1) (start + (length line + 1)) later part)
 
 abbrev pub given_with : Result (List ℕ) Reason → List ℕ → List ℕ

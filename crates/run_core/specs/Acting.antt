@@ -4,7 +4,8 @@ use Rattle.std.specs.Io.KnownBytes.{Appends}
 use Rattle.fisb_wire.specs.Faults.{Rose}
 use Rattle.script_core.specs.declared.reason.Reason.{Reason}
 use Rattle.run_core.specs.declared.status.Status.{Status}
-use Rattle.run_core.specs.declared.status.Status.TheVariants.{Done, Usage, Refused, ReadFault, WriteFault, TooLong, NoMemory}
+use Rattle.run_core.specs.declared.status.Status.TheVariants.{Done, Usage, Refused, ReadFault}
+use Rattle.run_core.specs.declared.status.Status.TheVariants.{WriteFault, TooLong, NoMemory}
 use Rattle.run_core.specs.Work.{Work}
 use Rattle.run_core.specs.Run.{SinkEnd, AppendsFront}
 

@@ -25,8 +25,8 @@ DecidedAgrees = (one other : Task) (old new : Ends) (status : Status)
 abbrev pub Begins : List ℕ → List ℕ → Type 0
 Begins piece whole = (more : List ℕ) × (whole ≡ piece ++ more)
 
--- whatever comes after them, and however the input ends, a fault of some bytes stays the first one, and
--- what they give stays a prefix of the output: the whole of it where they have a fault
+-- whatever comes after them, and however the input ends, a fault of some bytes stays the first one,
+-- and what they give stays a prefix of the output: the whole of it where they have a fault
 pub record IsStable (task : Task) : Type 0 where
   pub fault : (front more : List ℕ) (ended : Bool) (found : Fault)
       → task.fault false front ≡ Some found → task.fault ended (front ++ more) ≡ Some found
@@ -45,8 +45,9 @@ abbrev pub RunsDecide : Type 0
 RunsDecide = (task : Task) (old new : Ends) (status : Status)
     → IsStable task → HasRun task old new status → IsDecided task old new status
 
--- Over a source and a sink that tell their bytes, of a source that never failed and a sink that surely
--- takes more bytes than were written before and than the whole input gives, there is no fault of theirs.
+-- Over a source and a sink that tell their bytes, of a source that never failed and a sink that
+-- surely takes more bytes than were written before and than the whole input gives, there is no
+-- fault of theirs.
 abbrev pub RunsComplete : Type 0
 RunsComplete = (task : Task) (old new : Ends) (status : Status) (input before : List ℕ) (room : ℕ)
     → IsStable task → HasRun task old new status → old.left ≡ Some input → old.written ≡ Some before

@@ -13,7 +13,7 @@ line_limit = 32768
 abbrev pub table_limit : ℕ
 table_limit = 65536
 
--- the most bytes that are read and not yet acted on: those of a table, and the line that ends it with
--- its newline or one byte more
+-- the most bytes that are read and not yet acted on: those of a table, and the line that ends it
+-- with its newline or one byte more
 abbrev pub ring_limit : ℕ
 ring_limit = 65541

@@ -6,8 +6,8 @@ use Rattle.std.specs.List.{slice_split}
 abbrev pub parts_of : List ℕ → List (List ℕ)
 parts_of text = slice_split (λ b. b == 10) text
 
--- Each part but the last is a line. The last one is a line too where the input ended after it, unless
--- it is empty.
+-- Each part but the last is a line. The last one is a line too where the input ended after it,
+-- unless it is empty.
 abbrev pub lines_of_parts : Bool → List (List ℕ) → List (List ℕ)
 lines_of_parts ended [] = []
 lines_of_parts ended (last ∷ []) = if ended && nat_lt 0 (length last) then last ∷ [] else []

@@ -1,5 +1,6 @@
 -- How an input opens: the bytes of a table, and a line `---` after them.
-use Rattle.std.specs.Prelude.{ℕ, ◌+◌, Bool, nat_lt, nat_le, if◌then◌else◌, List, [], ◌∷◌, length, Option, Some, None, codes}
+use Rattle.std.specs.Prelude.{ℕ, ◌+◌, Bool, nat_lt, nat_le, if◌then◌else◌, List, [], ◌∷◌, length}
+use Rattle.std.specs.Prelude.{Option, Some, None, codes}
 use Rattle.std.specs.Str.{bytes_eq}
 use Rattle.script_core.specs.declared.reason.Reason.TheVariants.{TableLong, NoTable}
 use Rattle.run_core.specs.Limits.{table_limit, ring_limit}
@@ -14,8 +15,8 @@ pub record Opening : Type 0 where
   pub number : ℕ
   pub later : List (List ℕ)
 
--- among lines of which the first begins at this place of the input and has this number; the line begins
--- within the limit of a table
+-- among lines of which the first begins at this place of the input and has this number; the line
+-- begins within the limit of a table
 abbrev pub opening_at : ℕ → ℕ → List (List ℕ) → Option Opening
 opening_at place number [] = None
 opening_at place number (line ∷ later) = if nat_lt table_limit place then None

@@ -1,15 +1,17 @@
 -- What a run answers and writes, by the bytes that it took from its source.
-use Rattle.std.specs.Prelude.{◌≡◌, ℕ, ◌+◌, ◌≤◌, Bool, true, false, ◌⊎◌, nat_le, if◌then◌else◌, List, length, take, Option, Some, None, IfSome}
+use Rattle.std.specs.Prelude.{◌≡◌, ℕ, ◌+◌, ◌≤◌, Bool, true, false, ◌⊎◌, nat_le, if◌then◌else◌, List}
+use Rattle.std.specs.Prelude.{length, take, Option, Some, None, IfSome}
 use Rattle.std.specs.Io.KnownBytes.{Consumes, Appends, IsAtEnd}
 use Rattle.fisb_wire.specs.Faults.{Rose}
 use Rattle.run_core.specs.declared.status.Status.{Status}
-use Rattle.run_core.specs.declared.status.Status.TheVariants.{Done, Usage, Refused, ReadFault, WriteFault, TooLong, NoMemory}
+use Rattle.run_core.specs.declared.status.Status.TheVariants.{Done, Usage, Refused, ReadFault}
+use Rattle.run_core.specs.declared.status.Status.TheVariants.{WriteFault, TooLong, NoMemory}
 use Rattle.run_core.specs.Limits.{input_limit, ring_limit}
 use Rattle.run_core.specs.Work.{Work, Fault}
 use Rattle.run_core.specs.Acted.{first_fault, output_of}
 
--- What is to be answered and written: the fault and the output of some bytes, by whether the input ended
--- after them.
+-- What is to be answered and written: the fault and the output of some bytes, by whether the input
+-- ended after them.
 pub record Task : Type 0 where
   pub fault : Bool → List ℕ → Option Fault
   pub output : Bool → List ℕ → List ℕ
@@ -36,8 +38,8 @@ pub record SinkEnd : Type 0 where
 abbrev pub sink_end : Option (List ℕ) → ℕ → SinkEnd
 sink_end written writes = record { written = written; writes = writes }
 
--- how the reading of an input ended: at its end, at a read that failed, at a byte past the limit, or
--- before any of these, where no more had to be read
+-- how the reading of an input ended: at its end, at a read that failed, at a byte past the limit,
+-- or before any of these, where no more had to be read
 pub data Ending : Type 0 where
   at_end : Ending
   failed : Ending
@@ -50,7 +52,7 @@ is_end failed = false
 is_end full = false
 is_end stopped = false
 
--- the reading ended so, after so many bytes; no other read failed
+-- the reading ended so, after so many bytes; no read failed where it did not end at a failed one
 abbrev pub HasEnded : Ending → Ends → Ends → ℕ → Type 0
 HasEnded at_end old new size =
     IsAtEnd new.left × (new.reads ≡ old.reads) × (size ≤ input_limit)
@@ -100,9 +102,10 @@ taken_fault task taken ending = task.fault (is_end ending) (acted_part taken)
 abbrev pub taken_output : Task → List ℕ → Ending → List ℕ
 taken_output task taken ending = task.output (is_end ending) (acted_part taken)
 
--- the answer is the verdict on the bytes taken, their output is exactly what was written, and no write
--- failed
-pub record IsAnswer (task : Task) (old new : Ends) (status : Status) (taken : List ℕ) (ending : Ending)
+-- the answer is the verdict on the bytes taken, their output is exactly what was written, and no
+-- write failed
+pub record IsAnswer (task : Task) (old new : Ends) (status : Status) (taken : List ℕ)
+    (ending : Ending)
     : Type 0 where
   pub took : HasTaken old new taken ending
   pub verdict : IsVerdict ending (taken_fault task taken ending) status
@@ -147,8 +150,8 @@ abbrev pub IsJudged : Task → List ℕ → Status → Type 0
 IsJudged task input status = (status ≡ NoMemory)
     ⊎ IsVerdict (ending_of input) (taken_fault task input (ending_of input)) status
 
--- where the source tells its input and neither count of faults rose, the answer is the verdict on the
--- whole input
+-- where the source tells its input and neither count of faults rose, the answer is the verdict on
+-- the whole input
 abbrev pub IsDecided : Task → Ends → Ends → Status → Type 0
 IsDecided task old new status = IfSome old.left (λ input.
     (Rose old.reads new.reads → ⊥) → (Rose old.writes new.writes → ⊥) → IsJudged task input status)

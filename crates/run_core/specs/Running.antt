@@ -8,9 +8,9 @@ use Rattle.run_core.specs.Opening.{opening_at}
 use Rattle.run_core.specs.Acted.{first_fault, given, fault_of, given_of}
 use Rattle.run_core.specs.Run.{Ends}
 
--- The actor stands for the lines acted on. The bytes taken are `text`; those that are not yet acted on
--- are in the ring, after `start` bytes, and their first line has the number. What was written is what the
--- lines acted on gave.
+-- The actor stands for the lines acted on. The bytes taken are `text`; those that are not yet acted
+-- on are in the ring, after `start` bytes, and their first line has the number. What was written is
+-- what the lines acted on gave.
 pub record IsAt (work : Work) (table : List ℕ) (stands : List (List ℕ) → Type 0) (number : ℕ)
     (old now : Ends) (input : Input) : Type 0 where
   pub past : List (List ℕ)
@@ -30,8 +30,8 @@ pub record IsAt (work : Work) (table : List ℕ) (stands : List (List ℕ) → T
   pub reads : now.reads ≡ old.reads
   pub writes : now.writes ≡ old.writes
 
--- Before the table was found the ring holds all bytes taken. No line that begins before `place` ends the
--- table, and the line that begins there has the number.
+-- Before the table was found the ring holds all bytes taken. No line that begins before `place`
+-- ends the table, and the line that begins there has the number.
 pub record IsSought (text : List ℕ) (place number : ℕ) : Type 0 where
   pub opened : (ended : Bool) (more : List ℕ) → opening_at 0 1 (lines_in ended (text ++ more))
       ≡ opening_at place number (lines_in ended (drop place text ++ more))

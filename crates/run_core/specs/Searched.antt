@@ -1,5 +1,6 @@
 -- What the search for the line that ends the table leaves.
-use Rattle.std.specs.Prelude.{◌≡◌, ℕ, ◌+◌, ◌-◌, ◌<◌, ◌≤◌, Bool, true, false, ◌&&◌, nat_le, List, [], ◌++◌, length, take, drop, Option, Some, None}
+use Rattle.std.specs.Prelude.{◌≡◌, ℕ, ◌+◌, ◌-◌, ◌<◌, ◌≤◌, Bool, true, false, ◌&&◌, nat_le, List, []}
+use Rattle.std.specs.Prelude.{◌++◌, length, take, drop, Option, Some, None}
 use Rattle.std.specs.Io.KnownBytes.{Consumes, IsAtEnd}
 use Rattle.fisb_wire.specs.Faults.{Rose}
 use Rattle.run_core.specs.declared.input.Input.{Input}
@@ -11,7 +12,8 @@ use Rattle.run_core.specs.Opening.{opening_at, is_table_end}
 
 -- the line that begins at a place and has so many bytes ends the table
 abbrev pub is_end_here : List ℕ → ℕ → ℕ → Bool
-is_end_here bytes place size = nat_le place table_limit && is_table_end (take size (drop place bytes))
+is_end_here bytes place size =
+    nat_le place table_limit && is_table_end (take size (drop place bytes))
 
 -- all that was taken is in the ring
 pub record IsHeld (lb la : Option (List ℕ)) (input : Input) : Type 0 where
@@ -47,7 +49,8 @@ HasSearched lb la rb ra input Missing = IsHeld lb la input
     × (opening_at 0 1 (lines_in true input.ring.items) ≡ None)
     × (length input.ring.items < ring_limit) × IsAtEnd la × (ra ≡ rb)
 HasSearched lb la rb ra input Long = IsHeld lb la input
-    × ((ended : Bool) (more : List ℕ) → opening_at 0 1 (lines_in ended (input.ring.items ++ more)) ≡ None)
+    × ((ended : Bool) (more : List ℕ)
+    → opening_at 0 1 (lines_in ended (input.ring.items ++ more)) ≡ None)
     × (length input.ring.items ≡ ring_limit) × (ra ≡ rb)
 HasSearched lb la rb ra input Failed = IsHeld lb la input
     × (opening_at 0 1 (lines_in false input.ring.items) ≡ None)

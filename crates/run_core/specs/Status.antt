@@ -1,7 +1,8 @@
 -- How a run ended, as the number with which a program ends.
 use Rattle.std.specs.Prelude.{ℕ}
 use Rattle.run_core.specs.declared.status.Status.{Status}
-use Rattle.run_core.specs.declared.status.Status.TheVariants.{Done, Usage, Refused, ReadFault, WriteFault, TooLong, NoMemory}
+use Rattle.run_core.specs.declared.status.Status.TheVariants.{Done, Usage, Refused, ReadFault}
+use Rattle.run_core.specs.declared.status.Status.TheVariants.{WriteFault, TooLong, NoMemory}
 
 abbrev pub code_of : Status → ℕ
 code_of Done = 0

@@ -5,8 +5,8 @@ use Rattle.script_core.specs.declared.reason.Reason.{Reason}
 pub record Work : Type 0 where
   -- what is wrong with the bytes of a table
   pub opened : List ℕ → Option Reason
-  -- under the table of these bytes, after the lines acted on before, the newest first: the text that a
-  -- line gives, or the first reason against it
+  -- under the table of these bytes, after the lines acted on before, the newest first: the text
+  -- that a line gives, or the first reason against it
   pub told : List ℕ → List (List ℕ) → List ℕ → Result (List ℕ) Reason
   -- what is written of a line that is refused
   pub refusal : ℕ → Reason → List ℕ

@@ -1,6 +1,7 @@
--- A small command: it gives back each line that begins with a plus sign, gives nothing for an empty line and
--- for one that begins with `#`, and refuses every other.
-use Rattle.std.specs.Prelude.{ℕ, ◌==◌, if◌then◌else◌, List, [], ◌∷◌, ◌++◌, Option, Some, None, Result, Ok, Err}
+-- A small command: it gives back each line that begins with a plus sign, gives nothing for an empty
+-- line and for one that begins with `#`, and refuses every other.
+use Rattle.std.specs.Prelude.{ℕ, ◌==◌, if◌then◌else◌, List, [], ◌∷◌, ◌++◌, Option, Some, None}
+use Rattle.std.specs.Prelude.{Result, Ok, Err}
 use Rattle.script_core.specs.declared.reason.Reason.{Reason}
 use Rattle.script_core.specs.declared.reason.Reason.TheVariants.{Syntax}
 use Rattle.script_core.specs.Refusal.{refusal_text}

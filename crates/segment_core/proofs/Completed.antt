@@ -15,7 +15,7 @@ use Rattle.list_members.proofs.ListMembers.{in_filter_map, filter_map_has, in_on
 use Rattle.segment_core.specs.File.{File, is_segmented, parts_of, part_of, segmentation_of}
 use Rattle.segment_core.specs.Arrival.{Arrival, Whole, whole_with, joined_payload, other_numbers, completes}
 use Rattle.segment_core.specs.Arrival.{completed_after}
-use Rattle.segment_core.specs.Joining.{Segment, segment, arrival_of, whole_of, AreSent, HasAll, IsOfFile}
+use Rattle.segment_core.specs.Joining.{FileSegment, segment, arrival_of, whole_of, AreSent, HasAll, IsOfFile}
 use Rattle.segment_core.proofs.Parts.{parts-whole, are_parts}
 use Rattle.list_members.proofs.Ranges.{in_range, range_has, all_in, in_all, not_all_in}
 use Rattle.segment_core.proofs.Joined.{fields_of, segmentation-cut, segmentation-whole, has, IsOfSent, AreAmong, has-in}
@@ -64,17 +64,17 @@ in-others s n there =
     (within.0, omega arith, eqb-false n s.number (not-true _ both.1))
 
 -- the test by which a segment completes its file
-abbrev completing : List Segment → StationId → File → ℕ → Bool
+abbrev completing : List FileSegment → StationId → File → ℕ → Bool
 completing before station f number = not (has station f number before)
     && list_all (λ (n : ℕ). has station f n before) (other_numbers (fields_of f number))
 
 -- what an arrival of segments makes whole
-abbrev made : List Segment → StationId → File → ℕ → Whole
+abbrev made : List FileSegment → StationId → File → ℕ → Whole
 made before station f number = whole_with (arrival_of (segment station f number))
     (joined_payload (map arrival_of before ++ arrival_of (segment station f number) ∷ []) (arrival_of (segment station f 1))
     (fields_of f 1))
 
-all_cut : (before : List Segment) (station : StationId) (f : File) (number : ℕ) (all : List Segment) → IsOfSent all station f
+all_cut : (before : List FileSegment) (station : StationId) (f : File) (number : ℕ) (all : List FileSegment) → IsOfSent all station f
     → AreAmong before all → completing before station f number ≡ true
     → HasAll (before ++ segment station f number ∷ []) station f
 all_cut before station f number all of_sent among test n least most = elim (cases_eq n number) [
@@ -85,7 +85,7 @@ all_cut before station f number all of_sent among test n least most = elim (case
       (and_parts _ _ test).1 (others-in (fields_of f number) n least most other)))
 ]
 
-made-is : (before : List Segment) (station : StationId) (f : File) (number : ℕ) (all : List Segment) → IsOfSent all station f
+made-is : (before : List FileSegment) (station : StationId) (f : File) (number : ℕ) (all : List FileSegment) → IsOfSent all station f
     → AreAmong (before ++ segment station f number ∷ []) all → HasAll (before ++ segment station f number ∷ []) station f
     → made before station f number ≡ whole_of f
 made-is before station f number all of_sent among has_all =
@@ -97,7 +97,7 @@ made-is before station f number all of_sent among has_all =
     ∙ joined-is all station f (before ++ segment station f number ∷ []) of_sent among has_all)
 
 -- what a segment of a file that is cut completes: that file, where it has all
-made_only : (before : List Segment) (station : StationId) (f : File) (number : ℕ) (all : List Segment) (w : Whole)
+made_only : (before : List FileSegment) (station : StationId) (f : File) (number : ℕ) (all : List FileSegment) (w : Whole)
     → IsOfSent all station f
     → AreAmong (before ++ segment station f number ∷ []) all
     → completes (map arrival_of before) (arrival_of (segment station f number)) (Some (fields_of f number)) ≡ Some w
@@ -118,7 +118,7 @@ made_only before station f number all w of_sent among is = elim (cases_Bool (com
 ]
 
 -- the last segment that was still to come makes the file whole
-made_whole : (before : List Segment) (station : StationId) (f : File) (number : ℕ) (all : List Segment) → IsOfSent all station f
+made_whole : (before : List FileSegment) (station : StationId) (f : File) (number : ℕ) (all : List FileSegment) → IsOfSent all station f
     → AreAmong (before ++ segment station f number ∷ []) all → HasAll (before ++ segment station f number ∷ []) station f
     → has station f number before ≡ false
     → completes (map arrival_of before) (arrival_of (segment station f number)) (Some (fields_of f number)) ≡ Some (whole_of f)
@@ -129,7 +129,7 @@ made_whole before station f number all of_sent among has_all new =
     let o = in-others (fields_of f number) n there in
     in-has all station f n before of_sent (elim (IsIn-either _ before (segment station f number ∷ []) (has_all n o.0 o.1)) [
       | inl old ↦ old
-      | inr now ↦ absurd (o.2 (ap (λ (s : Segment). s.number) (in_one _ _ now)))
+      | inr now ↦ absurd (o.2 (ap (λ (s : FileSegment). s.number) (in_one _ _ now)))
     ])) in
     let test : completing before station f number ≡ true = and_from _ _ (not_from_false _ new) others in
     cond-true (completing before station f number) (Some (made before station f number)) None test
@@ -146,11 +146,11 @@ one_part f number whole least most =
     )
 
 -- What one arrival completes is a file that has all.
-record CompletesFile (before : List Segment) (s : Segment) (w : Whole) : Type 0 where
+record CompletesFile (before : List FileSegment) (s : FileSegment) (w : Whole) : Type 0 where
   whole_is : w ≡ whole_of s.file
   has_all : HasAll (before ++ s ∷ []) s.station s.file
 
-completes_file : (before : List Segment) (s : Segment) (all : List Segment) (w : Whole) → StationsAreTold → AreSent all
+completes_file : (before : List FileSegment) (s : FileSegment) (all : List FileSegment) (w : Whole) → StationsAreTold → AreSent all
     → AreAmong (before ++ s ∷ []) all → completes (map arrival_of before) (arrival_of s) (segmentation_of s.file s.number)
     ≡ Some w
     → CompletesFile before s w
@@ -183,23 +183,23 @@ completes_file before s all w told sent among is =
           }
     ]
 
-moved_all : (before : List Segment) (s : Segment) (later : List Segment) (station : StationId) (f : File)
+moved_all : (before : List FileSegment) (s : FileSegment) (later : List FileSegment) (station : StationId) (f : File)
     → HasAll ((before ++ s ∷ []) ++ later) station f → HasAll (before ++ s ∷ later) station f
-moved_all before s later station f has_all = subst (λ (xs : List Segment). HasAll xs station f)
+moved_all before s later station f has_all = subst (λ (xs : List FileSegment). HasAll xs station f)
     (append_assoc before (s ∷ []) later) has_all
 
-more_all : (xs ys : List Segment) (station : StationId) (f : File) → HasAll xs station f → HasAll (xs ++ ys) station f
+more_all : (xs ys : List FileSegment) (station : StationId) (f : File) → HasAll xs station f → HasAll (xs ++ ys) station f
 more_all xs ys station f has_all n least most = IsIn-before _ xs ys (has_all n least most)
 
-sent_on : (before : List Segment) (s : Segment) (later : List Segment) → AreSent (before ++ s ∷ later)
+sent_on : (before : List FileSegment) (s : FileSegment) (later : List FileSegment) → AreSent (before ++ s ∷ later)
     → AreSent ((before ++ s ∷ []) ++ later)
 sent_on before s later sent = subst AreSent (sym (append_assoc before (s ∷ []) later)) sent
 
-among_first : (before : List Segment) (s : Segment) (later : List Segment) → AreAmong (before ++ s ∷ []) (before ++ s ∷ later)
+among_first : (before : List FileSegment) (s : FileSegment) (later : List FileSegment) → AreAmong (before ++ s ∷ []) (before ++ s ∷ later)
 among_first before s later x there =
     subst (IsIn x) (append_assoc before (s ∷ []) later) (IsIn-before x (before ++ s ∷ []) later there)
 
-pub only_files : StationsAreTold → (before now : List Segment) (whole : Whole) → AreSent (before ++ now)
+pub only_files : StationsAreTold → (before now : List FileSegment) (whole : Whole) → AreSent (before ++ now)
     → IsIn whole (completed_after (map arrival_of before) (map arrival_of now)) → IsOfFile before now whole
 only_files told before [] w sent h = absurd h
 only_files told before (s ∷ later) w sent h =
@@ -233,16 +233,16 @@ only_files told before (s ∷ later) w sent h =
     ]
 
 -- each segment stands among these, as a test
-abbrev has_each : StationId → File → List Segment → Bool
+abbrev has_each : StationId → File → List FileSegment → Bool
 has_each station f xs = list_all (λ (n : ℕ). has station f n xs) (range_with_len 1 (length (parts_of f)))
 
-each-all : (all : List Segment) (station : StationId) (f : File) (xs : List Segment) → IsOfSent all station f → AreAmong xs all
+each-all : (all : List FileSegment) (station : StationId) (f : File) (xs : List FileSegment) → IsOfSent all station f → AreAmong xs all
     → has_each station f xs ≡ true → HasAll xs station f
 each-all all station f xs of_sent among each n least most =
     has-in all station f n xs of_sent among (all_in _ n _ each (range_has n 1 (length (parts_of f)) least (omega arith)))
 
 -- a number that has not come is that of the segment that fills the file
-missing : (all before : List Segment) (s : Segment) (station : StationId) (f : File) → IsOfSent all station f
+missing : (all before : List FileSegment) (s : FileSegment) (station : StationId) (f : File) → IsOfSent all station f
     → has_each station f before ≡ false → HasAll (before ++ s ∷ []) station f
     → (n : ℕ) × (s ≡ segment station f n) × (has station f n before ≡ false)
 missing all before s station f of_sent lacks has_all =
@@ -256,13 +256,13 @@ missing all before s station f of_sent lacks has_all =
       | inr now ↦ (lost.0, sym (in_one _ _ now), lost.2)
     ]
 
-pub files : StationsAreTold → (before now : List Segment) (station : StationId) (file : File) → AreSent (before ++ now)
+pub files : StationsAreTold → (before now : List FileSegment) (station : StationId) (file : File) → AreSent (before ++ now)
     → is_segmented file.form file.payload ≡ true → HasAll (before ++ now) station file → (HasAll before station file → ⊥)
     → IsIn (whole_of file) (completed_after (map arrival_of before) (map arrival_of now))
 files told before [] station f sent cut has_all lacks =
-    absurd (lacks (subst (λ (xs : List Segment). HasAll xs station f) (append-nil before) has_all))
+    absurd (lacks (subst (λ (xs : List FileSegment). HasAll xs station f) (append-nil before) has_all))
 files told before (s ∷ later) station f sent cut has_all lacks =
-    let all : List Segment = before ++ s ∷ later in
+    let all : List FileSegment = before ++ s ∷ later in
     let moved : map arrival_of (before ++ s ∷ []) ≡ map arrival_of before ++ arrival_of s ∷ [] =
     map-append arrival_of before (s ∷ []) in
     let of_sent : IsOfSent all station f = record {
@@ -282,13 +282,13 @@ files told before (s ∷ later) station f sent cut has_all lacks =
           (λ e. lacks (each-all all station f before of_sent before_in e)) in
           let lost = missing all before s station f of_sent fails has_first in
           let is : completes (map arrival_of before) (arrival_of s) (segmentation_of s.file s.number) ≡ Some (whole_of f) =
-          subst (λ (x : Segment). completes (map arrival_of before) (arrival_of x) (segmentation_of x.file x.number)
+          subst (λ (x : FileSegment). completes (map arrival_of before) (arrival_of x) (segmentation_of x.file x.number)
           ≡ Some (whole_of f))
           (sym lost.1)
           (ap (completes (map arrival_of before) (arrival_of (segment station f lost.0))) (segmentation-cut f lost.0 cut)
           ∙ made_whole before station f lost.0 all of_sent
-          (subst (λ (x : Segment). AreAmong (before ++ x ∷ []) all) lost.1 first_in)
-          (subst (λ (x : Segment). HasAll (before ++ x ∷ []) station f) lost.1 has_first) lost.2) in
+          (subst (λ (x : FileSegment). AreAmong (before ++ x ∷ []) all) lost.1 first_in)
+          (subst (λ (x : FileSegment). HasAll (before ++ x ∷ []) station f) lost.1 has_first) lost.2) in
           brings (map arrival_of before) (arrival_of s) (whole_of f)
           (completed_after (map arrival_of before ++ arrival_of s ∷ []) (map arrival_of later)) is
       | inr fails ↦
@@ -301,10 +301,10 @@ files told before (s ∷ later) station f sent cut has_all lacks =
           (completed_after (map arrival_of before ++ arrival_of s ∷ []) (map arrival_of later))
           (subst (λ (b : List Arrival). IsIn (whole_of f) (completed_after b (map arrival_of later))) moved
           (files told (before ++ s ∷ []) later station f (sent_on before s later sent) cut
-          (subst (λ (xs : List Segment). HasAll xs station f) (sym (append_assoc before (s ∷ []) later)) has_all) lacks_first))
+          (subst (λ (xs : List FileSegment). HasAll xs station f) (sym (append_assoc before (s ∷ []) later)) has_all) lacks_first))
     ]
 
-whole_on : (before : List Arrival) (now : List Segment) (station : StationId) (f : File) → is_segmented f.form f.payload ≡ false
+whole_on : (before : List Arrival) (now : List FileSegment) (station : StationId) (f : File) → is_segmented f.form f.payload ≡ false
     → IsIn (segment station f 1) now → IsIn (whole_of f) (completed_after before (map arrival_of now))
 whole_on before [] station f whole h = absurd h
 whole_on before (s ∷ later) station f whole (inl e) =
@@ -313,14 +313,14 @@ whole_on before (s ∷ later) station f whole (inl e) =
     ap (completes before (arrival_of (segment station f 1))) (segmentation-whole f 1 whole)
     ∙ ap (λ (bytes : List ℕ). Some (whole_with (arrival_of (segment station f 1)) bytes)) one in
     let at : completes before (arrival_of s) (segmentation_of s.file s.number) ≡ Some (whole_of f) =
-    subst (λ (x : Segment). completes before (arrival_of x) (segmentation_of x.file x.number) ≡ Some (whole_of f)) e is in
+    subst (λ (x : FileSegment). completes before (arrival_of x) (segmentation_of x.file x.number) ≡ Some (whole_of f)) e is in
     brings before (arrival_of s) (whole_of f) (completed_after (before ++ arrival_of s ∷ []) (map arrival_of later)) at
 whole_on before (s ∷ later) station f whole (inr h) =
     IsIn-after (whole_of f) (completed_now before (arrival_of s)) (completed_after (before ++ arrival_of s ∷ [])
     (map arrival_of later))
     (whole_on (before ++ arrival_of s ∷ []) later station f whole h)
 
-pub whole_files : (before now : List Segment) (station : StationId) (file : File) → AreSent (before ++ now)
+pub whole_files : (before now : List FileSegment) (station : StationId) (file : File) → AreSent (before ++ now)
     → is_segmented file.form file.payload ≡ false → IsIn (segment station file 1) now
     → IsIn (whole_of file) (completed_after (map arrival_of before) (map arrival_of now))
 whole_files before now station f sent whole h = whole_on (map arrival_of before) now station f whole h

@@ -11,7 +11,7 @@ use Rattle.apdu_core.specs.declared.unit.Seg.{Seg}
 use Rattle.list_members.specs.Membership.{IsIn}
 use Rattle.segment_core.specs.File.{File, is_segmented, parts_of, part_of, segmentation_of}
 use Rattle.segment_core.specs.Arrival.{same_file, is_piece, first_piece, has_piece, bytes_of_piece, joined_payload}
-use Rattle.segment_core.specs.Joining.{Segment, segment, arrival_of, AreApart, HasAll}
+use Rattle.segment_core.specs.Joining.{FileSegment, segment, arrival_of, AreApart, HasAll}
 use Rattle.segment_core.proofs.Parts.{are_parts}
 use Rattle.list_members.proofs.Ranges.{in_range, flat_map_same}
 use Rattle.segment_core.proofs.Ranges.{read_all}
@@ -28,22 +28,22 @@ pub segmentation-whole : (f : File) (number : ℕ) → is_segmented f.form f.pay
 segmentation-whole f number whole = cond-false (is_segmented f.form f.payload) (Some (fields_of f number)) None whole
 
 -- whether a segment is a piece of a file, and whether one of these is
-abbrev pub is_of : StationId → File → ℕ → Segment → Bool
+abbrev pub is_of : StationId → File → ℕ → FileSegment → Bool
 is_of station f number s = is_piece (arrival_of (segment station f 1)) (fields_of f 1) number (arrival_of s)
     (segmentation_of s.file s.number)
 
-abbrev pub has : StationId → File → ℕ → List Segment → Bool
+abbrev pub has : StationId → File → ℕ → List FileSegment → Bool
 has station f number xs = has_piece (map arrival_of xs) (arrival_of (segment station f 1)) (fields_of f 1) number
 
 -- the file is one of those of which segments are sent, and it is cut
-pub record IsOfSent (all : List Segment) (station : StationId) (f : File) : Type 0 where
+pub record IsOfSent (all : List FileSegment) (station : StationId) (f : File) : Type 0 where
   pub told : StationsAreTold
   pub apart : AreApart all
   pub cut : is_segmented f.form f.payload ≡ true
   pub some : ℕ
   pub sent : IsIn (segment station f some) all
 
-segment_is : (s : Segment) (station : StationId) (f : File) (number : ℕ) → station ≡ s.station → f ≡ s.file → s.number ≡ number
+segment_is : (s : FileSegment) (station : StationId) (f : File) (number : ℕ) → station ≡ s.station → f ≡ s.file → s.number ≡ number
     → s ≡ segment station f number
 segment_is s station f number station_is file_is number_is =
     ap (λ (x : StationId). segment x s.file s.number) (sym station_is)
@@ -51,7 +51,7 @@ segment_is s station f number station_is file_is number_is =
     ∙ ap (segment station f) number_is
 
 -- a piece is that very segment
-pub piece-is : (all : List Segment) (station : StationId) (f : File) (number : ℕ) (s : Segment) → IsOfSent all station f
+pub piece-is : (all : List FileSegment) (station : StationId) (f : File) (number : ℕ) (s : FileSegment) → IsOfSent all station f
     → IsIn s all → is_of station f number s ≡ true → s ≡ segment station f number
 piece-is all station f number s of_sent there is = elim (cases_Bool (is_segmented s.file.form s.file.payload)) [
   | inl cut ↦
@@ -77,7 +77,7 @@ piece-is all station f number s of_sent there is = elim (cases_Bool (is_segmente
       absurd (cc)
 ]
 
-pub is_piece-of : (all : List Segment) (station : StationId) (f : File) (number : ℕ) → IsOfSent all station f
+pub is_piece-of : (all : List FileSegment) (station : StationId) (f : File) (number : ℕ) → IsOfSent all station f
     → is_of station f number (segment station f number) ≡ true
 is_piece-of all station f number of_sent =
     subst (λ (o : Option Seg). is_piece (arrival_of (segment station f 1))
@@ -88,10 +88,10 @@ is_piece-of all station f number of_sent =
     (eq-eqb f.number f.number refl)) (eq-eqb (length (parts_of f)) (length (parts_of f)) refl)) (eq-eqb number number refl))
 
 -- each of these stands among all
-abbrev pub AreAmong : List Segment → List Segment → Type 0
-AreAmong xs all = (s : Segment) → IsIn s xs → IsIn s all
+abbrev pub AreAmong : List FileSegment → List FileSegment → Type 0
+AreAmong xs all = (s : FileSegment) → IsIn s xs → IsIn s all
 
-pub has-in : (all : List Segment) (station : StationId) (f : File) (number : ℕ) (xs : List Segment) → IsOfSent all station f
+pub has-in : (all : List FileSegment) (station : StationId) (f : File) (number : ℕ) (xs : List FileSegment) → IsOfSent all station f
     → AreAmong xs all → has station f number xs ≡ true → IsIn (segment station f number) xs
 has-in all station f number [] of_sent among h = absurd (cc)
 has-in all station f number (x ∷ xs) of_sent among h = elim (or_cases (is_of station f number x) (has station f number xs) h) [
@@ -99,17 +99,17 @@ has-in all station f number (x ∷ xs) of_sent among h = elim (or_cases (is_of s
   | inr later ↦ inr (has-in all station f number xs of_sent (λ s there. among s (inr there)) later)
 ]
 
-pub in-has : (all : List Segment) (station : StationId) (f : File) (number : ℕ) (xs : List Segment) → IsOfSent all station f
+pub in-has : (all : List FileSegment) (station : StationId) (f : File) (number : ℕ) (xs : List FileSegment) → IsOfSent all station f
     → IsIn (segment station f number) xs → has station f number xs ≡ true
 in-has all station f number [] of_sent h = absurd h
 in-has all station f number (x ∷ xs) of_sent (inl e) =
     or_left (is_of station f number x) (has station f number xs)
-    (subst (λ (s : Segment). is_of station f number s ≡ true) e (is_piece-of all station f number of_sent))
+    (subst (λ (s : FileSegment). is_of station f number s ≡ true) e (is_piece-of all station f number of_sent))
 in-has all station f number (x ∷ xs) of_sent (inr h) =
     or_right (is_of station f number x) (has station f number xs) (in-has all station f number xs of_sent h)
 
 -- the first piece of a number carries that part
-pub first-is : (all : List Segment) (station : StationId) (f : File) (number : ℕ) (xs : List Segment) → IsOfSent all station f
+pub first-is : (all : List FileSegment) (station : StationId) (f : File) (number : ℕ) (xs : List FileSegment) → IsOfSent all station f
     → AreAmong xs all → IsIn (segment station f number) xs
     → bytes_of_piece (first_piece (map arrival_of xs) (arrival_of (segment station f 1)) (fields_of f 1) number)
     ≡ part_of f number
@@ -119,12 +119,12 @@ first-is all station f number (x ∷ xs) of_sent among h = elim (cases_Bool (is_
       let e : x ≡ segment station f number = piece-is all station f number x of_sent (among x (inl refl)) here in
       ap bytes_of_piece (cond-true (is_of station f number x) (Some (arrival_of x)) (first_piece (map arrival_of xs)
       (arrival_of (segment station f 1)) (fields_of f 1) number) here)
-      ∙ ap (λ (s : Segment). part_of s.file s.number) e
+      ∙ ap (λ (s : FileSegment). part_of s.file s.number) e
   | inr other ↦
       let later : IsIn (segment station f number) xs = elim h [
         | inl e ↦
             let is : is_of station f number x ≡ true =
-            subst (λ (s : Segment). is_of station f number s ≡ true) e (is_piece-of all station f number of_sent) in
+            subst (λ (s : FileSegment). is_of station f number s ≡ true) e (is_piece-of all station f number of_sent) in
             absurd (cc)
         | inr there ↦ there
       ] in
@@ -134,7 +134,7 @@ first-is all station f number (x ∷ xs) of_sent among h = elim (cases_Bool (is_
 ]
 
 -- all of them joined are the payload
-pub joined-is : (all : List Segment) (station : StationId) (f : File) (xs : List Segment) → IsOfSent all station f
+pub joined-is : (all : List FileSegment) (station : StationId) (f : File) (xs : List FileSegment) → IsOfSent all station f
     → AreAmong xs all → HasAll xs station f
     → joined_payload (map arrival_of xs) (arrival_of (segment station f 1)) (fields_of f 1) ≡ f.payload
 joined-is all station f xs of_sent among has_all =

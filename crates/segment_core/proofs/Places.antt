@@ -1,20 +1,21 @@
 -- Each name that is held has a place in the queue of ends.
-use Rattle.std.proofs.Common.{◌≡◌, ℕ, ◌+◌, ◌<◌, ◌≤◌, ◌&&◌, true, false, List, [], ◌∷◌, Option, Some, None, is_some, refl, sym, ap, subst}
-use Rattle.std.proofs.Common.{◌∙◌, inl, inr, arith, cond, nat_le}
+use Rattle.std.proofs.Common.{◌≡◌, ℕ, Bool, ◌+◌, ◌≤◌, ◌&&◌, true, false, List, [], ◌∷◌, Option, Some, None, is_some, refl, sym, ap, subst}
+use Rattle.std.proofs.Common.{◌∙◌, inl, inr, cond, nat_le}
 use Rattle.std.specs.BTreeMap.{is_at}
 use Rattle.std.specs.List.{AllByRecursion}
 use Rattle.std.specs.List.Sorted.{IsStrictlySortedBy}
 use Rattle.std.specs.Map.{keys_of, remove_entry}
 use Rattle.std.specs.Ordering.{is_eq}
-use Rattle.std.proofs.lemmas.Bool.{and_parts, cases_Bool, cond-true, leb-true, le-leb, lt-ltb, or_cases}
+use Rattle.std.proofs.lemmas.Bool.{and_parts, cases_Bool, cond-true, leb-true, le-leb}
 use Rattle.std.proofs.lemmas.Bool.Decides.{eqb_tells}
 use Rattle.list_members.proofs.Ranges.{all_in}
-use Rattle.undo_map.specs.Ends.{HasAdded, HasLeft, KeepsPlaces}
+use Rattle.undo_map.specs.Ends.{HasAdded, HasLeft, KeepsPlaces, has_place_by}
 use Rattle.undo_map.specs.Marked.{Marked}
+use Rattle.uplink_frame.specs.Laws.{StationsAreTold}
 use Rattle.segment_core.specs.Arrival.{other_numbers}
-use Rattle.segment_core.specs.Ends.{HaveMarkedPlaces, HavePlaces, has_place}
+use Rattle.segment_core.specs.Ends.{MarkedPiecesHavePlaces, PiecesHavePlaces}
 use Rattle.segment_core.specs.HeldPieces.{held_with, is_held, is_number_of, others_held}
-use Rattle.segment_core.specs.Kept.{Pieces, fields_of, kept_under, same_piece, with_number}
+use Rattle.segment_core.specs.Kept.{KeptPieces, fields_of, kept_under, same_piece, with_number}
 use Rattle.segment_core.specs.Store.{is_live, live_pieces, longest_of}
 use Rattle.segment_core.specs.contracts.piece_name.PieceNameOrd.TheImpl as order
 use Rattle.segment_core.specs.declared.piece_name.PieceName.{PieceName}
@@ -26,98 +27,28 @@ use Rattle.segment_core.proofs.PieceNames.{agrees, same-is, same-self}
 abbrev pub MarkedPieces : Type 0
 MarkedPieces = Marked PieceName (Option (List ℕ))
 
--- what is held in the first entry, and what in the others
-held-first : (e : PieceName × Option (List ℕ)) (es : Pieces) → is_some (kept_under (e ∷ es) e.0) ≡ true
-held-first e es = rw (same-self e.0) refl
-
-held-later : (e : PieceName × Option (List ℕ)) (es : Pieces) (q : PieceName) → is_some (kept_under es q) ≡ true
+-- what is held in the other entries
+held-later : (e : PieceName × Option (List ℕ)) (es : KeptPieces) (q : PieceName) → is_some (kept_under es q) ≡ true
     → is_some (kept_under (e ∷ es) q) ≡ true
 held-later e es q some = elim (cases_Bool (same_piece q e.0)) [
   | inl is ↦ rw is refl
   | inr not ↦ rw not some
 ]
 
--- where no place has come, no file of a name that has one is stale
-later-place : (longest : Longest) (moment : ℕ) (places : List (ℕ × PieceName)) (q : PieceName)
-    → AllByRecursion (λ place. moment < place.0) places → has_place longest places q ≡ true
-    → moment < q.version + longest_of longest q.product
-later-place longest moment [] q all some = cc
-later-place longest moment (p ∷ places) q all some =
-    let end = q.version + longest_of longest q.product in
-    elim (or_cases (same_piece q p.1 && nat_le p.0 end) (has_place longest places q) some) [
-      | inl first ↦
-          let parts = and_parts (same_piece q p.1) (nat_le p.0 end) first in
-          let early : p.0 ≤ end = leb-true p.0 end parts.1 in
-          let later : moment < p.0 = all.0 in
-          omega arith
-      | inr more ↦ later-place longest moment places q all.1 more
-    ]
+-- the name stands there, at a second from which on its file is stale or at one before it
+abbrev has_place : Longest → List (ℕ × PieceName) → PieceName → Bool
+has_place longest places name = has_place_by order.ghosts.cmp places name (name.version + longest_of longest name.product)
 
--- and so all pieces live
-pub none-stale : (longest : Longest) (moment : ℕ) (places : List (ℕ × PieceName)) (pieces : Pieces)
-    → AllByRecursion (λ place. moment < place.0) places → HavePlaces longest places pieces
-    → live_pieces longest moment pieces ≡ pieces
-none-stale longest moment places [] all placed = refl
-none-stale longest moment places (e ∷ es) all placed =
-    let before = later-place longest moment places e.0 all (placed e.0 (held-first e es)) in
-    let lives : is_live longest moment e.0.product e.0.version ≡ true =
-    lt-ltb moment (e.0.version + longest_of longest e.0.product) before in
-    rw lives
-    (ap (λ (more : Pieces). e ∷ more)
-    (none-stale longest moment places es all (λ q some. placed q (held-later e es q some))))
-
-pub places-kept : (longest : Longest) (old new : List (ℕ × PieceName)) (pieces : Pieces) → KeepsPlaces old new
-    → HavePlaces longest old pieces → HavePlaces longest new pieces
-places-kept longest old new pieces kept placed q some =
-    kept (λ place. same_piece q place.1 && nat_le place.0 (q.version + longest_of longest q.product)) (placed q some)
-
--- a place that is added for a name is its place
-pub place-added : (longest : Longest) (end : ℕ) (name : PieceName) (places : List (ℕ × PieceName))
-    → end ≤ name.version + longest_of longest name.product → HasAdded (end, name) places
-    → has_place longest places name ≡ true
-place-added longest end name places before added =
-    added (λ place. same_piece name place.1 && nat_le place.0 (name.version + longest_of longest name.product))
-    (rw (same-self name) (le-leb end (name.version + longest_of longest name.product) before))
-
--- what holds of a name, and of each that was held, holds of each that is held with it
-each-with : (P : PieceName → Type 0) (pieces : Pieces) (name q : PieceName) (payload : List ℕ) → P name
-    → ((k : PieceName) → is_some (kept_under pieces k) ≡ true → P k)
-    → is_some (held_with pieces name payload q) ≡ true → P q
-each-with P pieces name q payload own before some = elim (cases_Bool (is_some (kept_under pieces name))) [
-  | inl old ↦ before q (sym (ap is_some (cond-true _ (kept_under pieces q) _ old)) ∙ some)
-  | inr new ↦ elim (cases_Bool (others_held pieces name)) [
-    | inl all ↦ elim (cases_Bool (is_number_of name q)) [
-      | inl is ↦
-          let both = and_parts _ _ is in
-          let parts = and_parts _ _ both.0 in
-          let same : q ≡ with_number name q.number = same-is q (with_number name q.number) parts.0 in
-          subst P (sym same) (elim (eqb_tells q.number name.number) [
-            | inl this ↦ subst P (sym (ap (with_number name) this.1)) own
-            | inr other ↦
-                let there = others-in (fields_of name) q.number (leb-true 1 q.number parts.1) (leb-true q.number name.count both.1)
-                other.1 in
-                before (with_number name q.number)
-                (all_in (is_held pieces name) q.number (other_numbers (fields_of name)) all there)
-          ])
-      | inr not ↦ before q (let was = rw (new, all, not) at some in was)
-    ]
-    | inr waits ↦ elim (cases_Bool (same_piece q name)) [
-      | inl is ↦ subst P (sym (same-is q name is)) own
-      | inr not ↦ before q (let was = rw (new, waits, not) at some in was)
-    ]
-  ]
-]
-
-pub places-with : (longest : Longest) (old new : List (ℕ × PieceName)) (pieces later : Pieces) (name : PieceName)
-    (payload : List ℕ)
-    → ((q : PieceName) → kept_under later q ≡ held_with pieces name payload q) → KeepsPlaces old new
-    → has_place longest new name ≡ true → HavePlaces longest old pieces → HavePlaces longest new later
-places-with longest old new pieces later name payload becomes kept own placed q some =
-    each-with (λ (k : PieceName). has_place longest new k ≡ true) pieces name q payload own
-    (places-kept longest old new pieces kept placed) (ap is_some (sym (becomes q)) ∙ some)
+pub places-kept : (longest : Longest) (old new : List (ℕ × PieceName)) (pieces : KeptPieces) → KeepsPlaces old new
+    → PiecesHavePlaces longest old pieces → PiecesHavePlaces longest new pieces
+places-kept longest old new [] kept placed = tt
+places-kept longest old new (e ∷ es) kept placed = (
+  kept (λ place. is_eq (order.ghosts.cmp place.1 e.0) && nat_le place.0 (e.0.version + longest_of longest e.0.product)) placed.0,
+  places-kept longest old new es kept placed.1,
+)
 
 -- a name that is removed, by the order of the names
-removed-found : (name : PieceName) (pieces : Pieces)
+removed-found : (name : PieceName) (pieces : KeptPieces)
     → remove_entry (is_at (order.ghosts.cmp name)) pieces ≡ remove_entry (same_piece name) pieces
 removed-found name [] = refl
 removed-found name (e ∷ es) = elim (cases_Bool (same_piece name e.0)) [
@@ -126,90 +57,163 @@ removed-found name (e ∷ es) = elim (cases_Bool (same_piece name e.0)) [
       rw (found, is) refl
   | inr not ↦
       let other : is_eq (order.ghosts.cmp name e.0) ≡ false = agrees name e.0 ∙ not in
-      rw (other, not) (ap (λ (more : Pieces). e ∷ more) (removed-found name es))
+      rw (other, not) (ap (λ (more : KeptPieces). e ∷ more) (removed-found name es))
 ]
 
-stale-removed : (longest : Longest) (moment : ℕ) (name : PieceName) (pieces : Pieces)
-    → is_live longest moment name.product name.version ≡ false
-    → live_pieces longest moment (remove_entry (same_piece name) pieces) ≡ live_pieces longest moment pieces
-stale-removed longest moment name [] stale = refl
-stale-removed longest moment name (e ∷ es) stale = elim (cases_Bool (same_piece name e.0)) [
-  | inl is ↦
-      let own : is_live longest moment e.0.product e.0.version ≡ false =
-      subst (λ (k : PieceName). is_live longest moment k.product k.version ≡ false) (same-is name e.0 is) stale in
-      rw (is, own) refl
-  | inr not ↦ rw not (elim (cases_Bool (is_live longest moment e.0.product e.0.version)) [
-    | inl lives ↦ rw lives (ap (λ (more : Pieces). e ∷ more) (stale-removed longest moment name es stale))
-    | inr over ↦ rw over (stale-removed longest moment name es stale)
-  ])
-]
+module _ (told : StationsAreTold) where
+  -- what is held in the first entry
+  held-first : (e : PieceName × Option (List ℕ)) (es : KeptPieces) → is_some (kept_under (e ∷ es) e.0) ≡ true
+  held-first e es = rw (same-self told e.0) refl
 
-pub live-removed : (longest : Longest) (moment : ℕ) (name : PieceName) (pieces later : Pieces)
-    → is_live longest moment name.product name.version ≡ false
-    → later ≡ remove_entry (is_at (order.ghosts.cmp name)) pieces
-    → live_pieces longest moment later ≡ live_pieces longest moment pieces
-live-removed longest moment name pieces later stale is =
-    ap (live_pieces longest moment) (is ∙ removed-found name pieces) ∙ stale-removed longest moment name pieces stale
+  -- what holds of each name that is held, by the entries and by the names
+  each-held : (P : PieceName → Type 0) (pieces : KeptPieces) → AllByRecursion (λ e. P e.0) pieces → (q : PieceName)
+      → is_some (kept_under pieces q) ≡ true → P q
+  each-held P [] all q some = cc
+  each-held P (e ∷ es) all q some = elim (cases_Bool (same_piece q e.0)) [
+    | inl is ↦ subst P (sym (same-is told q e.0 is)) all.0
+    | inr not ↦
+        let later : is_some (kept_under es q) ≡ true = rw not at some in
+        each-held P es all.1 q later
+  ]
 
--- the places of the others, where one of a name is taken out
-other-left : (longest : Longest) (end : ℕ) (name q : PieceName) (old new : List (ℕ × PieceName)) → HasLeft (end, name) old new
-    → same_piece q name ≡ false → has_place longest old q ≡ true → has_place longest new q ≡ true
-other-left longest end name q old new left not some =
-    left (λ place. same_piece q place.1 && nat_le place.0 (q.version + longest_of longest q.product)) (rw not refl) some
+  all-held : (P : PieceName → Type 0) (pieces : KeptPieces) → ((q : PieceName) → is_some (kept_under pieces q) ≡ true → P q)
+      → AllByRecursion (λ e. P e.0) pieces
+  all-held P [] each = tt
+  all-held P (e ∷ es) each = (each e.0 (held-first e es), all-held P es (λ q some. each q (held-later e es q some)))
 
--- the name is removed
-pub places-removed : (longest : Longest) (end : ℕ) (name : PieceName) (old new : List (ℕ × PieceName)) (pieces later : Pieces)
-    → IsStrictlySortedBy order.ghosts.cmp (keys_of pieces) → later ≡ remove_entry (is_at (order.ghosts.cmp name)) pieces
-    → HasLeft (end, name) old new → HavePlaces longest old pieces → HavePlaces longest new later
-places-removed longest end name old new pieces later sorted is left placed q some =
-    let without = held-without name q pieces (once-sorted pieces sorted) in
-    let held : is_some (cond (same_piece name q) None (kept_under pieces q)) ≡ true =
-    sym (ap is_some (ap (λ (ps : Pieces). kept_under ps q) (is ∙ removed-found name pieces) ∙ without)) ∙ some in
-    elim (cases_Bool (same_piece name q)) [
-      | inl same ↦ let none : false ≡ true = rw same at held in cc none
-      | inr other ↦
-          let was : is_some (kept_under pieces q) ≡ true = rw other at held in
-          let turned : same_piece q name ≡ false = same-turned q name ∙ other in
-          other-left longest end name q old new left turned (placed q was)
+  -- a place that is added for a name is its place
+  pub place-added : (longest : Longest) (end : ℕ) (name : PieceName) (places : List (ℕ × PieceName))
+      → end ≤ name.version + longest_of longest name.product → HasAdded (end, name) places
+      → has_place longest places name ≡ true
+  place-added longest end name places before added =
+      let own : is_eq (order.ghosts.cmp name name) ≡ true = agrees name name ∙ same-self told name in
+      added (λ place. is_eq (order.ghosts.cmp place.1 name) && nat_le place.0 (name.version + longest_of longest name.product))
+      (rw own (le-leb end (name.version + longest_of longest name.product) before))
+
+  -- what holds of a name, and of each that was held, holds of each that is held with it
+  each-with : (P : PieceName → Type 0) (pieces : KeptPieces) (name q : PieceName) (payload : List ℕ) → P name
+      → ((k : PieceName) → is_some (kept_under pieces k) ≡ true → P k)
+      → is_some (held_with pieces name payload q) ≡ true → P q
+  each-with P pieces name q payload own before some = elim (cases_Bool (is_some (kept_under pieces name))) [
+    | inl old ↦ before q (sym (ap is_some (cond-true _ (kept_under pieces q) _ old)) ∙ some)
+    | inr new ↦ elim (cases_Bool (others_held pieces name)) [
+      | inl all ↦ elim (cases_Bool (is_number_of name q)) [
+        | inl is ↦
+            let both = and_parts _ _ is in
+            let parts = and_parts _ _ both.0 in
+            let same : q ≡ with_number name q.number = same-is told q (with_number name q.number) parts.0 in
+            subst P (sym same) (elim (eqb_tells q.number name.number) [
+              | inl this ↦ subst P (sym (ap (with_number name) this.1)) own
+              | inr other ↦
+                  let there = others-in (fields_of name) q.number (leb-true 1 q.number parts.1) (leb-true q.number name.count both.1)
+                  other.1 in
+                  before (with_number name q.number)
+                  (all_in (is_held pieces name) q.number (other_numbers (fields_of name)) all there)
+            ])
+        | inr not ↦ before q (let was = rw (new, all, not) at some in was)
+      ]
+      | inr waits ↦ elim (cases_Bool (same_piece q name)) [
+        | inl is ↦ subst P (sym (same-is told q name is)) own
+        | inr not ↦ before q (let was = rw (new, waits, not) at some in was)
+      ]
     ]
+  ]
 
--- the name is given a place again
-pub places-again : (longest : Longest) (end again : ℕ) (name : PieceName) (old left new : List (ℕ × PieceName)) (pieces : Pieces)
-    → again ≤ name.version + longest_of longest name.product → HasLeft (end, name) old left → KeepsPlaces left new
-    → HasAdded (again, name) new → HavePlaces longest old pieces → HavePlaces longest new pieces
-places-again longest end again name old left new pieces before taken kept added placed q some =
-    elim (cases_Bool (same_piece q name)) [
-      | inl same ↦
-          subst (λ (k : PieceName). has_place longest new k ≡ true) (sym (same-is q name same))
-          (place-added longest again name new before added)
-      | inr other ↦
-          kept (λ place. same_piece q place.1 && nat_le place.0 (q.version + longest_of longest q.product))
-          (other-left longest end name q old left taken other (placed q some))
-    ]
+  pub places-with : (longest : Longest) (old new : List (ℕ × PieceName)) (pieces later : KeptPieces) (name : PieceName)
+      (payload : List ℕ)
+      → ((q : PieceName) → kept_under later q ≡ held_with pieces name payload q) → KeepsPlaces old new
+      → has_place longest new name ≡ true → PiecesHavePlaces longest old pieces → PiecesHavePlaces longest new later
+  places-with longest old new pieces later name payload becomes kept own placed =
+      let P : PieceName → Type 0 = λ k. has_place longest new k ≡ true in
+      all-held P later (λ q some. each-with P pieces name q payload own
+      (each-held P pieces (places-kept longest old new pieces kept placed)) (ap is_some (sym (becomes q)) ∙ some))
+
+  stale-removed : (longest : Longest) (moment : ℕ) (name : PieceName) (pieces : KeptPieces)
+      → is_live longest moment name.product name.version ≡ false
+      → live_pieces longest moment (remove_entry (same_piece name) pieces) ≡ live_pieces longest moment pieces
+  stale-removed longest moment name [] stale = refl
+  stale-removed longest moment name (e ∷ es) stale = elim (cases_Bool (same_piece name e.0)) [
+    | inl is ↦
+        let own : is_live longest moment e.0.product e.0.version ≡ false =
+        subst (λ (k : PieceName). is_live longest moment k.product k.version ≡ false) (same-is told name e.0 is) stale in
+        rw (is, own) refl
+    | inr not ↦ rw not (elim (cases_Bool (is_live longest moment e.0.product e.0.version)) [
+      | inl lives ↦ rw lives (ap (λ (more : KeptPieces). e ∷ more) (stale-removed longest moment name es stale))
+      | inr over ↦ rw over (stale-removed longest moment name es stale)
+    ])
+  ]
+
+  pub live-removed : (longest : Longest) (moment : ℕ) (name : PieceName) (pieces later : KeptPieces)
+      → is_live longest moment name.product name.version ≡ false
+      → later ≡ remove_entry (is_at (order.ghosts.cmp name)) pieces
+      → live_pieces longest moment later ≡ live_pieces longest moment pieces
+  live-removed longest moment name pieces later stale is =
+      ap (live_pieces longest moment) (is ∙ removed-found name pieces) ∙ stale-removed longest moment name pieces stale
+
+  -- the places of the others, where one of a name is taken out
+  other-left : (longest : Longest) (end : ℕ) (name q : PieceName) (old new : List (ℕ × PieceName)) → HasLeft (end, name) old new
+      → same_piece q name ≡ false → has_place longest old q ≡ true → has_place longest new q ≡ true
+  other-left longest end name q old new left not some =
+      let other : is_eq (order.ghosts.cmp name q) ≡ false = agrees name q ∙ same-turned told name q ∙ not in
+      left (λ place. is_eq (order.ghosts.cmp place.1 q) && nat_le place.0 (q.version + longest_of longest q.product)) (rw other refl) some
+
+  -- the name is removed
+  pub places-removed : (longest : Longest) (end : ℕ) (name : PieceName) (old new : List (ℕ × PieceName)) (pieces later : KeptPieces)
+      → IsStrictlySortedBy order.ghosts.cmp (keys_of pieces) → later ≡ remove_entry (is_at (order.ghosts.cmp name)) pieces
+      → HasLeft (end, name) old new → PiecesHavePlaces longest old pieces → PiecesHavePlaces longest new later
+  places-removed longest end name old new pieces later sorted is left placed =
+      all-held (λ k. has_place longest new k ≡ true) later (λ q some.
+      let without = held-without told name q pieces (once-sorted pieces sorted) in
+      let held : is_some (cond (same_piece name q) None (kept_under pieces q)) ≡ true =
+      sym (ap is_some (ap (λ (ps : KeptPieces). kept_under ps q) (is ∙ removed-found name pieces) ∙ without)) ∙ some in
+      elim (cases_Bool (same_piece name q)) [
+        | inl same ↦ let none : false ≡ true = rw same at held in cc none
+        | inr other ↦
+            let was : is_some (kept_under pieces q) ≡ true = rw other at held in
+            let turned : same_piece q name ≡ false = same-turned told q name ∙ other in
+            other-left longest end name q old new left turned
+            (each-held (λ k. has_place longest old k ≡ true) pieces placed q was)
+      ])
+
+  -- the name is given a place again
+  pub places-again : (longest : Longest) (end again : ℕ) (name : PieceName) (old left new : List (ℕ × PieceName)) (pieces : KeptPieces)
+      → again ≤ name.version + longest_of longest name.product → HasLeft (end, name) old left → KeepsPlaces left new
+      → HasAdded (again, name) new → PiecesHavePlaces longest old pieces → PiecesHavePlaces longest new pieces
+  places-again longest end again name old left new pieces before taken kept added placed =
+      all-held (λ k. has_place longest new k ≡ true) pieces (λ q some.
+      elim (cases_Bool (same_piece q name)) [
+        | inl same ↦
+            subst (λ (k : PieceName). has_place longest new k ≡ true) (sym (same-is told q name same))
+            (place-added longest again name new before added)
+        | inr other ↦
+            kept (λ place. is_eq (order.ghosts.cmp place.1 q) && nat_le place.0 (q.version + longest_of longest q.product))
+            (other-left longest end name q old left taken other
+            (each-held (λ k. has_place longest old k ≡ true) pieces placed q some))
+      ])
 
 pub marked-taken : (longest : Longest) (before places : List (ℕ × PieceName)) (old new : MarkedPieces) → KeepsPlaces before places
-    → new.mark ≡ old.mark → HavePlaces longest places new.entries
-    → HaveMarkedPlaces longest before old → HaveMarkedPlaces longest places new
+    → new.mark ≡ old.mark → PiecesHavePlaces longest places new.entries
+    → MarkedPiecesHavePlaces longest before old → MarkedPiecesHavePlaces longest places new
 marked-taken longest before places old new kept mark now all = (
   now,
   λ es is. places-kept longest before places es kept (all.1 es (sym mark ∙ is)),
 )
 
 pub marked-alone : (longest : Longest) (places : List (ℕ × PieceName)) (new : MarkedPieces) → new.mark ≡ None
-    → HavePlaces longest places new.entries → HaveMarkedPlaces longest places new
+    → PiecesHavePlaces longest places new.entries → MarkedPiecesHavePlaces longest places new
 marked-alone longest places new mark all = (all, λ es is. let none : None ≡ Some es = sym mark ∙ is in cc none)
 
 -- a mark that is set at the pieces, and one that is let go
 pub marked-mark : (longest : Longest) (places : List (ℕ × PieceName)) (old new : MarkedPieces)
     → new ≡ record old { mark = Some old.entries }
-    → HaveMarkedPlaces longest places old → HaveMarkedPlaces longest places new
+    → MarkedPiecesHavePlaces longest places old → MarkedPiecesHavePlaces longest places new
 marked-mark longest places old new is all =
-    subst (HaveMarkedPlaces longest places) (sym is) (
+    subst (MarkedPiecesHavePlaces longest places) (sym is) (
       all.0,
-      λ es here. let same : old.entries ≡ es = cc in subst (HavePlaces longest places) same all.0,
+      λ es here. let same : old.entries ≡ es = cc in subst (PiecesHavePlaces longest places) same all.0,
     )
 
 pub marked-settle : (longest : Longest) (places : List (ℕ × PieceName)) (old new : MarkedPieces)
-    → new ≡ record old { mark = None } → HaveMarkedPlaces longest places old → HaveMarkedPlaces longest places new
+    → new ≡ record old { mark = None } → MarkedPiecesHavePlaces longest places old → MarkedPiecesHavePlaces longest places new
 marked-settle longest places old new is all =
-    subst (HaveMarkedPlaces longest places) (sym is) (all.0, λ es none. cc none)
+    subst (MarkedPiecesHavePlaces longest places) (sym is) (all.0, λ es none. cc none)

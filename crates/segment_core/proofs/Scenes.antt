@@ -2,7 +2,7 @@
 use Rattle.std.proofs.Common.{◌≡◌, ℕ, true, List, [], ◌∷◌, Some, None, refl}
 use Rattle.uplink_frame.specs.declared.station.StationId.{StationId}
 use Rattle.uplink_frame.specs.Station.{no_station}
-use Rattle.segment_core.specs.Arrival.{Arrival, Whole, completed}
+use Rattle.segment_core.specs.Arrival.{Arrival, Whole, whole_payloads}
 
 abbrev other_station : StationId
 other_station = record { lat = 7; lon = 9; position_valid = true; site = 3 }
@@ -24,32 +24,32 @@ abbrev whole : ℕ → List ℕ → Whole
 whole version bytes = record { product = 413; version = version; payload = bytes }
 
 -- the second segment first, and the first one twice
-pub two_segments : completed (piece 100 2 2 (0xBB ∷ []) ∷ piece 100 2 1 (0xAA ∷ []) ∷ piece 100 2 1 (0xAA ∷ []) ∷ [])
+pub two_segments : whole_payloads (piece 100 2 2 (0xBB ∷ []) ∷ piece 100 2 1 (0xAA ∷ []) ∷ piece 100 2 1 (0xAA ∷ []) ∷ [])
     ≡ whole 100 (0xAA ∷ 0xBB ∷ []) ∷ []
 two_segments = refl
 
 -- half of a newer version changes nothing of the older, and is not whole
 pub newer_half :
-    completed (piece 100 2 1 (0xAA ∷ []) ∷ piece 160 2 2 (0xDD ∷ []) ∷ piece 100 2 2 (0xBB ∷ []) ∷ [])
+    whole_payloads (piece 100 2 1 (0xAA ∷ []) ∷ piece 160 2 2 (0xDD ∷ []) ∷ piece 100 2 2 (0xBB ∷ []) ∷ [])
     ≡ whole 100 (0xAA ∷ 0xBB ∷ []) ∷ []
 newer_half = refl
 
 -- two files of one number, of two versions, are joined apart
 pub two_versions :
-    completed (piece 100 2 1 (0xAA ∷ []) ∷ piece 160 2 2 (0xDD ∷ []) ∷ piece 160 2 1 (0xCC ∷ []) ∷ piece 100 2 2 (0xBB ∷ [])
+    whole_payloads (piece 100 2 1 (0xAA ∷ []) ∷ piece 160 2 2 (0xDD ∷ []) ∷ piece 160 2 1 (0xCC ∷ []) ∷ piece 100 2 2 (0xBB ∷ [])
     ∷ [])
     ≡ whole 160 (0xCC ∷ 0xDD ∷ []) ∷ whole 100 (0xAA ∷ 0xBB ∷ []) ∷ []
 two_versions = refl
 
 -- nor do pieces of two counts, or of two stations, join
-pub two_counts : completed (piece 100 3 2 (0xBB ∷ []) ∷ piece 100 2 1 (0xAA ∷ []) ∷ []) ≡ []
+pub two_counts : whole_payloads (piece 100 3 2 (0xBB ∷ []) ∷ piece 100 2 1 (0xAA ∷ []) ∷ []) ≡ []
 two_counts = refl
 
-pub two_stations : completed (piece 100 2 1 (0xAA ∷ []) ∷ from other_station 100 2 2 (0xBB ∷ []) ∷ []) ≡ []
+pub two_stations : whole_payloads (piece 100 2 1 (0xAA ∷ []) ∷ from other_station 100 2 2 (0xBB ∷ []) ∷ []) ≡ []
 two_stations = refl
 
 -- of a number that arrives with other bytes later, the first bytes stay
-pub other_bytes : completed (piece 100 2 2 (0xBB ∷ []) ∷ piece 100 2 2 (0xCC ∷ []) ∷ piece 100 2 1 (0xAA ∷ []) ∷ [])
+pub other_bytes : whole_payloads (piece 100 2 2 (0xBB ∷ []) ∷ piece 100 2 2 (0xCC ∷ []) ∷ piece 100 2 1 (0xAA ∷ []) ∷ [])
     ≡ whole 100 (0xAA ∷ 0xBB ∷ []) ∷ []
 other_bytes = refl
 
@@ -57,5 +57,5 @@ other_bytes = refl
 abbrev unsegmented : Arrival
 unsegmented = record { station = no_station; product = 413; version = 100; segmentation = None; payload = 0xEE ∷ [] }
 
-pub whole_again : completed (unsegmented ∷ unsegmented ∷ []) ≡ whole 100 (0xEE ∷ []) ∷ whole 100 (0xEE ∷ []) ∷ []
+pub whole_again : whole_payloads (unsegmented ∷ unsegmented ∷ []) ≡ whole 100 (0xEE ∷ []) ∷ whole 100 (0xEE ∷ []) ∷ []
 whole_again = refl

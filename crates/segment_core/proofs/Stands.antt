@@ -7,11 +7,13 @@ use Rattle.std.specs.Option.{option_map, option_or}
 use Rattle.std.proofs.lemmas.Bool.{cases_Bool, cond-true, cond-false, and_from, or_left}
 use Rattle.std.proofs.lemmas.Bool.{or_right, or_from, eqb-true, eqb-false, eq-eqb, ne_eqb, le-leb}
 use Rattle.std.proofs.lemmas.List.Folds.{find-append, list_any-append}
+use Rattle.std.proofs.Math.Bool.{or-false}
 use Rattle.list_members.specs.Membership.{IsIn}
 use Rattle.apdu_core.specs.declared.unit.Seg.{Seg}
 use Rattle.uplink_frame.specs.Station.{same_station}
+use Rattle.uplink_frame.specs.Laws.{StationsAreTold}
 use Rattle.segment_core.specs.Arrival.{Arrival, is_piece, first_piece, has_piece, bytes_of_piece, joined_payload, other_numbers}
-use Rattle.segment_core.specs.Kept.{Pieces, IsNumbered, kept_under, kept_of, kept_piece, was_whole, with_number, piece_name}
+use Rattle.segment_core.specs.Kept.{KeptPieces, IsNumbered, kept_under, kept_of, kept_piece, was_whole, with_number, piece_name}
 use Rattle.segment_core.specs.Kept.{arrival_named, fields_of, same_piece}
 use Rattle.segment_core.specs.HeldPieces.{is_held, others_held, bytes_at, held_bytes, joined_held, held_answer}
 use Rattle.segment_core.specs.HeldPieces.{held_with, is_number_of}
@@ -19,24 +21,13 @@ use Rattle.segment_core.specs.Store.{live_answer}
 use Rattle.segment_core.specs.declared.piece_name.PieceName.{PieceName}
 use Rattle.segment_core.specs.declared.arrived.Taken.TheVariants.{Whole}
 use Rattle.list_members.proofs.Ranges.{in_range, range_has, all_in, in_all, not_all, not_all_in, list_all_same, flat_map_same}
+use Rattle.list_members.proofs.Tests.{none_from, mapped_some}
 use Rattle.segment_core.proofs.Completed.{in-others, others-in}
 use Rattle.segment_core.proofs.PieceNames.{bool_same, same-is, same-self}
 
 found_some : {A : Type 0} (p : A → Bool) (xs : List A) → is_some (find p xs) ≡ list_any p xs
 found_some p [] = refl
 found_some p (x ∷ xs) = elim (cases_Bool (p x)) [ inl t ↦ rw t refl | inr f ↦ rw f (found_some p xs) ]
-
-or_false : (a : Bool) → (a || false) ≡ a
-or_false true = refl
-or_false false = refl
-
-mapped_some : {A B : Type 0} (f : A → B) (o : Option A) → is_some (option_map f o) ≡ is_some o
-mapped_some f None = refl
-mapped_some f (Some x) = refl
-
-none_from : {A : Type 0} (o : Option A) → is_some o ≡ false → o ≡ None
-none_from None e = refl
-none_from (Some x) e = absurd (cc)
 
 some_or : {A : Type 0} (o p : Option A) → is_some o ≡ true → option_or o p ≡ o
 some_or None p e = absurd (cc)
@@ -60,7 +51,7 @@ has-first : (xs : List Arrival) (q : PieceName) (n : ℕ) → is_some (first xs 
 has-first xs q n = found_some (is q n) xs
 
 has-with : (xs : List Arrival) (a : Arrival) (q : PieceName) (n : ℕ) → has (xs ++ a ∷ []) q n ≡ (has xs q n || is q n a)
-has-with xs a q n = list_any-append (is q n) xs (a ∷ []) ∙ ap (λ (b : Bool). has xs q n || b) (or_false (is q n a))
+has-with xs a q n = list_any-append (is q n) xs (a ∷ []) ∙ ap (λ (b : Bool). has xs q n || b) (or-false (is q n a))
 
 first-with : (xs : List Arrival) (a : Arrival) (q : PieceName) (n : ℕ) → first (xs ++ a ∷ []) q n ≡ option_or (first xs q n)
     (cond (is q n a) (Some a) None)
@@ -98,16 +89,16 @@ pub kept_other : (xs : List Arrival) (a : Arrival) (q : PieceName) → ((n : ℕ
     → kept_of (xs ++ a ∷ []) q ≡ kept_of xs q
 kept_other xs a q none = kept_same (xs ++ a ∷ []) xs q
     (first-with xs a q q.number ∙ rw (none q.number) (or_none (first xs q q.number)))
-    (λ n. has-with xs a q n ∙ rw (none n) (or_false (has xs q n)))
+    (λ n. has-with xs a q n ∙ rw (none n) (or-false (has xs q n)))
 
 -- what is known where a segment is taken: the pieces of its file are those kept of the arrivals
-pub record IsKnown (pieces : Pieces) (taken : List Arrival) (a : Arrival) (s : Seg) : Type 0 where
+pub record IsKnown (pieces : KeptPieces) (taken : List Arrival) (a : Arrival) (s : Seg) : Type 0 where
   pub segmentation_is : a.segmentation ≡ Some s
   pub number : IsNumbered (piece_name a s)
   pub keeps : (n : ℕ) → 1 ≤ n → n ≤ s.count → kept_under pieces (with_number (piece_name a s) n)
       ≡ kept_of taken (with_number (piece_name a s) n)
 
-module _ (pieces : Pieces) (taken : List Arrival) (a : Arrival) (s : Seg) (known : IsKnown pieces taken a s) where
+module _ (told : StationsAreTold) (pieces : KeptPieces) (taken : List Arrival) (a : Arrival) (s : Seg) (known : IsKnown pieces taken a s) where
   held-has : (n : ℕ) → 1 ≤ n → n ≤ s.count → is_held pieces (piece_name a s) n ≡ has taken (piece_name a s) n
   held-has n least most = ap is_some (known.keeps n least most)
       ∙ mapped_some (kept_piece (was_whole taken (with_number (piece_name a s) n))) (first taken (piece_name a s) n)
@@ -123,13 +114,13 @@ module _ (pieces : Pieces) (taken : List Arrival) (a : Arrival) (s : Seg) (known
   is-own : (n : ℕ) → is (piece_name a s) n a ≡ (n == s.number)
   is-own n = bool_same (is (piece_name a s) n a) (n == s.number)
       (λ (e : is (piece_name a s) n a ≡ true).
-      let same = same-is (with_number (piece_name a s) n) (piece_name a s)
+      let same = same-is told (with_number (piece_name a s) n) (piece_name a s)
       (sym (is-named (piece_name a s) n a s known.segmentation_is) ∙ e) in
       eq-eqb n s.number (ap (λ (p : PieceName). p.number) same))
       (λ (e : (n == s.number) ≡ true).
       is-named (piece_name a s) n a s known.segmentation_is
       ∙ ap (λ (k : ℕ). same_piece (with_number (piece_name a s) k) (piece_name a s)) (eqb-true n s.number e)
-      ∙ same-self (piece_name a s))
+      ∙ same-self told (piece_name a s))
 
   -- with others missing, no number of the file was whole before
   not_whole : has taken (piece_name a s) s.number ≡ false → was_whole taken (piece_name a s) ≡ false
@@ -206,7 +197,7 @@ module _ (pieces : Pieces) (taken : List Arrival) (a : Arrival) (s : Seg) (known
         | inl own ↦
             let was : has taken (piece_name a s) k ≡ true = ap (has taken (piece_name a s)) (eqb-true k s.number own) ∙ again in
             rw was refl
-        | inr other ↦ rw other (or_false (has taken (piece_name a s) k))
+        | inr other ↦ rw other (or-false (has taken (piece_name a s) k))
       ] in
       let same_first : first (taken ++ a ∷ []) (piece_name a s) n ≡ first taken (piece_name a s) n =
       elim (cases_Bool (n == s.number)) [
@@ -237,7 +228,7 @@ module _ (pieces : Pieces) (taken : List Arrival) (a : Arrival) (s : Seg) (known
       let some : is_some (first (taken ++ a ∷ []) (piece_name a s) n) ≡ true = has-first (taken ++ a ∷ [])
       (piece_name a s) n ∙ each n least most in
       let is_number : is_number_of (piece_name a s) (with_number (piece_name a s) n) ≡ true =
-      and_from _ _ (and_from _ _ (same-self (with_number (piece_name a s) n)) (le-leb 1 n least)) (le-leb n s.count most) in
+      and_from _ _ (and_from _ _ (same-self told (with_number (piece_name a s) n)) (le-leb 1 n least)) (le-leb n s.count most) in
       rw (here, new, others, all, is_number, whole) (sym (alone_kept (first (taken ++ a ∷ []) (piece_name a s) n) some))
 
   keeps_waits : has taken (piece_name a s) s.number ≡ false → list_all (has taken (piece_name a s)) (other_numbers s) ≡ false
@@ -254,7 +245,7 @@ module _ (pieces : Pieces) (taken : List Arrival) (a : Arrival) (s : Seg) (known
         | inl own ↦
             let at : n ≡ s.number = eqb-true n s.number own in
             let same : same_piece (with_number (piece_name a s) n) (piece_name a s) ≡ true =
-            ap (λ (k : ℕ). same_piece (with_number (piece_name a s) k) (piece_name a s)) at ∙ same-self (piece_name a s) in
+            ap (λ (k : ℕ). same_piece (with_number (piece_name a s) k) (piece_name a s)) at ∙ same-self told (piece_name a s) in
             let first_is : first (taken ++ a ∷ []) (piece_name a s) n ≡ Some a =
             ap (first (taken ++ a ∷ []) (piece_name a s)) at ∙ first-own new in
             rw (here, new, others, waits, same, unwhole, first_is) refl

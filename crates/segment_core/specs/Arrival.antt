@@ -69,5 +69,5 @@ completed_after before (a ∷ later) =
     filter_map (completes before a) (a.segmentation ∷ [])
     ++ completed_after (before ++ a ∷ []) later
 
-abbrev pub completed : List Arrival → List Whole
-completed arrived = completed_after [] arrived
+abbrev pub whole_payloads : List Arrival → List Whole
+whole_payloads arrived = completed_after [] arrived

@@ -5,7 +5,7 @@ use Rattle.std.specs.List.{sum_by}
 use Rattle.std.specs.Map.{values_of}
 use Rattle.std.specs.Option.{option_map}
 use Rattle.segment_core.specs.Arrival.{Arrival, whole_with, completes}
-use Rattle.segment_core.specs.Kept.{Pieces, kept_under}
+use Rattle.segment_core.specs.Kept.{KeptPieces, kept_under}
 use Rattle.segment_core.specs.Store.{Store, StandsFor, is_live, live_answer}
 use Rattle.segment_core.specs.declared.piece_name.PieceName.{PieceName}
 use Rattle.segment_core.specs.declared.arrived.Longest.{Longest}
@@ -13,7 +13,7 @@ use Rattle.segment_core.specs.declared.arrived.Taken.{Taken}
 use Rattle.segment_core.specs.declared.arrived.Taken.TheVariants.{Whole, Waits, Again, Stale}
 
 -- no name stands twice
-abbrev pub AreNamedOnce : Pieces → Type 0
+abbrev pub AreNamedOnce : KeptPieces → Type 0
 AreNamedOnce [] = Unit {0}
 AreNamedOnce (e ∷ pieces) = (kept_under pieces e.0 ≡ None) × AreNamedOnce pieces
 
@@ -29,7 +29,7 @@ piece_size None = 0
 piece_size (Some bytes) = length bytes
 
 -- the bytes of all pieces
-abbrev pub pieces_size : Pieces → ℕ
+abbrev pub pieces_size : KeptPieces → ℕ
 pieces_size pieces = sum_by piece_size (values_of pieces)
 
 abbrev pub live_arrivals : Longest → ℕ → List Arrival → List Arrival

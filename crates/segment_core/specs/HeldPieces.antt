@@ -4,16 +4,16 @@ use Rattle.std.specs.Prelude.{Option, Some, None, is_some}
 use Rattle.std.specs.List.{list_all, range_with_len}
 use Rattle.apdu_core.specs.declared.unit.Seg.{Seg}
 use Rattle.segment_core.specs.Arrival.{Arrival, other_numbers}
-use Rattle.segment_core.specs.Kept.{Pieces, kept_under, with_number, piece_name, fields_of}
+use Rattle.segment_core.specs.Kept.{KeptPieces, kept_under, with_number, piece_name, fields_of}
 use Rattle.segment_core.specs.Kept.{same_piece}
 use Rattle.segment_core.specs.declared.piece_name.PieceName.{PieceName}
 use Rattle.segment_core.specs.declared.arrived.Taken.{Taken}
 use Rattle.segment_core.specs.declared.arrived.Taken.TheVariants.{Whole, Waits, Again}
 
-abbrev pub is_held : Pieces → PieceName → ℕ → Bool
+abbrev pub is_held : KeptPieces → PieceName → ℕ → Bool
 is_held pieces name number = is_some (kept_under pieces (with_number name number))
 
-abbrev pub others_held : Pieces → PieceName → Bool
+abbrev pub others_held : KeptPieces → PieceName → Bool
 others_held pieces name = list_all (is_held pieces name) (other_numbers (fields_of name))
 
 abbrev pub held_bytes : Option (Option (List ℕ)) → List ℕ
@@ -21,17 +21,17 @@ held_bytes None = []
 held_bytes (Some None) = []
 held_bytes (Some (Some bytes)) = bytes
 
-abbrev pub bytes_at : Pieces → PieceName → List ℕ → ℕ → List ℕ
+abbrev pub bytes_at : KeptPieces → PieceName → List ℕ → ℕ → List ℕ
 bytes_at pieces name payload number =
     if number == name.number then payload
     else held_bytes (kept_under pieces (with_number name number))
 
 -- the pieces of the file in the order of their numbers, with this one
-abbrev pub joined_held : Pieces → PieceName → List ℕ → List ℕ
+abbrev pub joined_held : KeptPieces → PieceName → List ℕ → List ℕ
 joined_held pieces name payload =
     flat_map (bytes_at pieces name payload) (range_with_len 1 name.count)
 
-abbrev pub held_answer : Pieces → PieceName → List ℕ → Taken
+abbrev pub held_answer : KeptPieces → PieceName → List ℕ → Taken
 held_answer pieces name payload = if is_some (kept_under pieces name) then Again
     else (if others_held pieces name then Whole (joined_held pieces name payload) else Waits)
 
@@ -41,7 +41,7 @@ is_number_of name other =
     && nat_le other.number name.count
 
 -- what is held under a name, with this segment
-abbrev pub held_with : Pieces → PieceName → List ℕ → PieceName → Option (Option (List ℕ))
+abbrev pub held_with : KeptPieces → PieceName → List ℕ → PieceName → Option (Option (List ℕ))
 held_with pieces name payload other =
     if is_some (kept_under pieces name) then kept_under pieces other
     else (if others_held pieces name
@@ -50,10 +50,10 @@ held_with pieces name payload other =
 
 -- what an arrival brings, and what is held under a name with it; without segment fields it is
 -- whole, and nothing is held of it
-abbrev pub arrival_answer : Pieces → Arrival → Option Seg → Taken
+abbrev pub arrival_answer : KeptPieces → Arrival → Option Seg → Taken
 arrival_answer pieces a None = Whole a.payload
 arrival_answer pieces a (Some s) = held_answer pieces (piece_name a s) a.payload
 
-abbrev pub held_after : Pieces → Arrival → Option Seg → PieceName → Option (Option (List ℕ))
+abbrev pub held_after : KeptPieces → Arrival → Option Seg → PieceName → Option (Option (List ℕ))
 held_after pieces a None other = kept_under pieces other
 held_after pieces a (Some s) other = held_with pieces (piece_name a s) a.payload other

@@ -53,10 +53,10 @@ abbrev pub IsNumbered : PieceName → Type 0
 IsNumbered name = (1 ≤ name.number) × (name.number ≤ name.count)
 
 -- the pieces by their names; of some the number alone
-abbrev pub Pieces : Type 0
-Pieces = List (PieceName × Option (List ℕ))
+abbrev pub KeptPieces : Type 0
+KeptPieces = List (PieceName × Option (List ℕ))
 
-abbrev pub kept_under : Pieces → PieceName → Option (Option (List ℕ))
+abbrev pub kept_under : KeptPieces → PieceName → Option (Option (List ℕ))
 kept_under pieces name = lookup (same_piece name) pieces
 
 -- each number of the file has arrived

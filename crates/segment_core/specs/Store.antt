@@ -7,7 +7,7 @@ use Rattle.apdu_core.specs.declared.unit.Seg.{Seg}
 use Rattle.life_table.specs.Products.{regional_radar, conus_radar}
 use Rattle.segment_core.specs.File.{most_segments}
 use Rattle.segment_core.specs.Arrival.{Arrival, has_piece, other_numbers, joined_payload}
-use Rattle.segment_core.specs.Kept.{Pieces, IsNumbered, kept_under, kept_of}
+use Rattle.segment_core.specs.Kept.{KeptPieces, IsNumbered, kept_under, kept_of}
 use Rattle.segment_core.specs.declared.piece_name.PieceName.{PieceName}
 use Rattle.segment_core.specs.declared.arrived.Longest.{Longest}
 use Rattle.segment_core.specs.declared.arrived.Taken.{Taken}
@@ -17,7 +17,7 @@ use Rattle.segment_core.specs.declared.arrived.Taken.TheVariants.{Whole, Waits, 
 pub record Store : Type 0 where
   pub longest : Longest
   pub clock : Option ℕ
-  pub pieces : Pieces
+  pub pieces : KeptPieces
 
 -- what it holds now, and what it held at the mark, if one stands
 pub record MarkedStore : Type 0 where
@@ -77,6 +77,6 @@ taken_with longest moment taken a =
     if is_live longest moment a.product a.version then taken ++ a ∷ [] else taken
 
 -- the pieces of files that are not stale
-abbrev pub live_pieces : Longest → ℕ → Pieces → Pieces
+abbrev pub live_pieces : Longest → ℕ → KeptPieces → KeptPieces
 live_pieces longest moment pieces =
     filter (λ e. is_live longest moment e.0.product e.0.version) pieces

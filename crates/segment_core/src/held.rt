@@ -9,7 +9,7 @@ ghost use Rattle.segment_core.specs.HeldPieces.{arrival_answer, bytes_at, held_a
 ghost use Rattle.segment_core.specs.HeldPieces.{held_bytes, held_with};
 ghost use Rattle.segment_core.specs.HeldPieces.{joined_held, others_held};
 ghost use Rattle.segment_core.specs.Kept.{IsNumbered, kept_under, with_number};
-ghost use Rattle.segment_core.specs.Ends.{HavePlaces};
+ghost use Rattle.segment_core.specs.Ends.{PiecesHavePlaces};
 ghost use Rattle.segment_core.specs.Store.{FitsFile, is_live};
 ghost use Rattle.segment_core.specs.Store.{live_pieces, longest_of};
 ghost use Rattle.segment_core.specs.Views.{arrival_view};
@@ -20,7 +20,9 @@ use crate::piece_name::PieceName;
 use fisb_time::Moment;
 use fisb_wire::Bytes;
 use std::alloc::{AllocError, Global};
+use undo_map::laws::none_is_over;
 use undo_map::{EndQueue, UndoMap};
+use uplink_frame::stations_are_told;
 
 /// Takes an arrival that is not stale: what it brings, and what is held then.
 pub(crate) fn take_live(
@@ -39,8 +41,8 @@ pub(crate) fn take_live(
     ensures mark { pieces.new.mark ≡ pieces.old.mark }
     ensures err { OnErr result (pieces.new ≡ pieces.old) }
     ensures kept { KeepsPlaces ends.old.places ends.new.places }
-    ensures placed { HavePlaces longest.now ends.old.places pieces.old.entries
-        → HavePlaces longest.now ends.new.places pieces.new.entries }
+    ensures placed { PiecesHavePlaces longest.now ends.old.places pieces.old.entries
+        → PiecesHavePlaces longest.now ends.new.places pieces.new.entries }
 {
     match arrived.seg {
         None => {
@@ -73,9 +75,10 @@ fn take_piece(
     ensures mark { pieces.new.mark ≡ pieces.old.mark }
     ensures err { OnErr result (pieces.new ≡ pieces.old) }
     ensures kept { KeepsPlaces ends.old.places ends.new.places }
-    ensures placed { HavePlaces longest.now ends.old.places pieces.old.entries
-        → HavePlaces longest.now ends.new.places pieces.new.entries }
+    ensures placed { PiecesHavePlaces longest.now ends.old.places pieces.old.entries
+        → PiecesHavePlaces longest.now ends.new.places pieces.new.entries }
 {
+    stations_are_told();
     if is_held(pieces, &name) {
         return Ok(Taken::Again);
     }
@@ -228,16 +231,17 @@ pub(crate) fn drop_stale(
     moment: Moment,
 )
     requires unmarked { pieces.old.mark ≡ None }
-    requires placed { HavePlaces longest.now ends.old.places pieces.old.entries }
+    requires placed { PiecesHavePlaces longest.now ends.old.places pieces.old.entries }
     ensures pieces { pieces.new.entries ≡ live_pieces longest.now moment pieces.old.entries }
     ensures once { AreNamedOnce pieces.new.entries }
     ensures mark { pieces.new.mark ≡ None }
-    ensures placed { HavePlaces longest.now ends.new.places pieces.new.entries }
+    ensures placed { PiecesHavePlaces longest.now ends.new.places pieces.new.entries }
 {
     let now = moment.seconds();
     while let Some((_, name)) = ends.take_ended(now) {
         drop_name(pieces, ends, longest, name, moment);
     }
+    none_is_over::<PieceName, Option<Bytes>>();
     names_stand_once(pieces);
 }
 
@@ -257,10 +261,11 @@ fn drop_name(
     ensures mark { pieces.new.mark ≡ None }
     ensures placed { (before : List (ℕ × PieceName)) (end : ℕ)
         → HasLeft (end, name) before ends.old.places
-        → HavePlaces longest.now before pieces.old.entries
-        → HavePlaces longest.now ends.new.places pieces.new.entries }
+        → PiecesHavePlaces longest.now before pieces.old.entries
+        → PiecesHavePlaces longest.now ends.new.places pieces.new.entries }
     ensures due { due_places moment ends.new.places ≡ due_places moment ends.old.places }
 {
+    stations_are_told();
     if is_live(longest, moment, name.product, name.version) {
         ends.add_again(end_of(longest, name.product, name.version), name);
         return;

@@ -15,6 +15,7 @@ use fisb_wire::Bytes;
 use std::alloc::{AllocError, Global};
 use std::marker::Model;
 use undo_map::{EndQueue, UndoMap};
+use uplink_frame::stations_are_told;
 
 /// Joins the segments of files as they arrive. Of each file that is not stale it keeps the first
 /// piece of each number, and the numbers alone once the file was whole.
@@ -45,9 +46,9 @@ impl Model for Joiner {
       }) j.pieces.mark;
     } };
 
-    ghost use Rattle.segment_core.specs.Ends.{HaveMarkedPlaces};
+    ghost use Rattle.segment_core.specs.Ends.{MarkedPiecesHavePlaces};
 
-    ghost invariant = { λ j. HaveMarkedPlaces j.longest j.ends.places j.pieces };
+    ghost invariant = { λ j. MarkedPiecesHavePlaces j.longest j.ends.places j.pieces };
 }
 
 impl Joiner {
@@ -100,6 +101,7 @@ impl Joiner {
             self.clock = Some(moment);
             return Ok(Taken::Stale);
         }
+        stations_are_told();
         let taken = take_live(
             self.alloc,
             &self.longest,
@@ -124,6 +126,7 @@ impl Joiner {
         ensures stands { (taken : List Arrival) → StandsFor self.old.store taken
             → StandsFor self.new.store taken }
     {
+        stations_are_told();
         drop_stale(&mut self.pieces, &mut self.ends, &self.longest, moment);
         self.clock = Some(moment);
     }

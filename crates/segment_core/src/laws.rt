@@ -69,4 +69,6 @@ pub fn answers_complete()
 #[inline]
 pub fn stores_are_bounded()
     ensures { StoresAreBounded }
-{}
+{
+    stations_are_told();
+}

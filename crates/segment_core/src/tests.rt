@@ -157,7 +157,7 @@ fn a_payload_is_cut_and_joined(rt: HostRuntime) -> Result<(), Fail> {
 }
 
 /// Takes the segments of a file of 64, the last one first, and counts the answers that it waits.
-fn waiting(joiner: &mut Joiner, now: Moment, version: Moment) -> Result<u8, AllocError>
+fn count_waiting(joiner: &mut Joiner, now: Moment, version: Moment) -> Result<u8, AllocError>
     requires { IsNotBefore joiner.old.store.clock now }
     ensures { OnOk result (joiner.new.store.clock ≡ Some now) }
 {
@@ -177,7 +177,7 @@ fn a_file_of_64_segments_becomes_whole(rt: HostRuntime) -> Result<(), Fail> {
     let version = Moment::new(1_699_999_980).ok_or("in range")?;
     let now = Moment::new(1_700_000_000).ok_or("in range")?;
     let mut joiner = joiner(&rt);
-    assert_eq!(rt; waiting(&mut joiner, now, version)?, 62);
+    assert_eq!(rt; count_waiting(&mut joiner, now, version)?, 62);
     assert_eq!(rt;
         name(&joiner.take(now, &segment(version, 64, 64, &[9]))?),
         "again"

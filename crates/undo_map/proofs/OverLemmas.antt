@@ -13,10 +13,11 @@ use Rattle.std.specs.declared.cmp.Ordering.{Ordering}
 use Rattle.std.specs.declared.cmp.Ordering.TheVariants.{Less, Equal, Greater}
 use Rattle.std.proofs.lemmas.Bool.{cases_Bool, or_cases, and_parts, leb-true, le-leb, lt-ltb}
 use Rattle.std.proofs.lemmas.Bool.Decides.{nat_tests}
+use Rattle.std.proofs.lemmas.List.Elements.{recursion_from_All}
 use Rattle.std.proofs.lemmas.Map.{lookup-none}
 use Rattle.std.proofs.lemmas.Map.Entries.{none_below_head}
 use Rattle.std.proofs.lemmas.Map.Keys.{sorted_head, sorted_tail}
-use Rattle.undo_map.specs.Ends.{HavePlaces, has_place, has_place_by}
+use Rattle.undo_map.specs.Ends.{HavePlaces, HavePlacesBy, NoneIsOver, has_place, has_place_by}
 use Rattle.undo_map.proofs.EndLemmas.{has-added, places-kept}
 use Rattle.undo_map.proofs.PlaceLemmas.{keeps-added}
 
@@ -36,14 +37,18 @@ later-place R now (p ∷ places) q by all some = elim (or_cases (is_eq (R p.1 q)
 
 module _ {K V : Type 0} where
   -- where no place has come, no entry is over
-  pub none-over :
-      (R : K → K → Ordering) (end : V → ℕ) (now : ℕ) (places : List (ℕ × K)) (es : List (K × V))
-      → AllByRecursion (λ place. now < place.0) places → HavePlaces R end places es
-      → filter (λ e. nat_lt now (end e.1)) es ≡ es
+  none-over :
+      (R : K → K → Ordering) (end : K × V → ℕ) (now : ℕ) (places : List (ℕ × K)) (es : List (K × V))
+      → AllByRecursion (λ place. now < place.0) places → HavePlacesBy R end places es
+      → filter (λ e. nat_lt now (end e)) es ≡ es
   none-over R end now places [] all placed = refl
   none-over R end now places (e ∷ es) all placed =
-      let lives : nat_lt now (end e.1) ≡ true = lt-ltb now (end e.1) (later-place R now places e.0 (end e.1) all placed.0) in
+      let lives : nat_lt now (end e) ≡ true = lt-ltb now (end e) (later-place R now places e.0 (end e) all placed.0) in
       rw lives (ap (λ (more : List (K × V)). e ∷ more) (none-over R end now places es all placed.1))
+
+  pub none-is-over : NoneIsOver K V
+  none-is-over R end now places es all placed =
+      none-over R end now places es (recursion_from_All (λ place. now < place.0) places all) placed
 
   -- whether an entry is of the key and over
   abbrev is_over : (R : K → K → Ordering) → (V → ℕ) → ℕ → K → K × V → Bool

@@ -1,5 +1,6 @@
 -- Keys in a queue by the second at which they are to be looked at, and the entries that have a place in it.
-use Rattle.std.specs.Prelude.{◌≡◌, ℕ, Bool, true, false, ◌&&◌, nat_le, nat_lt, List, Option, Some, None, if◌then◌else◌}
+use Rattle.std.specs.Prelude.{◌≡◌, ℕ, ◌<◌, Bool, true, false, ◌&&◌, nat_le, nat_lt, List, All, filter, Option, Some, None}
+use Rattle.std.specs.Prelude.{if◌then◌else◌}
 use Rattle.std.specs.BTreeMap.{insert_entry, is_at}
 use Rattle.std.specs.List.{AllByRecursion, list_any, sum_by}
 use Rattle.std.specs.Map.{lookup}
@@ -43,15 +44,32 @@ module _ {K V : Type 0} where
   abbrev pub has_place : (K → K → Ordering) → (V → ℕ) → List (ℕ × K) → K × V → Bool
   has_place cmp end places entry = has_place_by cmp places entry.0 (end entry.1)
 
-  abbrev pub HavePlaces : (K → K → Ordering) → (V → ℕ) → List (ℕ × K) → List (K × V) → Type 0
-  HavePlaces cmp end places entries = AllByRecursion (λ entry. has_place cmp end places entry ≡ true) entries
+  -- each entry has a place by its end, which is told from key and value
+  abbrev pub HavePlacesBy : (K → K → Ordering) → (K × V → ℕ) → List (ℕ × K) → List (K × V) → Type 0
+  HavePlacesBy cmp end places entries =
+      AllByRecursion (λ entry. has_place_by cmp places entry.0 (end entry) ≡ true) entries
 
   -- the same at the mark too
+  abbrev pub HaveMarkedPlacesBy : (K → K → Ordering) → (K × V → ℕ) → List (ℕ × K) → Marked K V
+      → Type 0
+  HaveMarkedPlacesBy cmp end places marked = HavePlacesBy cmp end places marked.entries
+      × ((mark : List (K × V)) → marked.mark ≡ Some mark → HavePlacesBy cmp end places mark)
+
+  -- the same where the value alone has an end
+  abbrev pub HavePlaces : (K → K → Ordering) → (V → ℕ) → List (ℕ × K) → List (K × V) → Type 0
+  HavePlaces cmp end places entries = HavePlacesBy cmp (λ entry. end entry.1) places entries
+
   abbrev pub HaveMarkedPlaces : (K → K → Ordering) → (V → ℕ) → List (ℕ × K) → Marked K V → Type 0
-  HaveMarkedPlaces cmp end places marked = HavePlaces cmp end places marked.entries
-      × ((mark : List (K × V)) → marked.mark ≡ Some mark → HavePlaces cmp end places mark)
+  HaveMarkedPlaces cmp end places marked = HaveMarkedPlacesBy cmp (λ entry. end entry.1) places marked
 
   -- entries with a value under its key, where none stands there that is at least as new
   abbrev pub with_newer : (K → K → Ordering) → (V → ℕ) → List (K × V) → K → V → List (K × V)
   with_newer cmp version_of entries key value = if is_newer version_of (lookup (is_at (cmp key)) entries) (version_of value)
       then insert_entry cmp entries key value else entries
+
+-- where no place has come by a second, no entry that has a place by its end is over
+abbrev pub NoneIsOver : (K V : Type 0) → Type 0
+NoneIsOver K V = (cmp : K → K → Ordering) (end : K × V → ℕ) (now : ℕ) (places : List (ℕ × K))
+    (entries : List (K × V))
+    → All (λ place. now < place.0) places → HavePlacesBy cmp end places entries
+    → filter (λ entry. nat_lt now (end entry)) entries ≡ entries

@@ -13,6 +13,7 @@ ghost use Rattle.undo_map.specs.Steps.{before_all};
 
 use crate::duplicate::Duplicate;
 use crate::ends::EndQueue;
+use crate::laws::none_is_over;
 use crate::map::UndoMap;
 use crate::step::{Step, write_step};
 use std::alloc::{AllocError, Global};
@@ -157,6 +158,7 @@ fn drop_over<K: Duplicate, V: Lasting>(map: &mut UndoMap<K, V>, ends: &mut EndQu
     while let Some((_, key)) = ends.take_ended(now) {
         drop_key(map, ends, key, now);
     }
+    none_is_over::<K, V>();
 }
 
 /// Drops a key whose value is over at a second; where it is not over yet, the key has a place in

@@ -4,6 +4,7 @@
 mod duplicate;
 mod ends;
 mod lasting;
+pub mod laws;
 mod map;
 mod step;
 #[cfg(test)]

@@ -20,7 +20,8 @@ impl Row {
 
     /// Goes to the next number, and gives its first byte.
     pub fn byte(&mut self) -> u8
-        ensures next { self.new.number ≡ (self.old.number * 1664525 % 2 ^ 32 + 1013904223) % 2 ^ 32 }
+        ensures next { self.new.number
+            ≡ (self.old.number * 1664525 % 2 ^ 32 + 1013904223) % 2 ^ 32 }
         ensures first { result ≡ self.new.number / 2 ^ 24 }
     {
         self.number = self.number.wrapping_mul(1664525).wrapping_add(1013904223);

@@ -1,7 +1,7 @@
 -- The bytes that spell information frames: the list of frames at the front of some bytes is what they spell, and nothing else.
 use Rattle.std.proofs.Common.{◌≡◌, ℕ, zero, suc, ◌+◌, ◌*◌, ◌/◌, ◌%◌, ◌<◌, ◌≤◌, ◌↔◌, Bool, true, false, ◌&&◌, ◌||◌, nat_lt, ◌==◌, List, [], ◌∷◌, ◌++◌, length, take, drop, replicate, refl, sym, ap, subst, ◌∙◌, inl, inr, arith, append_assoc}
 use Rattle.std.specs.List.{All}
-use Rattle.std.proofs.lemmas.Bool.{cases_Bool, ltb-true, ltb-false, eqb-true, or_from, true≢false}
+use Rattle.std.proofs.lemmas.Bool.{cases_Bool, ltb-true, ltb-false, eqb-true, and_parts, or_from, true≢false}
 use Rattle.std.proofs.lemmas.List.{length-append, length-drop, take_at, drop_at, take-append-drop}
 use Rattle.std.proofs.lemmas.List.Elements.{All-head, All-tail, All-drop}
 use Rattle.bit_fields.specs.Bits.{AreBytes}
@@ -65,10 +65,6 @@ ends-walk bytes (too_long size kind behind h long) =
     ends-cut bytes (omega (arith, front.size_is, front.all))
 
 -- and the list ends where the walk does
-both_true : (x y : Bool) → (x && y) ≡ true → (x ≡ true) × (y ≡ true)
-both_true true y e = (refl, e)
-both_true false y e = absurd (true≢false (sym e))
-
 second_true : (x y : Bool) → x ≡ false → (x || y) ≡ true → y ≡ true
 second_true true y not_first e = absurd (true≢false not_first)
 second_true false y not_first e = e
@@ -77,7 +73,7 @@ zeros_at_front :
     (bytes : List ℕ) → (length_at_front bytes == 0) && (kind_at_front bytes == 0) ≡ true →
     BeginsWith (length_at_front bytes) (kind_at_front bytes) bytes (drop 2 bytes) → BeginsWith 0 0 bytes (drop 2 bytes)
 zeros_at_front bytes none h =
-    let tests = both_true (length_at_front bytes == 0) (kind_at_front bytes == 0) none in
+    let tests = and_parts (length_at_front bytes == 0) (kind_at_front bytes == 0) none in
     subst (λ (n : ℕ). BeginsWith n 0 bytes (drop 2 bytes)) (eqb-true (length_at_front bytes) 0 tests.0)
     (subst (λ (n : ℕ). BeginsWith (length_at_front bytes) n bytes (drop 2 bytes)) (eqb-true (kind_at_front bytes) 0 tests.1) h)
 

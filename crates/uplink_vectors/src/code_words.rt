@@ -119,4 +119,44 @@ fn the_code_of_a_long_adsb_block_has_the_parity_of_its_definition(rt: HostRuntim
     assert!(rt; word == wanted);
     assert!(rt; code.is_codeword(&word));
     assert_eq!(rt; code.correct(&mut word), Ok(0));
+    word[47] = 0xf5;
+    for i in 0..6 {
+        word[i] = 0xff;
+    }
+    assert_eq!(rt; code.correct(&mut word), Ok(7));
+    assert!(rt; word == wanted);
+}
+
+#[test]
+fn a_code_whose_roots_begin_elsewhere_mends_a_wrong_byte(rt: HostRuntime) {
+    let code = Rs::<4, 2, 250>::new();
+    let wanted = [0x11, 0x22, 0x4c, 0xb2];
+    for i in 0..4 {
+        let mut word = wanted;
+        word[i] = 0xff;
+        assert_eq!(rt; code.correct(&mut word), Ok(1));
+        assert!(rt; word == wanted);
+    }
+}
+
+#[test]
+fn the_first_bytes_of_a_word_of_100_are_mended(rt: HostRuntime) {
+    let code = Rs::<100, 20, 120>::new();
+    let mut word = [0; 100];
+    for i in 0..10 {
+        word[i] = 0xff;
+    }
+    assert_eq!(rt; code.correct(&mut word), Ok(10));
+    assert!(rt; word == [0; 100]);
+}
+
+#[test]
+fn a_code_with_24_roots_mends_twelve_wrong_bytes(rt: HostRuntime) {
+    let code = Rs::<92, 24, 120>::new();
+    let mut word = [0; 92];
+    for i in 0..12 {
+        word[7 * i] = i as u8 + 1;
+    }
+    assert_eq!(rt; code.correct(&mut word), Ok(12));
+    assert!(rt; word == [0; 92]);
 }

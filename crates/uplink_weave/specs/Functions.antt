@@ -1,5 +1,7 @@
--- Frames as functions, for definitions that stand above: the frame of a payload, and the payload of a frame.
-use Rattle.std.specs.Prelude.{ℕ, ◌*◌, ◌/◌, ◌%◌, List, [], ◌∷◌, ◌++◌, slice_index, take, drop, map, find, Option, Some, None, option_map, unwrap_or, is_none}
+-- Frames as functions, for definitions that stand above: the frame of a payload, and the payload of
+-- a frame.
+use Rattle.std.specs.Prelude.{ℕ, ◌*◌, ◌/◌, ◌%◌, List, [], ◌∷◌, ◌++◌, slice_index, take, drop, map}
+use Rattle.std.specs.Prelude.{find, Option, Some, None, option_map, unwrap_or, is_none}
 use Rattle.std.specs.List.{range_with_len}
 use Rattle.rs_code.specs.CodeWord.{differences}
 use Rattle.rs_code.specs.Functions.{encoded, corrected}
@@ -12,7 +14,9 @@ part r payload = take 72 (drop (72 * r) payload)
 -- the frame of a payload: byte 6k + r on the air is byte k of the code word that begins with part r
 unfoldable pub woven : List ℕ → List ℕ
 woven payload =
-    map (λ place. slice_index (encoded block_bytes block_roots first_root (part (place % 6) payload)) (place / 6)) (range_with_len 0 552)
+    map (λ place.
+    slice_index (encoded block_bytes block_roots first_root (part (place % 6) payload)) (place / 6))
+    (range_with_len 0 552)
 
 -- the code word near a block, where there is one
 unfoldable pub corrected_block : List ℕ → ℕ → Option (List ℕ)
@@ -31,7 +35,8 @@ payload_in air = joined (map (corrected_block air) (range_with_len 0 6))
 -- in how many places each block differs from the code word near it; 0 where there is none
 unfoldable pub counts_in : List ℕ → List ℕ
 counts_in air =
-    map (λ r. differences (block r air) (unwrap_or (corrected_block air r) (block r air))) (range_with_len 0 6)
+    map (λ r. differences (block r air) (unwrap_or (corrected_block air r) (block r air)))
+    (range_with_len 0 6)
 
 -- the first block that no code word is near, where there is one
 unfoldable pub lost_block_in : List ℕ → Option ℕ

@@ -1,31 +1,38 @@
 -- The laws of woven frames.
-use Rattle.std.specs.Prelude.{◌≡◌, ◌↔◌, ℕ, ◌+◌, ◌<◌, ◌≤◌, ◌⊎◌, List, length, slice_index, replicate, map, IsTrue, Some, None}
+use Rattle.std.specs.Prelude.{◌≡◌, ◌↔◌, ℕ, ◌+◌, ◌<◌, ◌≤◌, ◌⊎◌, List, length, slice_index}
+use Rattle.std.specs.Prelude.{replicate, map, IsTrue, Some, None}
 use Rattle.std.specs.List.{range_with_len}
 use Rattle.rs_code.specs.CodeWord.{are_near, differences}
-use Rattle.uplink_weave.specs.Woven.{block, block_roots, IsWoven, AllCorrectable, HasPayload, HasCounts, IsLostBlock}
+use Rattle.uplink_weave.specs.Woven.{block, block_roots, IsWoven, AllCorrectable, HasPayload}
+use Rattle.uplink_weave.specs.Woven.{HasCounts, IsLostBlock}
 use Rattle.uplink_weave.specs.Functions.{woven, payload_in, counts_in, lost_block_in}
 
 -- a woven frame has the payload that it is woven of, and no byte of it is to be changed
 abbrev pub WovenGivesPayload : Type 0
-WovenGivesPayload = (payload air : List ℕ) → IsWoven payload air → HasPayload air payload × HasCounts air (replicate 6 0)
+WovenGivesPayload =
+    (payload air : List ℕ) → IsWoven payload air
+    → HasPayload air payload × HasCounts air (replicate 6 0)
 
 -- a frame whose blocks are near those of a woven frame has the payload of that frame
 abbrev pub NearGivesPayload : Type 0
 NearGivesPayload =
     (payload woven air : List ℕ) → IsWoven payload woven
-    → ((r : ℕ) → r < 6 → IsTrue (are_near block_roots (block r air) (block r woven))) → HasPayload air payload
+    → ((r : ℕ) → r < 6 → IsTrue (are_near block_roots (block r air) (block r woven)))
+    → HasPayload air payload
 
 -- a frame has at most one payload, one list of counts and one first lost block
 pub record IsUnique : Type 0 where
   pub payload : (air one other : List ℕ) → HasPayload air one → HasPayload air other → one ≡ other
   pub counts : (air one other : List ℕ) → HasCounts air one → HasCounts air other → one ≡ other
-  pub lost : (air : List ℕ) (one other : ℕ) → IsLostBlock air one → IsLostBlock air other → one ≡ other
+  pub lost :
+      (air : List ℕ) (one other : ℕ) → IsLostBlock air one → IsLostBlock air other → one ≡ other
 
 -- frames that differ only inside 60 consecutive places differ in at most ten places of each block
 abbrev pub BurstIsSpread : Type 0
 BurstIsSpread =
     (first : ℕ) (air other : List ℕ) → length air ≡ 552 → length other ≡ 552
-    → ((place : ℕ) → (place < first) ⊎ (first + 60 ≤ place) → slice_index air place ≡ slice_index other place)
+    → ((place : ℕ) → (place < first) ⊎ (first + 60 ≤ place) →
+    slice_index air place ≡ slice_index other place)
     → (r : ℕ) → r < 6 → differences (block r air) (block r other) ≤ 10
 
 -- `woven` gives the frame that is woven of a payload, and there is no other
@@ -36,11 +43,13 @@ pub record IsTheFrame : Type 0 where
       → IsWoven payload (woven payload) × ((i : ℕ) → slice_index (woven payload) i < 256)
   pub long : (payload : List ℕ) → length (woven payload) ≡ 552
 
--- the functions of a frame give its payload, its counts and its first lost block, and give none exactly where there is none
+-- the functions of a frame give its payload, its counts and its first lost block, and give none
+-- exactly where there is none
 pub record GivesPayload : Type 0 where
   pub payload : (air payload : List ℕ) → (payload_in air ≡ Some payload) ↔ HasPayload air payload
   pub no_payload : (air : List ℕ) → (payload_in air ≡ None) ↔ ¬ AllCorrectable air
-  pub counts : (air counts : List ℕ) → AllCorrectable air → (counts ≡ counts_in air) ↔ HasCounts air counts
+  pub counts :
+      (air counts : List ℕ) → AllCorrectable air → (counts ≡ counts_in air) ↔ HasCounts air counts
   pub lost : (air : List ℕ) (r : ℕ) → (lost_block_in air ≡ Some r) ↔ IsLostBlock air r
   pub none_lost : (air : List ℕ) → (lost_block_in air ≡ None) ↔ AllCorrectable air
 
@@ -51,19 +60,23 @@ FrameGivesPayload =
     → (payload_in (woven payload) ≡ Some payload) × (counts_in (woven payload) ≡ replicate 6 0)
     × (lost_block_in (woven payload) ≡ None)
 
--- a frame whose blocks are near those of the frame of a payload has that payload, and each count is the number of places in
--- which its block differs
+-- a frame whose blocks are near those of the frame of a payload has that payload, and each count is
+-- the number of places in which its block differs
 abbrev pub NearFrameGivesPayload : Type 0
 NearFrameGivesPayload =
     (payload air : List ℕ) → length payload ≡ 432 → ((i : ℕ) → slice_index payload i < 256)
     → ((r : ℕ) → r < 6 → IsTrue (are_near block_roots (block r air) (block r (woven payload))))
     → (payload_in air ≡ Some payload)
-    × (counts_in air ≡ map (λ r. differences (block r air) (block r (woven payload))) (range_with_len 0 6))
+    × (counts_in air
+    ≡ map (λ r. differences (block r air) (block r (woven payload))) (range_with_len 0 6))
     × (lost_block_in air ≡ None)
 
--- a frame that differs from the frame of a payload only inside 60 consecutive places has that payload
+-- a frame that differs from the frame of a payload only inside 60 consecutive places has that
+-- payload
 abbrev pub BurstGivesPayload : Type 0
 BurstGivesPayload =
-    (payload air : List ℕ) (first : ℕ) → length payload ≡ 432 → ((i : ℕ) → slice_index payload i < 256) → length air ≡ 552
-    → ((place : ℕ) → (place < first) ⊎ (first + 60 ≤ place) → slice_index air place ≡ slice_index (woven payload) place)
+    (payload air : List ℕ) (first : ℕ) → length payload ≡ 432
+    → ((i : ℕ) → slice_index payload i < 256) → length air ≡ 552
+    → ((place : ℕ) → (place < first) ⊎ (first + 60 ≤ place) →
+    slice_index air place ≡ slice_index (woven payload) place)
     → payload_in air ≡ Some payload

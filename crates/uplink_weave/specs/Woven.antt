@@ -1,9 +1,11 @@
 -- Frames of the uplink on the air: the six code words of a frame, woven byte by byte.
-use Rattle.std.specs.Prelude.{◌≡◌, ℕ, ◌+◌, ◌*◌, ◌<◌, List, [], length, slice_index, slice_index_or, map}
+use Rattle.std.specs.Prelude.{◌≡◌, ℕ, ◌+◌, ◌*◌, ◌<◌}
+use Rattle.std.specs.Prelude.{List, [], length, slice_index, slice_index_or, map}
 use Rattle.std.specs.List.{range_with_len}
 use Rattle.rs_code.specs.CodeWord.{IsCodeWord, IsNear, IsCorrectable, differences}
 
--- the code of the blocks: their bytes, how many roots it has, and the power of 2 that is the first root
+-- the code of the blocks: their bytes, how many roots it has, and the power of 2 that is the first
+-- root
 abbrev pub block_bytes : ℕ
 block_bytes = 92
 
@@ -19,7 +21,8 @@ block r air = map (λ k. slice_index air (6 * k + r)) (range_with_len 0 block_by
 
 -- a word begins with the bytes 72r up to 72r + 71 of a payload
 abbrev pub BeginsWithPart : ℕ → List ℕ → List ℕ → Type 0
-BeginsWithPart r payload word = (k : ℕ) → k < 72 → slice_index word k ≡ slice_index payload (72 * r + k)
+BeginsWithPart r payload word =
+    (k : ℕ) → k < 72 → slice_index word k ≡ slice_index payload (72 * r + k)
 
 -- a frame is woven of a payload
 pub record IsWoven (payload air : List ℕ) : Type 0 where
@@ -30,24 +33,35 @@ pub record IsWoven (payload air : List ℕ) : Type 0 where
 
 -- there is a code word near each block
 abbrev pub AllCorrectable : List ℕ → Type 0
-AllCorrectable air = (r : ℕ) → r < 6 → IsCorrectable block_bytes block_roots first_root (block r air)
+AllCorrectable air =
+    (r : ℕ) → r < 6 → IsCorrectable block_bytes block_roots first_root (block r air)
 
 -- each of the six words is the code word near its block
 abbrev pub AreCorrected : List ℕ → List (List ℕ) → Type 0
-AreCorrected air words = (r : ℕ) → r < 6 → IsNear block_bytes block_roots first_root (block r air) (slice_index_or words r [])
+AreCorrected air words =
+    (r : ℕ) → r < 6
+    → IsNear block_bytes block_roots first_root (block r air) (slice_index_or words r [])
 
 -- a frame has a payload: the beginnings of code words near its blocks
 pub record HasPayload (air payload : List ℕ) : Type 0 where
   pub full : length payload ≡ 432
-  pub parts : (r : ℕ) → r < 6 → (word : List ℕ) × IsNear block_bytes block_roots first_root (block r air) word × BeginsWithPart r payload word
+  pub parts :
+      (r : ℕ) → r < 6
+      → (word : List ℕ) × IsNear block_bytes block_roots first_root (block r air) word
+      × BeginsWithPart r payload word
 
 -- in how many places each block differs from a code word near it
 pub record HasCounts (air counts : List ℕ) : Type 0 where
   pub six : length counts ≡ 6
-  pub each : (r : ℕ) → r < 6 → (word : List ℕ) × IsNear block_bytes block_roots first_root (block r air) word × (slice_index counts r ≡ differences (block r air) word)
+  pub each :
+      (r : ℕ) → r < 6
+      → (word : List ℕ) × IsNear block_bytes block_roots first_root (block r air) word
+      × (slice_index counts r ≡ differences (block r air) word)
 
 -- the first block that no code word is near
 pub record IsLostBlock (air : List ℕ) (r : ℕ) : Type 0 where
   pub below : r < 6
   pub lost : ¬ IsCorrectable block_bytes block_roots first_root (block r air)
-  pub first : (lower : ℕ) → lower < r → IsCorrectable block_bytes block_roots first_root (block lower air)
+  pub first :
+      (lower : ℕ) → lower < r
+      → IsCorrectable block_bytes block_roots first_root (block lower air)

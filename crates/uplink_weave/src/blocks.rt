@@ -43,7 +43,8 @@ pub(crate) fn read_part(payload: &[u8; 432], number: usize) -> [u8; 92]
 pub(crate) fn write_part(word: &[u8; 92], number: usize, payload: &mut [u8; 432])
     requires { number < 6 }
     ensures part { BeginsWithPart number payload.new word.now }
-    ensures before { (place : ℕ) → place < 72 * number → slice_index payload.new place ≡ slice_index payload.old place }
+    ensures before { (place : ℕ) → place < 72 * number →
+        slice_index payload.new place ≡ slice_index payload.old place }
 {
     for k in 0..72 {
         payload[72 * number + k] = word[k];

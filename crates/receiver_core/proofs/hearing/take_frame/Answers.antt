@@ -17,7 +17,7 @@ pub returns-clause-entries : goal.returns-clause-entries
 returns-clause-entries c = λ before stands.
     c.in_ok-take_answer.ensures.entries
     ∙ ap (λ es. put_all es c.args.picture.now.entries)
-    (brings c.args.table.now (longest_lives c.args.table.now) c.args.joiner.now.store.longest c.args.moment before
+    (brings c.answers_complete.ensures c.args.table.now (longest_lives c.args.table.now) c.args.joiner.now.store.longest c.args.moment before
     c.in-Ok.arrived _ c.in_ok-taken.taken
     c.requires.longest c.in-Ok.ensures.counted (c.in_ok-taken.ensures.answer before stands))
 
@@ -25,6 +25,6 @@ pub returns-clause-unread : goal.returns-clause-unread
 returns-clause-unread c = λ before stands.
     c.in_ok-take_answer.ensures.unread
     ∙ ap (λ rs. map unread_view c.args.unread.now.items ++ map (part_in (frame_view c.args.frame.now)) rs)
-    (tells c.args.table.now (longest_lives c.args.table.now) c.args.joiner.now.store.longest c.args.moment before
+    (tells c.answers_complete.ensures c.args.table.now (longest_lives c.args.table.now) c.args.joiner.now.store.longest c.args.moment before
     c.in-Ok.arrived _ c.in_ok-taken.taken
     c.requires.longest c.in-Ok.ensures.counted (c.in_ok-taken.ensures.answer before stands))

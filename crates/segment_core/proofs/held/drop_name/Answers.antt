@@ -7,7 +7,7 @@ use Rattle.segment_core.proofs.held.drop_name.Goals as goal
 
 pub returns-then-is_live-clause-placed : goal.returns-then-is_live-clause-placed
 returns-then-is_live-clause-placed c = λ before end left placed.
-    places-again c.args.longest.now end c.end_of.result c.args.name before c.args.ends.now.places c.add_again.new.self.places
+    places-again c.stations_are_told.ensures c.args.longest.now end c.end_of.result c.args.name before c.args.ends.now.places c.add_again.new.self.places
     c.args.pieces.now.entries c.end_of.ensures.before left c.add_again.ensures.kept c.add_again.ensures.added placed
 
 pub returns-then-is_live-clause-due : goal.returns-then-is_live-clause-due
@@ -18,10 +18,10 @@ returns-then-is_live-clause-due c =
 
 pub returns-clause-pieces : goal.returns-clause-pieces
 returns-clause-pieces c =
-    live-removed c.args.longest.now c.args.moment c.args.name c.args.pieces.now.entries c.remove.new.self.entries
+    live-removed c.stations_are_told.ensures c.args.longest.now c.args.moment c.args.name c.args.pieces.now.entries c.remove.new.self.entries
     (sym c.is_live.ensures ∙ c.if-is_live.false) c.remove.ensures.entries
 
 pub returns-clause-placed : goal.returns-clause-placed
 returns-clause-placed c = λ before end left placed.
-    places-removed c.args.longest.now end c.args.name before c.args.ends.now.places c.args.pieces.now.entries
+    places-removed c.stations_are_told.ensures c.args.longest.now end c.args.name before c.args.ends.now.places c.args.pieces.now.entries
     c.remove.new.self.entries c.remove.ensures.was_ordered c.remove.ensures.entries left placed

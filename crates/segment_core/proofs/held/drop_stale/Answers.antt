@@ -1,9 +1,9 @@
 -- Each turn takes a place out that has come; at the end none has come, and so no file is stale.
 use Rattle.std.proofs.Common.{All, ℕ, ◌∙◌, ◌<◌, sym, subst}
-use Rattle.std.proofs.lemmas.List.Elements.{recursion_from_All}
 use Rattle.undo_map.specs.Ends.{due_places}
+use Rattle.segment_core.specs.Ends.{stale_from}
+use Rattle.segment_core.specs.contracts.piece_name.PieceNameOrd.TheImpl as order
 use Rattle.segment_core.specs.declared.piece_name.PieceName.{PieceName}
-use Rattle.segment_core.proofs.Places.{none-stale}
 use Rattle.segment_core.proofs.held.drop_stale.Goals as goal
 
 pub loop-name-smaller : goal.loop-name-smaller
@@ -30,6 +30,6 @@ returns-clause-pieces c =
     subst (λ (m : ℕ). All (λ (place : ℕ × PieceName). m < place.0) places) c.seconds-now.ensures.value
     (subst (All (λ (place : ℕ × PieceName). c.seconds-now.result < place.0)) c.in_default.ensures.unchanged
     c.in_default.ensures.none) in
-    sym (none-stale c.args.longest.now c.args.moment places c.loop-name.pieces.entries
-    (recursion_from_All (λ (place : ℕ × PieceName). c.args.moment < place.0) places none) c.loop-name.invariant.placed)
+    sym (c.none_is_over.ensures order.ghosts.cmp (stale_from c.args.longest.now) c.args.moment places
+    c.loop-name.pieces.entries none c.loop-name.invariant.placed)
     ∙ c.loop-name.invariant.pieces

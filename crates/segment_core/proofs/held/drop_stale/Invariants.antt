@@ -2,7 +2,7 @@
 use Rattle.std.proofs.Common.{◌≡◌}
 use Rattle.std.specs.Prelude.{None}
 use Rattle.undo_map.specs.Ends.{due_places}
-use Rattle.segment_core.specs.Ends.{HavePlaces}
+use Rattle.segment_core.specs.Ends.{PiecesHavePlaces}
 use Rattle.segment_core.specs.Store.{live_pieces}
 use Rattle.segment_core.proofs.held.drop_stale.Given as goal
 
@@ -11,7 +11,7 @@ invariant-loop-name l = record {
   pieces :
       live_pieces l.longest l.moment l.pieces.entries ≡ live_pieces l.longest l.moment l.initial.pieces.entries;
   mark : l.pieces.mark ≡ None;
-  placed : HavePlaces l.longest l.ends.places l.pieces.entries;
+  placed : PiecesHavePlaces l.longest l.ends.places l.pieces.entries;
 }
 
 abbrev pub decreases-loop-name : goal.decreases-loop-name

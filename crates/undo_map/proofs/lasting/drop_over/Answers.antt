@@ -1,9 +1,8 @@
 -- Each turn takes a place out that has come; at the end none has come, and so no entry is over.
 use Rattle.std.proofs.Common.{All, ◌∙◌, ◌<◌, ℕ, sym, subst}
-use Rattle.std.proofs.lemmas.List.Elements.{recursion_from_All}
 use Rattle.undo_map.specs.Ends.{due_places}
 use Rattle.undo_map.proofs.EndLemmas.{places-moved}
-use Rattle.undo_map.proofs.OverLemmas.{lives-yet, none-over}
+use Rattle.undo_map.proofs.OverLemmas.{lives-yet}
 use Rattle.undo_map.proofs.lasting.drop_over.Goals as goal
 
 pub loop-key-smaller : goal.loop-key-smaller
@@ -26,8 +25,8 @@ loop-key-preserved g c = record {
 
 pub returns-clause-entries : goal.returns-clause-entries
 returns-clause-entries g c =
-    sym (none-over g.K.Ord.cmp g.V.Lasting.end c.args.now c.loop-key.ends.places c.loop-key.map.entries
-    (recursion_from_All (λ (place : ℕ × g.row.K.Denot). c.args.now < place.0) c.loop-key.ends.places
-    (subst (All (λ (place : ℕ × g.row.K.Denot). c.args.now < place.0)) c.in_default.ensures.unchanged c.in_default.ensures.none))
+    sym (c.none_is_over.ensures g.K.Ord.cmp (λ e. g.V.Lasting.end e.1) c.args.now c.loop-key.ends.places
+    c.loop-key.map.entries
+    (subst (All (λ (place : ℕ × g.row.K.Denot). c.args.now < place.0)) c.in_default.ensures.unchanged c.in_default.ensures.none)
     c.loop-key.invariant.placed)
     ∙ c.loop-key.invariant.entries

@@ -13,7 +13,7 @@ use Rattle.ground_core.proofs.ground.Ground.fill.Goals as goal
 pub returns-clause-filled : goal.returns-clause-filled
 returns-clause-filled c table station history s =
     let in_time : last_above (clock_of history) c.args.moment ≡ None = search rules in
-    fill_stands (record { same = c.keys_are_ordered.ensures.same; agrees = c.keys_are_ordered.ensures.agrees }) table station history c.args.moment c.args.slot c.args.self.now _ s in_time c.requires c.later_clock.ensures.in_range (record {
+    fill_stands c.stations_are_told.ensures (record { same = c.keys_are_ordered.ensures.same; agrees = c.keys_are_ordered.ensures.agrees }) table station history c.args.moment c.args.slot c.args.self.now _ s in_time c.requires c.last_above.ensures.in_range (record {
       table = refl;
       station = refl;
       clock = refl;
@@ -29,7 +29,7 @@ pub returns-clause-frame : goal.returns-clause-frame
 returns-clause-frame c table station history s =
     let in_time : last_above (clock_of history) c.args.moment ≡ None = search rules in
     let sent = sent_of table station history c.args.moment in
-    let pieces = aired_pieces (record { same = c.keys_are_ordered.ensures.same; agrees = c.keys_are_ordered.ensures.agrees }) table station history c.args.moment c.args.slot c.args.self.now (pieces_in c.air-bodies.new.self) s in_time c.air-bodies.ensures.line in
+    let pieces = aired_pieces c.stations_are_told.ensures (record { same = c.keys_are_ordered.ensures.same; agrees = c.keys_are_ordered.ensures.agrees }) table station history c.args.moment c.args.slot c.args.self.now (pieces_in c.air-bodies.new.self) s in_time c.air-bodies.ensures.line in
     let frames = c.air-bodies.ensures.frames ∙ frames_are _ sent pieces in
     record {
       moment = refl;

@@ -28,7 +28,7 @@ returns-clause-accepted c table station history s =
     (subst (λ t. IsItemOf t (latest_at c.args.self.now.newest) (count_at c.args.self.now.files) c.args.self.now.given c.args.version c.args.text.now c.in_ok-item.item)
     s.table_is c.in_ok-item.ensures.item) in
     on_ok_weaker c.put.result (λ p. give_stands (record { same = c.keys_are_ordered.ensures.same; agrees = c.keys_are_ordered.ensures.agrees }) table station history c.args.moment c.args.version c.args.text.now c.args.self.now c.put.new.self c.in_ok-item.item
-    s in_time c.later_clock.ensures.in_range c.in_ok-item.ensures.in_range c.utf8.text none made p) c.put.ensures.ok
+    s in_time c.last_above.ensures.in_range c.in_ok-item.ensures.in_range c.utf8.text none made p) c.put.ensures.ok
 
 pub returns-clause-nothing_against : goal.returns-clause-nothing_against
 returns-clause-nothing_against c table station history s =

@@ -1,6 +1,6 @@
 use Rattle.std.proofs.Common.{◌≡◌, ◌+◌, ◌<◌, ◌≤◌, length, sym, subst, rules}
 use Rattle.ground_core.specs.Piece.{live_by}
-use Rattle.ground_core.specs.Turn.{IsDropped, IsAired, IsStopped}
+use Rattle.ground_core.specs.Turn.{IsDropped, IsFrontAired, IsStopped}
 use Rattle.ground_core.specs.Views.{latest_at, pieces_in}
 use Rattle.ground_core.proofs.Kept.{kept_then, live_kept}
 use Rattle.ground_core.proofs.Turns.{IsTurned, IsDone, turned_drop, turned_air, turned_stops, turned_ends, turns_left, turns_ahead}
@@ -47,7 +47,7 @@ loop-turn-preserved c =
         | in-Aired w ↦ subst (IsTurned live start (c.loop-turn._turn + 1) c.turn.new.frames (pieces_in c.turn.new.self)) (sym w.aired-is)
             (turned_air live start c.loop-turn._turn c.loop-turn.frames c.turn.new.frames (pieces_in c.loop-turn.self) (pieces_in c.turn.new.self) c.loop-turn.aired
             c.loop-turn.invariant.turned some
-            (subst (λ f. IsAired f (pieces_in c.loop-turn.self) c.loop-turn.frames (pieces_in c.turn.new.self) c.turn.new.frames) same w.in-Aired.ensures.turn))
+            (subst (λ f. IsFrontAired f (pieces_in c.loop-turn.self) c.loop-turn.frames (pieces_in c.turn.new.self) c.turn.new.frames) same w.in-Aired.ensures.turn))
       ];
       placed = λ h. c.turn.ensures.placed (c.loop-turn.invariant.placed h);
       kept = λ key. kept_then c.args.moment _ _ _ (c.loop-turn.invariant.kept key) (c.turn.ensures.kept key);

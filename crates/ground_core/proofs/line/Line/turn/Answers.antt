@@ -3,7 +3,7 @@ use Rattle.ground_core.specs.Views.{place_view, piece_at, latest_at, pieces_in}
 use Rattle.ground_core.specs.declared.item.SentItem.{SentItem}
 use Rattle.ground_core.specs.NumberedKeys.{report_key}
 use Rattle.picture_core.specs.Key.{Key, text_report, same_key}
-use Rattle.ground_core.specs.Piece.{live_by, IsKept, ArePlaced, while_living}
+use Rattle.ground_core.specs.Piece.{live_by, IsLastOrEnded, ArePlaced, while_living}
 use Rattle.ground_core.proofs.Kept.{kept_where}
 use Rattle.ground_core.proofs.Placed.{placed_dropped, placed_aired}
 use Rattle.ground_core.proofs.KeyLemmas.{same_key_itself}
@@ -61,7 +61,7 @@ returns-then-not-is_live-clause-placed c h =
     ∙ sym (c.is_live.ensures c.in-Some.front.now.number) ∙ c.if-not-is_live.true in
     subst (ArePlaced after) (sym (ap (map place_view) c.pop_front.ensures.rest))
     (placed_dropped latest after c.args.moment own (pieces_in c.args.self.now) has.behind has.front has.line_is refl dead
-    (λ key. subst (IsKept c.args.moment (latest key)) (sym (c.forget.ensures key)) (kept_where (same_key named key) c.args.moment (latest key)))
+    (λ key. subst (IsLastOrEnded c.args.moment (latest key)) (sym (c.forget.ensures key)) (kept_where (same_key named key) c.args.moment (latest key)))
     (c.forget.ensures own ∙ ap (λ b. if b then while_living c.args.moment (latest own) else latest own)
     (ap (λ k. same_key k own) same ∙ same_key_itself (record { same = c.keys_are_ordered.ensures.same; agrees = c.keys_are_ordered.ensures.agrees }) own))
     h)

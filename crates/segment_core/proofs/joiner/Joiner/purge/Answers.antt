@@ -15,14 +15,14 @@ returns-clause-stands c = λ taken.
     }) taken)
     c.self.view_is
     (λ after stands. rw c.drop_stale.ensures.pieces
-    (stands-purged c.self.inside.longest c.self.inside.clock c.args.moment c.self.inside.pieces.entries taken after stands))
+    (stands-purged c.stations_are_told.ensures c.self.inside.longest c.self.inside.clock c.args.moment c.self.inside.pieces.entries taken after stands))
     c.requires.moment
 
 pub returns-clause-purged : goal.returns-clause-purged
 returns-clause-purged c = record {
   clock = refl;
   once = c.drop_stale.ensures.once;
-  live = rw c.drop_stale.ensures.pieces (live-purged c.self.inside.longest c.args.moment c.self.inside.pieces.entries);
+  live = rw c.drop_stale.ensures.pieces (live-purged c.stations_are_told.ensures c.self.inside.longest c.args.moment c.self.inside.pieces.entries);
 }
 
 pub invariant_of-self : goal.invariant_of-self

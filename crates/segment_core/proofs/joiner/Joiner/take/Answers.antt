@@ -23,7 +23,7 @@ returns-clause-answer c = λ taken.
     → c.in_ok-taken.taken ≡ answer_of v.store.longest c.args.moment taken (arrival_view c.args.arrived.now))
     c.self.view_is
     (λ after stands. c.in_ok-taken.ensures.answer
-    ∙ answer-live c.self.inside.longest c.self.inside.clock c.args.moment c.self.inside.pieces.entries taken
+    ∙ answer-live c.stations_are_told.ensures c.self.inside.longest c.self.inside.clock c.args.moment c.self.inside.pieces.entries taken
     (arrival_view c.args.arrived.now) c.args.arrived.now.seg refl c.requires.segment after live stands)
     c.requires.moment
 
@@ -40,13 +40,19 @@ returns-clause-stands c = λ taken.
     })
     (taken_with v.store.longest c.args.moment taken (arrival_view c.args.arrived.now)))
     c.self.view_is
-    (λ after stands. takes-live c.self.inside.longest c.self.inside.clock c.args.moment c.self.inside.pieces.entries
+    (λ after stands. takes-live c.stations_are_told.ensures c.self.inside.longest c.self.inside.clock c.args.moment c.self.inside.pieces.entries
     c.take_live.new.pieces.entries taken (arrival_view c.args.arrived.now) c.requires.segment after live
     c.in_ok-taken.ensures.pieces stands)
     c.requires.moment
 
 pub invariant_of-self-2 : goal.invariant_of-self-2
 invariant_of-self-2 c =
+    marked-taken c.self.inside.longest c.self.inside.ends.places c.take_live.new.ends.places c.self.inside.pieces
+    c.take_live.new.pieces c.take_live.ensures.kept c.take_live.ensures.mark (c.take_live.ensures.placed c.self.invariant.0)
+    c.self.invariant
+
+pub invariant_of-self-in_err-taken : goal.invariant_of-self-in_err-taken
+invariant_of-self-in_err-taken c =
     marked-taken c.self.inside.longest c.self.inside.ends.places c.take_live.new.ends.places c.self.inside.pieces
     c.take_live.new.pieces c.take_live.ensures.kept c.take_live.ensures.mark (c.take_live.ensures.placed c.self.invariant.0)
     c.self.invariant
