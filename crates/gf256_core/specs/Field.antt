@@ -55,6 +55,8 @@ pub record IsField (modulus : ℕ) : Type 0 where
   -- from the right
   pub product_zero_right : (a : ℕ) → product modulus a 0 ≡ 0
   pub distributive_right :
-      (a b c : ℕ) → product modulus a (bit_xor b c) ≡ bit_xor (product modulus a b) (product modulus a c)
+      (a b c : ℕ)
+      → product modulus a (bit_xor b c) ≡ bit_xor (product modulus a b) (product modulus a c)
   pub product_turned :
-      (a b c : ℕ) → product modulus a (product modulus b c) ≡ product modulus b (product modulus a c)
+      (a b c : ℕ)
+      → product modulus a (product modulus b c) ≡ product modulus b (product modulus a c)
