@@ -1,6 +1,6 @@
 -- What an accepted text gives as weather.
 use Rattle.std.proofs.Common.{◌≡◌, ℕ, ◌+◌, ◌<◌, ◌≤◌, Bool, true, false, not, nat_lt, nat_le, if◌then◌else◌, List, [], ◌∷◌, Option, Some, None, Result, Ok, Err, refl, sym, ap, ◌∙◌}
-use Rattle.std.proofs.lemmas.Bool.{ltb-false, leb-false}
+use Rattle.std.proofs.lemmas.Bool.{ltb-false, leb-false, not-false}
 use Rattle.std.specs.Str.{chars}
 use Rattle.fisb_time.specs.TimeForm.{shows}
 use Rattle.dlac_text.specs.Payload.{text_payload}
@@ -65,10 +65,6 @@ age_both version None later h = (refl, h)
 age_both version (Some k) later h = let both = no_refusal (nat_le version k) (not_newer k) later h in
     ((rw both.0 refl), both.1)
 
-not_not : (b : Bool) → not b ≡ false → b ≡ true
-not_not true h = refl
-not_not false h = cc
-
 clear_by_row : (table : LifeTable) (before : List Item) (moment version : ℕ) (chars : List ℕ) (key : TextKey) (row : TextRow)
     → text_key table chars ≡ Ok key → text_row table key.kind ≡ Some row
     → weather_refusal table before moment key (text_weather key row version chars ∷ []) ≡ None → IsClear table before moment version chars
@@ -83,7 +79,7 @@ clear_by_row table before moment version chars key row ek er h =
       row = row;
       key_is = ek;
       row_is = er;
-      shown = not_not (shows row.form version) first.0;
+      shown = not-false (shows row.form version) first.0;
       not_ahead = ltb-false (moment + 60) version second.0;
       alive = leb-false (version + row.life) moment third.0;
       newer = fourth.0;
