@@ -1,6 +1,6 @@
 -- Texts of the alphabet: their first character outside it, and that their characters are their bytes.
 use Rattle.std.proofs.Common.{ap, ◌≡◌, ℕ, ◌<◌, ◌≤◌, Bool, true, false, not, cond, ltb, Some, None, List, length, get_or, refl, sym, subst, ◌∙◌, arith}
-use Rattle.std.proofs.lemmas.Bool.{not-false}
+use Rattle.std.proofs.lemmas.Bool.{not-false, not-true}
 use Rattle.std.proofs.lemmas.Bool.Decides.{nat_tests}
 use Rattle.std.proofs.lemmas.List.Folds.{list_all_at}
 use Rattle.std.proofs.lemmas.List.Quantifiers.{position-Some}
@@ -15,10 +15,6 @@ use Rattle.dlac_text.specs.Refusal.{bad_character, too_long, first_bad, first_ca
 
 abbrev is_bad : ℕ → Bool
 is_bad character = not (is_in_alphabet character)
-
-not-true : (b : Bool) → not b ≡ true → b ≡ false
-not-true true h = cc
-not-true false h = refl
 
 none_by_test : (b : Bool) (n : ℕ) → cond b (Some n) None ≡ None → b ≡ false
 none_by_test true n h = cc
