@@ -22,7 +22,7 @@ use Rattle.apdu_core.specs.Apdu.{file_numbers}
 use Rattle.ground_core.specs.Item.{Item, is_segmented}
 use Rattle.ground_core.specs.Airing.{Frame, has_key}
 use Rattle.ground_core.specs.Sound.{IsSound, HistoriesHaveItems}
-use Rattle.ground_core.specs.Sent.{IsFrame, ItemsAreOfStations, SegmentsAreOfItems, FramesReadBack}
+use Rattle.ground_core.specs.Sent.{IsFrame, ItemsAreOfStations, SegmentsAreOfItems, SegmentsAreSame, FramesReadBack}
 
 -- the fields of a moment name it again, when they are received in time
 abbrev pub TimeRoundTrip : Type 0
@@ -62,6 +62,7 @@ pub record Layers : Type 0 where
   pub histories : HistoriesHaveItems
   pub items : ItemsAreOfStations
   pub segments : SegmentsAreOfItems
+  pub same_segments : SegmentsAreSame
   pub frames : FramesReadBack
   pub files : FileLayers
   pub pictures : PictureLayers

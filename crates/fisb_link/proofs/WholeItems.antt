@@ -1,7 +1,7 @@
 -- An item of which each segment was heard is one of whose file each segment has arrived, while it
 -- lives; and the other way.
 use Rattle.std.proofs.Common.{◌≡◌, ℕ, ◌<◌, Bool, true, ◌==◌, List, Option, Some, unwrap_or, refl, sym, ap, ap₂, subst, ◌∙◌}
-use Rattle.std.proofs.lemmas.Bool.{and_parts, and_from, eqb-true, eq-eqb}
+use Rattle.std.proofs.lemmas.Bool.{and_parts, eqb-true}
 use Rattle.life_table.specs.LifeTable.{LifeTable}
 use Rattle.uplink_frame.specs.Station.{same_station}
 use Rattle.uplink_frame.specs.Laws.{StationsAreTold}
@@ -120,14 +120,7 @@ one-item table all sent i j e setting h k station file there =
     (item-has_key setting.layers j e (subst (IsIn e) entries there))
     (ap (λ (f : File). f.version) file)
 
--- a segment is the same as itself, and as no other one that was heard
-same-itself : StationsAreTold → (s : Segment) → same_segment s s ≡ true
-same-itself told s =
-    and_from (same_item s.item s.item) (s.number == s.number)
-    (and_from (same_station s.item.station s.item.station) (s.item.serial == s.item.serial)
-    ((told s.item.station s.item.station).1 refl) (eq-eqb _ _ refl))
-    (eq-eqb _ _ refl)
-
+-- a segment is the same as no other one that was heard
 same-one : StationsAreTold → (table : LifeTable) (all : List Item) (s t : Segment)
     → AreAll table all → IsIn s.item all → IsIn t.item all
     → same_segment s t ≡ true → s ≡ t
@@ -162,7 +155,7 @@ all-whole table all sent heard item e setting are item_in there has =
     let was = fresh-heard table sent heard t found.among_is in
     in_any (same_segment s) t (heard_segments sent heard) was
     (subst (λ (x : Segment). same_segment s x ≡ true) same
-    (same-itself (setting.layers).stations s)))
+    ((setting.layers).same_segments s)))
 
 -- and where the item is whole and lives on, each segment of its file has arrived
 pub whole-all : (table : LifeTable) (all : List Item) (sent : List Frame) (heard : List Hearing)

@@ -6,6 +6,7 @@ use apdu_core::{apdu_reads_back, shown_fits};
 use fisb_time::form_round_trip;
 use ground_core::{
     frames_read_back, histories_have_items, items_are_of_stations, segments_are_of_items,
+    segments_are_same,
 };
 use picture_core::laws::{keys_are_ordered, same_pictures, shown_is_newest};
 use segment_core::laws::{
@@ -26,6 +27,7 @@ pub fn pictures_agree()
     histories_have_items();
     items_are_of_stations();
     segments_are_of_items();
+    segments_are_same();
     frames_read_back();
     parts_fit_frames();
     only_files_complete();

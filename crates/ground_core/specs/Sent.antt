@@ -1,5 +1,5 @@
 -- What is known of the items and of the frames of a broadcast.
-use Rattle.std.specs.Prelude.{◌≡◌, ◌+◌, ◌<◌, ◌≤◌, ◌↔◌, List, length, map}
+use Rattle.std.specs.Prelude.{◌≡◌, ◌+◌, ◌<◌, ◌≤◌, ◌↔◌, true, List, length, map}
 use Rattle.bit_fields.specs.Bits.{AreBytes}
 use Rattle.list_members.specs.Membership.{IsIn}
 use Rattle.fisb_time.specs.Moment.{IsMoment}
@@ -10,7 +10,8 @@ use Rattle.uplink_frame.specs.Station.{header_of, FitsStation}
 use Rattle.uplink_frame.specs.UplinkFrame.{InformationFrame, frame_room, payload_length, fisb_frame}
 use Rattle.uplink_frame.specs.UplinkFrame.{spelled_frames, header_in, information_frames}
 use Rattle.segment_core.specs.File.{parts_of}
-use Rattle.ground_core.specs.Item.{Item, Segment, segments_of, file_of, body_of, end_of}
+use Rattle.ground_core.specs.Item.{Item, Segment, same_segment, segments_of, file_of, body_of}
+use Rattle.ground_core.specs.Item.{end_of}
 use Rattle.ground_core.specs.History.{items}
 use Rattle.ground_core.specs.Airing.{Frame, used_room, frame_payload}
 use Rattle.ground_core.specs.Broadcast.{StationEvent, IsBroadcast, IsHistory, history_of, frames}
@@ -33,6 +34,10 @@ pub record IsSegmentOf (item : Item) (s : Segment) : Type 0 where
   pub item_is : s.item ≡ item
   pub least : 1 ≤ s.number
   pub most : s.number ≤ length (parts_of (file_of item))
+
+-- a segment is the same as itself
+abbrev pub SegmentsAreSame : Type 0
+SegmentsAreSame = (s : Segment) → same_segment s s ≡ true
 
 abbrev pub SegmentsAreOfItems : Type 0
 SegmentsAreOfItems = (item : Item) (s : Segment) → IsIn s (segments_of item) ↔ IsSegmentOf item s

@@ -2,6 +2,7 @@
 //! the laws of lower crates.
 ghost use Rattle.ground_core.specs.Sound.{AcceptedIsGiven, HistoriesHaveItems};
 ghost use Rattle.ground_core.specs.Sent.{FramesReadBack, ItemsAreOfStations, SegmentsAreOfItems};
+ghost use Rattle.ground_core.specs.Sent.{SegmentsAreSame};
 
 use apdu_core::apdu_reads_back;
 use dlac_text::{payload_size, reading_undoes_writing, refused_texts};
@@ -46,6 +47,14 @@ pub fn items_are_of_stations()
 pub fn segments_are_of_items()
     ensures { SegmentsAreOfItems }
 {}
+
+/// The law that a segment is the same as itself.
+#[inline]
+pub fn segments_are_same()
+    ensures { SegmentsAreSame }
+{
+    stations_are_told();
+}
 
 /// The law that each frame of a broadcast airs segments of live items, as many as fit, and that its payload reads back as its
 /// station, its slot and their bodies.

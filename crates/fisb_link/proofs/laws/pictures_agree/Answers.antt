@@ -10,6 +10,7 @@ returns c = pictures-agree (record {
   histories = c.histories_have_items.ensures;
   items = c.items_are_of_stations.ensures;
   segments = c.segments_are_of_items.ensures;
+  same_segments = c.segments_are_same.ensures;
   frames = c.frames_read_back.ensures;
   files = record {
     parts = c.parts_fit_frames.ensures;
