@@ -9,10 +9,10 @@ use Rattle.std.specs.Ordering.{is_eq}
 use Rattle.std.proofs.lemmas.Bool.{and_parts, cases_Bool, cond-true, leb-true, le-leb}
 use Rattle.std.proofs.lemmas.Bool.Decides.{eqb_tells}
 use Rattle.list_members.proofs.Ranges.{all_in}
-use Rattle.undo_map.specs.Ends.{HasAdded, HasLeft, KeepsPlaces, has_place_by}
+use Rattle.undo_map.specs.Ends.{HasAdded, HasLeft, KeepsPlaces, PlacesStay, has_place_by}
 use Rattle.undo_map.specs.Marked.{Marked}
 use Rattle.segment_core.specs.Arrival.{other_numbers}
-use Rattle.segment_core.specs.Ends.{MarkedPiecesHavePlaces, PiecesHavePlaces}
+use Rattle.segment_core.specs.Ends.{MarkedPiecesHavePlaces, PiecesHavePlaces, stale_from}
 use Rattle.segment_core.specs.HeldPieces.{held_with, is_held, is_number_of, others_held}
 use Rattle.segment_core.specs.Kept.{Pieces, fields_of, kept_under, same_piece, with_number}
 use Rattle.segment_core.specs.Store.{is_live, live_pieces, longest_of}
@@ -56,12 +56,6 @@ all-held P (e ∷ es) each = (each e.0 (held-first e es), all-held P es (λ q so
 -- the name stands there, at a second from which on its file is stale or at one before it
 abbrev has_place : Longest → List (ℕ × PieceName) → PieceName → Bool
 has_place longest places name = has_place_by order.ghosts.cmp places name (name.version + longest_of longest name.product)
-
-pub places-kept : (longest : Longest) (old new : List (ℕ × PieceName)) (pieces : Pieces) → KeepsPlaces old new
-    → PiecesHavePlaces longest old pieces → PiecesHavePlaces longest new pieces
-places-kept longest old new pieces kept placed = all-held (λ k. has_place longest new k ≡ true) pieces (λ q some.
-    kept (λ place. is_eq (order.ghosts.cmp place.1 q) && nat_le place.0 (q.version + longest_of longest q.product))
-    (each-held (λ k. has_place longest old k ≡ true) pieces placed q some))
 
 -- a place that is added for a name is its place
 pub place-added : (longest : Longest) (end : ℕ) (name : PieceName) (places : List (ℕ × PieceName))
@@ -108,7 +102,8 @@ pub places-with : (longest : Longest) (old new : List (ℕ × PieceName)) (piece
 places-with longest old new pieces later name payload becomes kept own placed =
     let P : PieceName → Type 0 = λ k. has_place longest new k ≡ true in
     all-held P later (λ q some. each-with P pieces name q payload own
-    (each-held P pieces (places-kept longest old new pieces kept placed)) (ap is_some (sym (becomes q)) ∙ some))
+    (λ k held. kept (λ place. is_eq (order.ghosts.cmp place.1 k) && nat_le place.0 (k.version + longest_of longest k.product))
+    (each-held (λ k. has_place longest old k ≡ true) pieces placed k held)) (ap is_some (sym (becomes q)) ∙ some))
 
 -- a name that is removed, by the order of the names
 removed-found : (name : PieceName) (pieces : Pieces)
@@ -186,12 +181,12 @@ places-again longest end again name old left new pieces before taken kept added 
           (each-held (λ k. has_place longest old k ≡ true) pieces placed q some))
     ])
 
-pub marked-taken : (longest : Longest) (before places : List (ℕ × PieceName)) (old new : MarkedPieces) → KeepsPlaces before places
-    → new.mark ≡ old.mark → PiecesHavePlaces longest places new.entries
+pub marked-taken : PlacesStay PieceName (Option (List ℕ)) → (longest : Longest) (before places : List (ℕ × PieceName))
+    (old new : MarkedPieces) → KeepsPlaces before places → new.mark ≡ old.mark → PiecesHavePlaces longest places new.entries
     → MarkedPiecesHavePlaces longest before old → MarkedPiecesHavePlaces longest places new
-marked-taken longest before places old new kept mark now all = (
+marked-taken stay longest before places old new kept mark now all = (
   now,
-  λ es is. places-kept longest before places es kept (all.1 es (sym mark ∙ is)),
+  λ es is. stay order.ghosts.cmp (stale_from longest) before places es kept (all.1 es (sym mark ∙ is)),
 )
 
 pub marked-alone : (longest : Longest) (places : List (ℕ × PieceName)) (new : MarkedPieces) → new.mark ≡ None

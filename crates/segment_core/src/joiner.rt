@@ -14,6 +14,7 @@ use fisb_time::Moment;
 use fisb_wire::Bytes;
 use std::alloc::{AllocError, Global};
 use std::marker::Model;
+use undo_map::laws::places_stay;
 use undo_map::{EndQueue, UndoMap};
 
 /// Joins the segments of files as they arrive. Of each file that is not stale it keeps the first
@@ -100,6 +101,7 @@ impl Joiner {
             self.clock = Some(moment);
             return Ok(Taken::Stale);
         }
+        places_stay::<PieceName, Option<Bytes>>();
         let taken = take_live(
             self.alloc,
             &self.longest,

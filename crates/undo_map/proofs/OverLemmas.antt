@@ -145,7 +145,7 @@ module _ {K V : Type 0} where
   live-placed_first R total end at key v old new e es sorted found moves placed rest Less below =
       let none = none_below_head total key e es sorted below in
       let absent : lookup (is_at (R key)) (e ∷ es) ≡ None = lookup-none (is_at (R key)) (e ∷ es) none in
-      places-kept R end old new (e ∷ es) (keeps-added (end v, key) old new moves)
+      places-kept R (λ e. end e.1) old new (e ∷ es) (keeps-added (end v, key) old new moves)
       (absent-placed R end at key old (e ∷ es) absent placed)
   live-placed_first R total end at key v old new e es sorted found moves placed rest Equal same =
       let value : Some e.1 ≡ Some v = rw same at found in
@@ -153,7 +153,7 @@ module _ {K V : Type 0} where
       let below : end v ≤ end e.1 = rw is (omega arith) in
       let tied : is_eq (R key e.0) ≡ true = rw same refl in (
         has-added R (end v) key e.0 (end e.1) old new moves tied below,
-        places-kept R end old new es (keeps-added (end v, key) old new moves)
+        places-kept R (λ e. end e.1) old new es (keeps-added (end v, key) old new moves)
             (absent-placed R end at key old es (absent-tail R total key e es same (sorted_head R e.0 (keys_of es) sorted)) placed.1),
       )
   live-placed_first R total end at key v old new e es sorted found moves placed rest Greater above =

@@ -73,3 +73,9 @@ NoneIsOver K V = (cmp : K → K → Ordering) (end : K × V → ℕ) (now : ℕ)
     (entries : List (K × V))
     → All (λ place. now < place.0) places → HavePlacesBy cmp end places entries
     → filter (λ entry. nat_lt now (end entry)) entries ≡ entries
+
+-- where each test that held of a place still holds of one, entries that had places have them
+abbrev pub PlacesStay : (K V : Type 0) → Type 0
+PlacesStay K V = (cmp : K → K → Ordering) (end : K × V → ℕ) (old new : List (ℕ × K))
+    (entries : List (K × V))
+    → KeepsPlaces old new → HavePlacesBy cmp end old entries → HavePlacesBy cmp end new entries
