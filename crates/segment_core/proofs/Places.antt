@@ -1,10 +1,9 @@
 -- Each name that is held has a place in the queue of ends.
 use Rattle.std.proofs.Common.{◌≡◌, ℕ, Bool, ◌+◌, ◌≤◌, ◌&&◌, true, false, List, [], ◌∷◌, Option, Some, None, is_some, refl, sym, ap, subst}
-use Rattle.std.proofs.Common.{◌∙◌, inl, inr, cond, nat_le}
+use Rattle.std.proofs.Common.{◌∙◌, inl, inr, nat_le}
 use Rattle.std.specs.BTreeMap.{is_at}
 use Rattle.std.specs.List.{AllByRecursion}
-use Rattle.std.specs.List.Sorted.{IsStrictlySortedBy}
-use Rattle.std.specs.Map.{keys_of, remove_entry}
+use Rattle.std.specs.Map.{remove_entry}
 use Rattle.std.specs.Ordering.{is_eq}
 use Rattle.std.proofs.lemmas.Bool.{and_parts, cases_Bool, cond-true, leb-true, le-leb}
 use Rattle.std.proofs.lemmas.Bool.Decides.{eqb_tells}
@@ -19,7 +18,7 @@ use Rattle.segment_core.specs.Store.{is_live, live_pieces, longest_of}
 use Rattle.segment_core.specs.contracts.piece_name.PieceNameOrd.TheImpl as order
 use Rattle.segment_core.specs.declared.piece_name.PieceName.{PieceName}
 use Rattle.segment_core.specs.declared.arrived.Longest.{Longest}
-use Rattle.segment_core.proofs.Bounded.{held-without, once-sorted, same-turned}
+use Rattle.segment_core.proofs.Bounded.{same-turned}
 use Rattle.segment_core.proofs.Completed.{others-in}
 use Rattle.segment_core.proofs.PieceNames.{agrees, same-is, same-self}
 
@@ -146,24 +145,6 @@ other-left : (longest : Longest) (end : ℕ) (name q : PieceName) (old new : Lis
 other-left longest end name q old new left not some =
     let other : is_eq (order.ghosts.cmp name q) ≡ false = agrees name q ∙ same-turned name q ∙ not in
     left (λ place. is_eq (order.ghosts.cmp place.1 q) && nat_le place.0 (q.version + longest_of longest q.product)) (rw other refl) some
-
--- the name is removed
-pub places-removed : (longest : Longest) (end : ℕ) (name : PieceName) (old new : List (ℕ × PieceName)) (pieces later : Pieces)
-    → IsStrictlySortedBy order.ghosts.cmp (keys_of pieces) → later ≡ remove_entry (is_at (order.ghosts.cmp name)) pieces
-    → HasLeft (end, name) old new → PiecesHavePlaces longest old pieces → PiecesHavePlaces longest new later
-places-removed longest end name old new pieces later sorted is left placed =
-    all-held (λ k. has_place longest new k ≡ true) later (λ q some.
-    let without = held-without name q pieces (once-sorted pieces sorted) in
-    let held : is_some (cond (same_piece name q) None (kept_under pieces q)) ≡ true =
-    sym (ap is_some (ap (λ (ps : Pieces). kept_under ps q) (is ∙ removed-found name pieces) ∙ without)) ∙ some in
-    elim (cases_Bool (same_piece name q)) [
-      | inl same ↦ let none : false ≡ true = rw same at held in cc none
-      | inr other ↦
-          let was : is_some (kept_under pieces q) ≡ true = rw other at held in
-          let turned : same_piece q name ≡ false = same-turned q name ∙ other in
-          other-left longest end name q old new left turned
-          (each-held (λ k. has_place longest old k ≡ true) pieces placed q was)
-    ])
 
 -- the name is given a place again
 pub places-again : (longest : Longest) (end again : ℕ) (name : PieceName) (old left new : List (ℕ × PieceName)) (pieces : Pieces)
