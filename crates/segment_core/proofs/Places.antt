@@ -1,26 +1,25 @@
 -- Each name that is held has a place in the queue of ends.
 use Rattle.std.proofs.Common.{◌≡◌, ℕ, Bool, ◌+◌, ◌≤◌, ◌&&◌, true, false, List, [], ◌∷◌, Option, Some, None, is_some, refl, sym, ap, subst}
-use Rattle.std.proofs.Common.{◌∙◌, inl, inr, cond, nat_le}
+use Rattle.std.proofs.Common.{◌∙◌, inl, inr, nat_le}
 use Rattle.std.specs.BTreeMap.{is_at}
 use Rattle.std.specs.List.{AllByRecursion}
-use Rattle.std.specs.List.Sorted.{IsStrictlySortedBy}
-use Rattle.std.specs.Map.{keys_of, remove_entry}
+use Rattle.std.specs.Map.{remove_entry}
 use Rattle.std.specs.Ordering.{is_eq}
 use Rattle.std.proofs.lemmas.Bool.{and_parts, cases_Bool, cond-true, leb-true, le-leb}
 use Rattle.std.proofs.lemmas.Bool.Decides.{eqb_tells}
 use Rattle.list_members.proofs.Ranges.{all_in}
-use Rattle.undo_map.specs.Ends.{HasAdded, HasLeft, KeepsPlaces, has_place_by}
+use Rattle.undo_map.specs.Ends.{HasAdded, HasLeft, KeepsPlaces, PlacesStay, has_place_by}
 use Rattle.undo_map.specs.Marked.{Marked}
 use Rattle.uplink_frame.specs.Laws.{StationsAreTold}
 use Rattle.segment_core.specs.Arrival.{other_numbers}
-use Rattle.segment_core.specs.Ends.{MarkedPiecesHavePlaces, PiecesHavePlaces}
+use Rattle.segment_core.specs.Ends.{MarkedPiecesHavePlaces, PiecesHavePlaces, stale_from}
 use Rattle.segment_core.specs.HeldPieces.{held_with, is_held, is_number_of, others_held}
 use Rattle.segment_core.specs.Kept.{KeptPieces, fields_of, kept_under, same_piece, with_number}
 use Rattle.segment_core.specs.Store.{is_live, live_pieces, longest_of}
 use Rattle.segment_core.specs.contracts.piece_name.PieceNameOrd.TheImpl as order
 use Rattle.segment_core.specs.declared.piece_name.PieceName.{PieceName}
 use Rattle.segment_core.specs.declared.arrived.Longest.{Longest}
-use Rattle.segment_core.proofs.Bounded.{held-without, once-sorted, same-turned}
+use Rattle.segment_core.proofs.Bounded.{same-turned}
 use Rattle.segment_core.proofs.Completed.{others-in}
 use Rattle.segment_core.proofs.PieceNames.{agrees, same-is, same-self}
 
@@ -38,14 +37,6 @@ held-later e es q some = elim (cases_Bool (same_piece q e.0)) [
 -- the name stands there, at a second from which on its file is stale or at one before it
 abbrev has_place : Longest → List (ℕ × PieceName) → PieceName → Bool
 has_place longest places name = has_place_by order.ghosts.cmp places name (name.version + longest_of longest name.product)
-
-pub places-kept : (longest : Longest) (old new : List (ℕ × PieceName)) (pieces : KeptPieces) → KeepsPlaces old new
-    → PiecesHavePlaces longest old pieces → PiecesHavePlaces longest new pieces
-places-kept longest old new [] kept placed = tt
-places-kept longest old new (e ∷ es) kept placed = (
-  kept (λ place. is_eq (order.ghosts.cmp place.1 e.0) && nat_le place.0 (e.0.version + longest_of longest e.0.product)) placed.0,
-  places-kept longest old new es kept placed.1,
-)
 
 -- a name that is removed, by the order of the names
 removed-found : (name : PieceName) (pieces : KeptPieces)
@@ -126,7 +117,8 @@ module _ (told : StationsAreTold) where
   places-with longest old new pieces later name payload becomes kept own placed =
       let P : PieceName → Type 0 = λ k. has_place longest new k ≡ true in
       all-held P later (λ q some. each-with P pieces name q payload own
-      (each-held P pieces (places-kept longest old new pieces kept placed)) (ap is_some (sym (becomes q)) ∙ some))
+      (λ k held. kept (λ place. is_eq (order.ghosts.cmp place.1 k) && nat_le place.0 (k.version + longest_of longest k.product))
+      (each-held (λ k. has_place longest old k ≡ true) pieces placed k held)) (ap is_some (sym (becomes q)) ∙ some))
 
   stale-removed : (longest : Longest) (moment : ℕ) (name : PieceName) (pieces : KeptPieces)
       → is_live longest moment name.product name.version ≡ false
@@ -157,24 +149,6 @@ module _ (told : StationsAreTold) where
       let other : is_eq (order.ghosts.cmp name q) ≡ false = agrees name q ∙ same-turned told name q ∙ not in
       left (λ place. is_eq (order.ghosts.cmp place.1 q) && nat_le place.0 (q.version + longest_of longest q.product)) (rw other refl) some
 
-  -- the name is removed
-  pub places-removed : (longest : Longest) (end : ℕ) (name : PieceName) (old new : List (ℕ × PieceName)) (pieces later : KeptPieces)
-      → IsStrictlySortedBy order.ghosts.cmp (keys_of pieces) → later ≡ remove_entry (is_at (order.ghosts.cmp name)) pieces
-      → HasLeft (end, name) old new → PiecesHavePlaces longest old pieces → PiecesHavePlaces longest new later
-  places-removed longest end name old new pieces later sorted is left placed =
-      all-held (λ k. has_place longest new k ≡ true) later (λ q some.
-      let without = held-without told name q pieces (once-sorted pieces sorted) in
-      let held : is_some (cond (same_piece name q) None (kept_under pieces q)) ≡ true =
-      sym (ap is_some (ap (λ (ps : KeptPieces). kept_under ps q) (is ∙ removed-found name pieces) ∙ without)) ∙ some in
-      elim (cases_Bool (same_piece name q)) [
-        | inl same ↦ let none : false ≡ true = rw same at held in cc none
-        | inr other ↦
-            let was : is_some (kept_under pieces q) ≡ true = rw other at held in
-            let turned : same_piece q name ≡ false = same-turned told q name ∙ other in
-            other-left longest end name q old new left turned
-            (each-held (λ k. has_place longest old k ≡ true) pieces placed q was)
-      ])
-
   -- the name is given a place again
   pub places-again : (longest : Longest) (end again : ℕ) (name : PieceName) (old left new : List (ℕ × PieceName)) (pieces : KeptPieces)
       → again ≤ name.version + longest_of longest name.product → HasLeft (end, name) old left → KeepsPlaces left new
@@ -191,12 +165,12 @@ module _ (told : StationsAreTold) where
             (each-held (λ k. has_place longest old k ≡ true) pieces placed q some))
       ])
 
-pub marked-taken : (longest : Longest) (before places : List (ℕ × PieceName)) (old new : MarkedPieces) → KeepsPlaces before places
-    → new.mark ≡ old.mark → PiecesHavePlaces longest places new.entries
+pub marked-taken : PlacesStay PieceName (Option (List ℕ)) → (longest : Longest) (before places : List (ℕ × PieceName))
+    (old new : MarkedPieces) → KeepsPlaces before places → new.mark ≡ old.mark → PiecesHavePlaces longest places new.entries
     → MarkedPiecesHavePlaces longest before old → MarkedPiecesHavePlaces longest places new
-marked-taken longest before places old new kept mark now all = (
+marked-taken stay longest before places old new kept mark now all = (
   now,
-  λ es is. places-kept longest before places es kept (all.1 es (sym mark ∙ is)),
+  λ es is. stay order.ghosts.cmp (stale_from longest) before places es kept (all.1 es (sym mark ∙ is)),
 )
 
 pub marked-alone : (longest : Longest) (places : List (ℕ × PieceName)) (new : MarkedPieces) → new.mark ≡ None

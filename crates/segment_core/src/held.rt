@@ -20,7 +20,7 @@ use crate::piece_name::PieceName;
 use fisb_time::Moment;
 use fisb_wire::Bytes;
 use std::alloc::{AllocError, Global};
-use undo_map::laws::none_is_over;
+use undo_map::laws::{none_is_over, others_have_places};
 use undo_map::{EndQueue, UndoMap};
 use uplink_frame::stations_are_told;
 
@@ -270,6 +270,7 @@ fn drop_name(
         ends.add_again(end_of(longest, name.product, name.version), name);
         return;
     }
+    others_have_places::<PieceName, Option<Bytes>>();
     pieces.remove(&name);
 }
 

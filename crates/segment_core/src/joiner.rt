@@ -14,6 +14,7 @@ use fisb_time::Moment;
 use fisb_wire::Bytes;
 use std::alloc::{AllocError, Global};
 use std::marker::Model;
+use undo_map::laws::places_stay;
 use undo_map::{EndQueue, UndoMap};
 use uplink_frame::stations_are_told;
 
@@ -102,6 +103,7 @@ impl Joiner {
             return Ok(Taken::Stale);
         }
         stations_are_told();
+        places_stay::<PieceName, Option<Bytes>>();
         let taken = take_live(
             self.alloc,
             &self.longest,

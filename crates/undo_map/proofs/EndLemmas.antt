@@ -17,7 +17,7 @@ use Rattle.std.proofs.lemmas.Map.{lookup-none}
 use Rattle.std.proofs.lemmas.Map.Entries.{none_below_head}
 use Rattle.std.proofs.lemmas.Map.Keys.{sorted_tail}
 use Rattle.std.proofs.lemmas.Map.Steps.{set_value_same}
-use Rattle.undo_map.specs.Ends.{HavePlaces, KeepsPlaces, has_place, has_place_by, with_newer}
+use Rattle.undo_map.specs.Ends.{HavePlaces, KeepsPlaces, PlacesStay, has_place, has_place_by, with_newer}
 use Rattle.undo_map.specs.Steps.{before_all}
 use Rattle.undo_map.specs.declared.step.Step.{Step}
 use Rattle.undo_map.proofs.StepLemmas.{before_all-append}
@@ -175,12 +175,10 @@ module _ {K V : Type 0} where
   all-insert R total P key v (e ∷ es) own all =
       all-insert_first R total P key v e es own all (all-insert R total P key v es own all.1) (R key e.0) refl
 
-  pub places-kept :
-      (R : K → K → Ordering) (end : V → ℕ) (old new : List (ℕ × K)) (es : List (K × V)) → KeepsPlaces old new
-      → HavePlaces R end old es → HavePlaces R end new es
+  pub places-kept : PlacesStay K V
   places-kept R end old new es kept all =
-      all-weaker (λ e. has_place R end old e ≡ true) (λ e. has_place R end new e ≡ true) es
-      (λ e some. kept (λ place. is_eq (R place.1 e.0) && nat_le place.0 (end e.1)) some) all
+      all-weaker (λ e. has_place_by R old e.0 (end e) ≡ true) (λ e. has_place_by R new e.0 (end e) ≡ true) es
+      (λ e some. kept (λ place. is_eq (R place.1 e.0) && nat_le place.0 (end e)) some) all
 
   pub places-set :
       (R : K → K → Ordering) (end : V → ℕ) (old new : List (ℕ × K)) (key : K) (was v : V) (es : List (K × V))
@@ -196,10 +194,11 @@ module _ {K V : Type 0} where
       → KeepsPlaces old new → ((k : K) → is_eq (R key k) ≡ true → has_place R end new (k, v) ≡ true)
       → HavePlaces R end old es → HavePlaces R end new (insert_entry R es key v)
   places-insert R total end old new key v es kept own all =
-      all-insert R total (λ e. has_place R end new e ≡ true) key v es own (places-kept R end old new es kept all)
+      all-insert R total (λ e. has_place R end new e ≡ true) key v es own
+      (places-kept R (λ e. end e.1) old new es kept all)
 
   pub places-moved :
       (R : K → K → Ordering) (end : V → ℕ) (old new : List (ℕ × K)) (es : List (K × V)) → IsPermutation old new
       → HavePlaces R end old es → HavePlaces R end new es
   places-moved R end old new es moves all =
-      places-kept R end old new es (λ test some. sym (list_any-IsPermutation test old new moves) ∙ some) all
+      places-kept R (λ e. end e.1) old new es (λ test some. sym (list_any-IsPermutation test old new moves) ∙ some) all

@@ -17,9 +17,9 @@ use Rattle.std.proofs.lemmas.List.Elements.{recursion_from_All}
 use Rattle.std.proofs.lemmas.Map.{lookup-none}
 use Rattle.std.proofs.lemmas.Map.Entries.{none_below_head}
 use Rattle.std.proofs.lemmas.Map.Keys.{sorted_head, sorted_tail}
-use Rattle.undo_map.specs.Ends.{HavePlaces, HavePlacesBy, NoneIsOver, has_place, has_place_by}
+use Rattle.undo_map.specs.Ends.{HasLeft, HavePlaces, HavePlacesBy, NoneIsOver, OthersHavePlaces, has_place, has_place_by}
 use Rattle.undo_map.proofs.EndLemmas.{has-added, places-kept}
-use Rattle.undo_map.proofs.PlaceLemmas.{keeps-added}
+use Rattle.undo_map.proofs.PlaceLemmas.{keeps-added, left-behind}
 
 -- a place by a second, where all places come after another
 later-place :
@@ -84,15 +84,16 @@ module _ {K V : Type 0} where
   ]
 
   pub absent-placed :
-      (R : K → K → Ordering) (end : V → ℕ) (at : ℕ) (key : K) (places : List (ℕ × K)) (es : List (K × V))
-      → lookup (is_at (R key)) es ≡ None → HavePlaces R end ((at, key) ∷ places) es → HavePlaces R end places es
-  absent-placed R end at key places [] absent placed = tt
-  absent-placed R end at key places (e ∷ es) absent placed = elim (cases_Bool (is_eq (R key e.0))) [
+      (R : K → K → Ordering) (end : K × V → ℕ) (at : ℕ) (key : K) (old new : List (ℕ × K)) (es : List (K × V))
+      → HasLeft (at, key) old new → lookup (is_at (R key)) es ≡ None → HavePlacesBy R end old es → HavePlacesBy R end new es
+  absent-placed R end at key old new [] left absent placed = tt
+  absent-placed R end at key old new (e ∷ es) left absent placed = elim (cases_Bool (is_eq (R key e.0))) [
     | inl same ↦ let some : Some e.1 ≡ None = rw same at absent in cc some
     | inr other ↦
         let more : lookup (is_at (R key)) es ≡ None = rw other at absent in
-        let own : has_place R end places e ≡ true = rw other at placed.0 in
-        (own, absent-placed R end at key places es more placed.1)
+        let own : has_place_by R new e.0 (end e) ≡ true =
+        left (λ place. is_eq (R place.1 e.0) && nat_le place.0 (end e)) (rw other refl) placed.0 in
+        (own, absent-placed R end at key old new es left more placed.1)
   ]
 
   -- behind a key that is the same no other is
@@ -145,16 +146,17 @@ module _ {K V : Type 0} where
   live-placed_first R total end at key v old new e es sorted found moves placed rest Less below =
       let none = none_below_head total key e es sorted below in
       let absent : lookup (is_at (R key)) (e ∷ es) ≡ None = lookup-none (is_at (R key)) (e ∷ es) none in
-      places-kept R end old new (e ∷ es) (keeps-added (end v, key) old new moves)
-      (absent-placed R end at key old (e ∷ es) absent placed)
+      places-kept R (λ e. end e.1) old new (e ∷ es) (keeps-added (end v, key) old new moves)
+      (absent-placed R (λ e. end e.1) at key ((at, key) ∷ old) old (e ∷ es) (left-behind (at, key) old) absent placed)
   live-placed_first R total end at key v old new e es sorted found moves placed rest Equal same =
       let value : Some e.1 ≡ Some v = rw same at found in
       let is : v ≡ e.1 = cc value in
       let below : end v ≤ end e.1 = rw is (omega arith) in
       let tied : is_eq (R key e.0) ≡ true = rw same refl in (
         has-added R (end v) key e.0 (end e.1) old new moves tied below,
-        places-kept R end old new es (keeps-added (end v, key) old new moves)
-            (absent-placed R end at key old es (absent-tail R total key e es same (sorted_head R e.0 (keys_of es) sorted)) placed.1),
+        places-kept R (λ e. end e.1) old new es (keeps-added (end v, key) old new moves)
+            (absent-placed R (λ e. end e.1) at key ((at, key) ∷ old) old es (left-behind (at, key) old)
+            (absent-tail R total key e es same (sorted_head R e.0 (keys_of es) sorted)) placed.1),
       )
   live-placed_first R total end at key v old new e es sorted found moves placed rest Greater above =
       let later : lookup (is_at (R key)) es ≡ Some v = rw above at found in
@@ -207,29 +209,28 @@ module _ {K V : Type 0} where
       (λ later. over-dropped R total end now key v es (sorted_tail R e.0 (keys_of es) sorted) later ended) (R key e.0) refl
 
   over-placed_first :
-      (R : K → K → Ordering) → IsTotalOrder R → (end : V → ℕ) (at : ℕ) (key : K) (places : List (ℕ × K)) (e : K × V)
+      (R : K → K → Ordering) → IsTotalOrder R → (end : K × V → ℕ) (at : ℕ) (key : K) (old new : List (ℕ × K)) (e : K × V)
       (es : List (K × V))
-      → IsStrictlySortedBy R (keys_of (e ∷ es)) → HavePlaces R end ((at, key) ∷ places) (e ∷ es)
-      → HavePlaces R end places (remove_entry (is_at (R key)) es)
-      → (o : Ordering) → R key e.0 ≡ o → HavePlaces R end places (remove_entry (is_at (R key)) (e ∷ es))
-  over-placed_first R total end at key places e es sorted placed rest Less below =
-      let own : has_place R end places e ≡ true = rw below at placed.0 in
+      → IsStrictlySortedBy R (keys_of (e ∷ es)) → HasLeft (at, key) old new → HavePlacesBy R end old (e ∷ es)
+      → HavePlacesBy R end new (remove_entry (is_at (R key)) es)
+      → (o : Ordering) → R key e.0 ≡ o → HavePlacesBy R end new (remove_entry (is_at (R key)) (e ∷ es))
+  over-placed_first R total end at key old new e es sorted left placed rest Less below =
+      let own : has_place_by R new e.0 (end e) ≡ true =
+      left (λ place. is_eq (R place.1 e.0) && nat_le place.0 (end e)) (rw below refl) placed.0 in
       rw below (own, rest)
-  over-placed_first R total end at key places e es sorted placed rest Equal same =
-      rw same (absent-placed R end at key places es
+  over-placed_first R total end at key old new e es sorted left placed rest Equal same =
+      rw same (absent-placed R end at key old new es left
       (absent-tail R total key e es same (sorted_head R e.0 (keys_of es) sorted)) placed.1)
-  over-placed_first R total end at key places e es sorted placed rest Greater above =
-      let own : has_place R end places e ≡ true = rw above at placed.0 in
+  over-placed_first R total end at key old new e es sorted left placed rest Greater above =
+      let own : has_place_by R new e.0 (end e) ≡ true =
+      left (λ place. is_eq (R place.1 e.0) && nat_le place.0 (end e)) (rw above refl) placed.0 in
       rw above (own, rest)
 
-  pub over-placed :
-      (R : K → K → Ordering) → IsTotalOrder R → (end : V → ℕ) (at : ℕ) (key : K) (places : List (ℕ × K)) (es : List (K × V))
-      → IsStrictlySortedBy R (keys_of es) → HavePlaces R end ((at, key) ∷ places) es
-      → HavePlaces R end places (remove_entry (is_at (R key)) es)
-  over-placed R total end at key places [] sorted placed = tt
-  over-placed R total end at key places (e ∷ es) sorted placed =
-      over-placed_first R total end at key places e es sorted placed
-      (over-placed R total end at key places es (sorted_tail R e.0 (keys_of es) sorted) placed.1) (R key e.0) refl
+  pub over-placed : (R : K → K → Ordering) → IsTotalOrder R → OthersHavePlaces K V R
+  over-placed R total end at key old new [] sorted left placed = tt
+  over-placed R total end at key old new (e ∷ es) sorted left placed =
+      over-placed_first R total end at key old new e es sorted left placed
+      (over-placed R total end at key old new es (sorted_tail R e.0 (keys_of es) sorted) left placed.1) (R key e.0) refl
 
 -- the value whose end was found
 pub end-found :

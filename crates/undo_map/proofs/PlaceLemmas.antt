@@ -26,6 +26,11 @@ module _ {K : Type 0} where
       let any : (test taken || list_any test new) ≡ true = sym (list_any-IsPermutation test old (taken ∷ new) moves) ∙ some in
       rw fails at any
 
+  pub left-behind : (place : ℕ × K) (places : List (ℕ × K)) → HasLeft place (place ∷ places) places
+  left-behind place places test fails some =
+      let any : (test place || list_any test places) ≡ true = some in
+      rw fails at any
+
 -- how many places have come, where one is added that has not, and where one is taken that has
 pub due-added :
     {K : Type 0} (now end : ℕ) (key : K) (old new : List (ℕ × K)) → now < end → IsPermutation ((end, key) ∷ old) new

@@ -3,7 +3,8 @@ use Rattle.std.specs.Prelude.{◌≡◌, ℕ, ◌<◌, Bool, true, false, ◌&&�
 use Rattle.std.specs.Prelude.{if◌then◌else◌}
 use Rattle.std.specs.BTreeMap.{insert_entry, is_at}
 use Rattle.std.specs.List.{AllByRecursion, list_any, sum_by}
-use Rattle.std.specs.Map.{lookup}
+use Rattle.std.specs.List.Sorted.{IsStrictlySortedBy}
+use Rattle.std.specs.Map.{keys_of, lookup, remove_entry}
 use Rattle.std.specs.Ordering.{is_eq}
 use Rattle.std.specs.declared.cmp.Ordering.{Ordering}
 use Rattle.undo_map.specs.Marked.{Marked}
@@ -73,3 +74,17 @@ NoneIsOver K V = (cmp : K → K → Ordering) (end : K × V → ℕ) (now : ℕ)
     (entries : List (K × V))
     → All (λ place. now < place.0) places → HavePlacesBy cmp end places entries
     → filter (λ entry. nat_lt now (end entry)) entries ≡ entries
+
+-- where each test that held of a place still holds of one, entries that had places have them
+abbrev pub PlacesStay : (K V : Type 0) → Type 0
+PlacesStay K V = (cmp : K → K → Ordering) (end : K × V → ℕ) (old new : List (ℕ × K))
+    (entries : List (K × V))
+    → KeepsPlaces old new → HavePlacesBy cmp end old entries → HavePlacesBy cmp end new entries
+
+-- where a place of a key was taken out, the entries that are left without the key have places yet
+abbrev pub OthersHavePlaces : (K V : Type 0) → (K → K → Ordering) → Type 0
+OthersHavePlaces K V cmp = (end : K × V → ℕ) (second : ℕ) (key : K) (old new : List (ℕ × K))
+    (entries : List (K × V))
+    → IsStrictlySortedBy cmp (keys_of entries) → HasLeft (second, key) old new
+    → HavePlacesBy cmp end old entries
+    → HavePlacesBy cmp end new (remove_entry (is_at (cmp key)) entries)

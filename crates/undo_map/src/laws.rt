@@ -1,10 +1,23 @@
 //! Laws of the definitions, for the crates above: each is the contract of a function that does
 //! nothing.
-ghost use Rattle.undo_map.specs.Ends.{NoneIsOver};
+ghost use Rattle.undo_map.specs.Ends.{NoneIsOver, OthersHavePlaces, PlacesStay};
 
 /// The law that no entry is over by a second, where each has a place by its end and no place has
 /// come.
 #[inline]
 pub fn none_is_over<K, V>()
     ensures { NoneIsOver K V }
+{}
+
+/// The law that entries that had places have them, where places were only added.
+#[inline]
+pub fn places_stay<K, V>()
+    ensures { PlacesStay K V }
+{}
+
+/// The law that the entries that are left without a key have places, where one of the key's was
+/// taken out.
+#[inline]
+pub fn others_have_places<K: Ord, V>()
+    ensures { OthersHavePlaces K V K.cmp }
 {}

@@ -1,8 +1,9 @@
 -- A name whose file is not stale yet, and one whose file is.
-use Rattle.std.proofs.Common.{◌∙◌, ◌+◌, sym}
+use Rattle.std.proofs.Common.{◌∙◌, ◌+◌, subst, sym}
 use Rattle.std.proofs.lemmas.Bool.{ltb-true}
+use Rattle.segment_core.specs.Ends.{PiecesHavePlaces, stale_from}
 use Rattle.segment_core.specs.Store.{longest_of}
-use Rattle.segment_core.proofs.Places.{live-removed, places-again, places-removed}
+use Rattle.segment_core.proofs.Places.{live-removed, places-again}
 use Rattle.segment_core.proofs.held.drop_name.Goals as goal
 
 pub returns-then-is_live-clause-placed : goal.returns-then-is_live-clause-placed
@@ -23,5 +24,6 @@ returns-clause-pieces c =
 
 pub returns-clause-placed : goal.returns-clause-placed
 returns-clause-placed c = λ before end left placed.
-    places-removed c.stations_are_told.ensures c.args.longest.now end c.args.name before c.args.ends.now.places c.args.pieces.now.entries
-    c.remove.new.self.entries c.remove.ensures.was_ordered c.remove.ensures.entries left placed
+    subst (PiecesHavePlaces c.args.longest.now c.args.ends.now.places) (sym c.remove.ensures.entries)
+    (c.others_have_places.ensures (stale_from c.args.longest.now) end c.args.name before c.args.ends.now.places
+    c.args.pieces.now.entries c.remove.ensures.was_ordered left placed)

@@ -1,8 +1,9 @@
 -- A key without a value, one whose value lives, and one whose value is over.
-use Rattle.std.proofs.Common.{◌∙◌, ◌<◌, ◌≤◌, sym, arith}
+use Rattle.std.proofs.Common.{◌∷◌, ◌∙◌, ◌<◌, ◌≤◌, sym, arith}
 use Rattle.std.specs.BTreeMap.{is_at}
 use Rattle.std.specs.Map.{lookup}
 use Rattle.undo_map.proofs.OverLemmas.{absent-kept, absent-placed, end-absent, end-found, live-kept, live-placed, over-dropped, over-placed}
+use Rattle.undo_map.proofs.PlaceLemmas.{left-behind}
 use Rattle.undo_map.proofs.lasting.drop_key.Goals as goal
 
 pub returns-in_default-clause-entries : goal.returns-in_default-clause-entries
@@ -14,7 +15,8 @@ returns-in_default-clause-entries g c =
 pub returns-in_default-clause-placed : goal.returns-in_default-clause-placed
 returns-in_default-clause-placed g c = λ at placed.
     let found = lookup (is_at (g.K.Ord.cmp c.args.key)) c.args.map.now.entries in
-    absent-placed g.K.Ord.cmp g.V.Lasting.end at c.args.key c.args.ends.now.places c.args.map.now.entries
+    absent-placed g.K.Ord.cmp (λ e. g.V.Lasting.end e.1) at c.args.key ((at, c.args.key) ∷ c.args.ends.now.places)
+    c.args.ends.now.places c.args.map.now.entries (left-behind (at, c.args.key) c.args.ends.now.places)
     (end-absent g.V.Lasting.end found (sym c.end_under.ensures.end ∙ c.in_default.is)) placed
 
 pub returns-then-now-end-clause-entries : goal.returns-then-now-end-clause-entries
@@ -48,5 +50,6 @@ returns-clause-entries g c =
 pub returns-clause-placed : goal.returns-clause-placed
 returns-clause-placed g c = λ at placed.
     rw c.remove.ensures.entries
-    (over-placed g.K.Ord.cmp g.met.K.Ord.total g.V.Lasting.end at c.args.key c.args.ends.now.places c.args.map.now.entries
-    c.end_under.ensures.ordered placed)
+    (over-placed g.K.Ord.cmp g.met.K.Ord.total (λ e. g.V.Lasting.end e.1) at c.args.key
+    ((at, c.args.key) ∷ c.args.ends.now.places) c.args.ends.now.places c.args.map.now.entries c.end_under.ensures.ordered
+    (left-behind (at, c.args.key) c.args.ends.now.places) placed)

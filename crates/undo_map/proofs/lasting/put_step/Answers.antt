@@ -86,4 +86,4 @@ returns-in-None-clause-placed g c = λ all.
     (places-insert R g.met.K.Ord.total g.V.Lasting.end c.args.ends.now.places places c.args.key c.args.value es
     c.insert_step.ensures.kept both.1 every))
     (λ is. subst (HavePlaces R g.V.Lasting.end places) (sym is)
-    (places-kept R g.V.Lasting.end c.args.ends.now.places places es c.insert_step.ensures.kept every))
+    (places-kept R (λ e. g.V.Lasting.end e.1) c.args.ends.now.places places es c.insert_step.ensures.kept every))

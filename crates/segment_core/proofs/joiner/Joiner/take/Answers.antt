@@ -47,12 +47,12 @@ returns-clause-stands c = λ taken.
 
 pub invariant_of-self-2 : goal.invariant_of-self-2
 invariant_of-self-2 c =
-    marked-taken c.self.inside.longest c.self.inside.ends.places c.take_live.new.ends.places c.self.inside.pieces
+    marked-taken c.places_stay.ensures c.self.inside.longest c.self.inside.ends.places c.take_live.new.ends.places c.self.inside.pieces
     c.take_live.new.pieces c.take_live.ensures.kept c.take_live.ensures.mark (c.take_live.ensures.placed c.self.invariant.0)
     c.self.invariant
 
 pub invariant_of-self-in_err-taken : goal.invariant_of-self-in_err-taken
 invariant_of-self-in_err-taken c =
-    marked-taken c.self.inside.longest c.self.inside.ends.places c.take_live.new.ends.places c.self.inside.pieces
+    marked-taken c.places_stay.ensures c.self.inside.longest c.self.inside.ends.places c.take_live.new.ends.places c.self.inside.pieces
     c.take_live.new.pieces c.take_live.ensures.kept c.take_live.ensures.mark (c.take_live.ensures.placed c.self.invariant.0)
     c.self.invariant

@@ -20,6 +20,6 @@ returns-in-Some-clause-placed g c = λ all.
           let before = c.put_step.ensures.before in
           let steps = ap (option_map (λ (s : Vec (Step g.row.K.Denot g.row.V.Denot) Global).
           before_all R s.items c.self.inside.entries.entries)) c.in-Some.is in
-          places-kept R end old c.put_step.new.ends.places mark c.put_step.ensures.kept
+          places-kept R (λ e. end e.1) old c.put_step.new.ends.places mark c.put_step.ensures.kept
           (inside.1 mark (steps ∙ ap Some (sym before) ∙ is)),
     )
