@@ -47,11 +47,6 @@ abbrev pub IsToldAt : Option ℕ → Option GiveRefusal → GiveFault → Type 0
 IsToldAt None refusal fault = IsTold refusal fault
 IsToldAt (Some last) refusal fault = fault ≡ Clock last
 
--- a test that found nothing, or this fault
-abbrev pub Tells : Option GiveFault → Option GiveRefusal → Type 0
-Tells None refusal = refusal ≡ None
-Tells (Some fault) refusal = IsTold refusal fault
-
 -- the last moment that a fill was refused for
 abbrev pub kept_told : FillFault → ℕ
 kept_told (FillClock kept) = kept

@@ -124,7 +124,8 @@ impl Ground {
     }
 
     /// Fills the frame of a slot at a moment with the front of what waits, as far as it fits; what is aired waits last from
-    /// then on. It takes no memory.
+    /// then on. It takes no memory. What it airs is what the definitions air, so no segment waits for ever
+    /// (`no_starvation`).
     ///
     /// # Errors
     ///

@@ -15,7 +15,7 @@ ghost use Rattle.ground_core.specs.Item as items;
 ghost use Rattle.ground_core.specs.Refusal.{GiveRefusal, text_fault_refusal, version_refusal};
 ghost use Rattle.ground_core.specs.Piece.{Latest};
 ghost use Rattle.ground_core.specs.Views.{count_at};
-ghost use Rattle.ground_core.specs.Told.{IsTold, Tells, key_refusal_by, count_refusal};
+ghost use Rattle.ground_core.specs.Told.{IsTold, key_refusal_by, count_refusal};
 
 use crate::fault::GiveFault;
 use crate::files::Files;

@@ -317,7 +317,7 @@ fn bodies_in(ground: &mut Ground, frames: u32) -> Result<u32, Fail> {
 // The 75 texts of each type take 20, 19, 21 and 22 bytes each, so 31 frames have room for all twice, even if 21 bytes are
 // left at the end of each.
 #[test]
-fn texts_of_each_form_are_aired_twice(rt: HostRuntime) -> Result<(), Fail> {
+fn frames_are_filled_with_texts_of_each_form(rt: HostRuntime) -> Result<(), Fail> {
     let alloc = rt.alloc();
     let table = LifeTable::read(alloc, FOUR_FORMS.as_bytes())
         .ok()

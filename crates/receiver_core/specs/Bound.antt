@@ -17,13 +17,14 @@ abbrev pub number_alive : LifeTable → ℕ → List Reception → ℕ
 number_alive table moment heard = length (filter (may_live table moment) heard)
 
 -- For so many receptions, the bytes of all pieces, all segment numbers and all entries that are
--- stored: a payload has 424 bytes of frames, a frame with segment fields takes nine of them at
--- least, and a byte says five entries at most.
+-- kept: a payload has 424 bytes of frames, a frame with segment fields takes nine of them at
+-- least, and a byte says five entries at most. The places of names and keys in the queues by
+-- their ends are not counted.
 pub record IsFewFor (held : Held) (number : ℕ) : Type 0 where
   pub bytes : pieces_size held.joiner.store.pieces ≤ frame_room * number
   pub numbers : length held.joiner.store.pieces ≤ 47 * number
   pub entries : length held.picture.entries ≤ 2120 * number
-  -- no mark stands, for which anything else would be stored
+  -- no mark stands, for which more would be kept
   pub settled : IsSettled held
 
 -- what is held for these receptions is little, by those of which something may live at the last of

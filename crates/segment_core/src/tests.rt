@@ -156,14 +156,15 @@ fn a_payload_is_cut_and_joined(rt: HostRuntime) -> Result<(), Fail> {
     Ok(())
 }
 
-/// Takes the segments of a file of 64, the last one first, and counts the answers that it waits.
+/// Takes the segments of a file of 64 but the first one, the last one first, and counts the
+/// answers that it waits.
 fn count_waiting(joiner: &mut Joiner, now: Moment, version: Moment) -> Result<u8, AllocError>
     requires { IsNotBefore joiner.old.store.clock now }
     ensures { OnOk result (joiner.new.store.clock ≡ Some now) }
 {
     let mut waits = 0;
     joiner.take(now, &segment(version, 64, 64, &[64]))?;
-    for index in 0..63 {
+    for index in 0..62 {
         let taken = joiner.take(now, &segment(version, 64, 63 - index, &[9]))?;
         if name(&taken) == "waits" && waits < 200 {
             waits += 1;
@@ -172,12 +173,29 @@ fn count_waiting(joiner: &mut Joiner, now: Moment, version: Moment) -> Result<u8
     Ok(waits)
 }
 
+/// Whether the first segment of the file makes these bytes whole.
+fn makes_whole(
+    joiner: &mut Joiner,
+    now: Moment,
+    version: Moment,
+    bytes: &[u8],
+) -> Result<bool, AllocError>
+    requires { IsNotBefore joiner.old.store.clock now }
+    ensures { OnOk result (joiner.new.store.clock ≡ Some now) }
+{
+    let taken = joiner.take(now, &segment(version, 64, 1, &[9]))?;
+    Ok(is_whole(&taken, bytes))
+}
+
 #[test]
 fn a_file_of_64_segments_becomes_whole(rt: HostRuntime) -> Result<(), Fail> {
     let version = Moment::new(1_699_999_980).ok_or("in range")?;
     let now = Moment::new(1_700_000_000).ok_or("in range")?;
     let mut joiner = joiner(&rt);
     assert_eq!(rt; count_waiting(&mut joiner, now, version)?, 62);
+    let mut payload = [9; 64];
+    payload[63] = 64;
+    assert!(rt; makes_whole(&mut joiner, now, version, &payload)?);
     assert_eq!(rt;
         name(&joiner.take(now, &segment(version, 64, 64, &[9]))?),
         "again"
