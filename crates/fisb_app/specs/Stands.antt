@@ -81,7 +81,7 @@ HasTried refusal done (Err stop) = TellsRefusal refusal stop
 abbrev pub IsFound : ℕ → ℕ → Option Frame → Result (List ℕ) Reason → Type 0
 IsFound late moment found (Ok air) =
     (frame : Frame) × (found ≡ Some frame) × (frame_refusal late moment found ≡ None)
-        × (air ≡ air_of frame)
+    × (air ≡ air_of frame)
 IsFound late moment found (Err why) = frame_refusal late moment found ≡ Some why
 
 -- a table, or a stop that tells its reason
