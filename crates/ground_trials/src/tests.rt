@@ -180,6 +180,49 @@ fn a_text_is_sent_in_the_next_frame(rt: HostRuntime) -> Result<(), Fail> {
 }
 
 #[test]
+fn the_header_is_that_of_the_station(rt: HostRuntime) -> Result<(), Fail> {
+    let station = Station {
+        lat: 0x43_0000,
+        lon: 0xA9_0000,
+        position_valid: true,
+        site: 5,
+    };
+    let table = LifeTable::default_table(rt.alloc())?;
+    let mut ground = Ground::new(rt.alloc(), station, table);
+    let frame = ground.fill(moment_of(NOW)?, 17)?;
+    let header = &[
+        (0, 1, 0x86),
+        (6, 1, 0x00),
+        (12, 1, 0x01),
+        (18, 1, 0x52),
+        (24, 1, 0x00),
+        (30, 1, 0x01),
+        (36, 1, 0xB1),
+        (42, 1, 0x50),
+    ];
+    assert_eq!(rt; frame.slot, 17);
+    assert!(rt; has_bytes(&frame.air, header));
+    Ok(())
+}
+
+#[test]
+fn winds_of_the_day_before_have_its_date(rt: HostRuntime) -> Result<(), Fail> {
+    let bytes = &[
+        (60, 1, 0x06),
+        (66, 1, 0x75),
+        (72, 1, 0x5B),
+        (78, 1, 0x6F),
+        (84, 1, 0xD8),
+    ];
+    let steps = [
+        Step::Give(NOW, 1_699_919_940, "WINDS KSEA 3000", 0, Answer::Given),
+        Step::Fill(NOW, 1, 19, bytes),
+    ];
+    assert_eq!(rt; first_wrong_of_new(rt.alloc(), &steps)?, None);
+    Ok(())
+}
+
+#[test]
 fn a_call_below_the_last_moment_is_told_by_the_clock(rt: HostRuntime) -> Result<(), Fail> {
     let steps = [
         Step::Give(NOW, MINUTE, "METAR KSEA", 0, Answer::Given),

@@ -2,4 +2,6 @@
 #![tactic(auto)]
 
 #[cfg(test)]
+mod many_reports;
+#[cfg(test)]
 mod tests;

@@ -1,15 +1,15 @@
 //! What a receiver makes of payloads. They show the time 22:13, which names 1699999980 then.
-ghost use Rattle.std.specs.Prelude.{◌<◌};
-
+use dlac_text::plain;
 use fisb_time::Moment;
 use life_table::LifeTable;
+use picture_core::{Entry, Shown};
 use receiver_core::{HearFault, Heard, Receiver, ShowFault, Unread, UnreadReason};
 use std::alloc::Global;
 use std::test::Fail;
 use uplink_frame::read_header;
 
 /// The moment of most receptions.
-const NOW: u64 = 1_700_000_002;
+pub(crate) const NOW: u64 = 1_700_000_002;
 
 /// The header with valid application data, of no position, and the same of another site.
 const NO_POSITION: &str = "000000000000a000";
@@ -23,6 +23,18 @@ const METAR_KSEA: &str = "0680067458d03455014a02d3141000";
 const FIRST_SEGMENT: &str = "0500067658d0040401345501";
 
 const SECOND_SEGMENT: &str = "0680067658d00404024a02d3141000";
+
+/// Frames with the reports `METAR KSEA 0` of 22:12, `METAR KSEA 1`, `METAR KPDX` and `TAF KSEA` of
+/// 22:13, and `SPECI KSEA` of 22:14.
+const OLDER: &str = "0700067458c03455014a02d314183000";
+
+const EQUAL: &str = "0700067458d03455014a02d314183100";
+
+const METAR_KPDX: &str = "0680067458d03455014a02d0118000";
+
+const TAF_KSEA: &str = "0580067458d05011a02d314100";
+
+const SPECI_KSEA: &str = "0680067458e04d01432602d3141000";
 
 /// A frame of product 63 without a block.
 const RADAR: &str = "020000fc58d0";
@@ -50,7 +62,7 @@ fn moment_of(seconds: u64) -> Result<Moment, Fail> {
 }
 
 /// A receiver by the default table.
-fn new_receiver(alloc: Global) -> Result<Receiver, Fail> {
+pub(crate) fn new_receiver(alloc: Global) -> Result<Receiver, Fail> {
     Ok(Receiver::new(alloc, LifeTable::default_table(alloc)?))
 }
 
@@ -73,7 +85,11 @@ fn payload_of(header: &str, data: &[u8]) -> Result<[u8; 432], Fail> {
     Ok(payload)
 }
 
-fn hear_bytes(receiver: &mut Receiver, seconds: u64, data: &[u8]) -> Result<Heard, Fail> {
+pub(crate) fn hear_bytes(
+    receiver: &mut Receiver,
+    seconds: u64,
+    data: &[u8],
+) -> Result<Heard, Fail> {
     let moment = moment_of(seconds)?;
     let payload = payload_of(NO_POSITION, data)?;
     Ok(receiver.hear_payload(moment, &payload)?)
@@ -93,7 +109,7 @@ fn hear_digits(
 }
 
 /// How many entries the picture at a moment has.
-fn entries_at(receiver: &Receiver, alloc: Global, seconds: u64) -> Result<usize, Fail> {
+pub(crate) fn entries_at(receiver: &Receiver, alloc: Global, seconds: u64) -> Result<usize, Fail> {
     Ok(receiver.picture(alloc, moment_of(seconds)?)?.len())
 }
 
@@ -253,6 +269,112 @@ fn headers_that_are_just_in_order_are_read(rt: HostRuntime) -> Result<(), Fail> 
     Ok(())
 }
 
+#[test]
+fn nothing_is_heard_without_valid_application_data(rt: HostRuntime) -> Result<(), Fail> {
+    let mut receiver = new_receiver(rt.alloc())?;
+    let data = bytes_of(rt.alloc(), METAR_KSEA)?;
+    let payload = payload_of("0000000000008000", data.as_slice())?;
+    let answer = receiver.hear_payload(moment_of(NOW)?, &payload);
+    assert!(rt; answer.err() == Some(HearFault::NoApplication));
+    assert_eq!(rt; entries_at(&receiver, rt.alloc(), NOW)?, 0);
+    Ok(())
+}
+
+/// Whether these parts are one of a frame of type 2 and one of product 8, of four bytes each.
+fn are_of_another_type_and_product(parts: &[Unread]) -> bool {
+    match parts {
+        [first, second] => {
+            first.reason == UnreadReason::Kind
+                && first.kind == 2
+                && first.product == 0
+                && first.length == 4
+                && second.reason == UnreadReason::Product
+                && second.kind == 0
+                && second.product == 8
+                && second.length == 4
+        }
+        _ => false,
+    }
+}
+
+#[test]
+fn frames_of_other_types_and_products_are_passed_on(rt: HostRuntime) -> Result<(), Fail> {
+    let alloc = rt.alloc();
+    let mut receiver = new_receiver(alloc)?;
+    let data = "0202aabbccdd0200002058d0";
+    let answer = hear_digits(alloc, &mut receiver, NOW, "000000000001a530", data)?;
+    assert!(rt; are_of_another_type_and_product(answer.unread.all()));
+    assert_eq!(rt; entries_at(&receiver, alloc, NOW)?, 0);
+    Ok(())
+}
+
+/// Whether an entry is this report of this version.
+fn is_report(alloc: Global, entry: &Entry, text: &str, version: u64) -> Result<bool, Fail> {
+    match &entry.value {
+        Shown::Cells(_) => Ok(false),
+        Shown::Text(report) => {
+            let plain = plain(alloc, report)?;
+            Ok(entry.version.seconds() == version && plain.as_str() == text)
+        }
+    }
+}
+
+/// Whether the picture has these reports of these versions, in this order.
+fn has_reports(
+    receiver: &Receiver,
+    alloc: Global,
+    seconds: u64,
+    wanted: &[(&str, u64)],
+) -> Result<bool, Fail> {
+    let entries = receiver.picture(alloc, moment_of(seconds)?)?;
+    let entries = entries.all();
+    if entries.len() != wanted.len() {
+        return Ok(false);
+    }
+    for (place, (text, version)) in wanted.iter().enumerate() {
+        let Some(entry) = entries.get(place) else {
+            return Ok(false);
+        };
+        if !is_report(alloc, entry, text, *version)? {
+            return Ok(false);
+        }
+    }
+    Ok(true)
+}
+
+/// The version of most reports.
+const SHOWN: u64 = 1_699_999_980;
+
+#[test]
+fn the_newest_version_of_a_key_is_kept(rt: HostRuntime) -> Result<(), Fail> {
+    let alloc = rt.alloc();
+    let mut receiver = new_receiver(alloc)?;
+    let steps = [
+        Step::Hear(NOW, METAR_KSEA),
+        Step::Hear(NOW, OLDER),
+        Step::Hear(NOW, EQUAL),
+    ];
+    assert_eq!(rt; first_wrong(alloc, &mut receiver, &steps)?, None);
+    assert!(rt; has_reports(&receiver, alloc, NOW, &[("METAR KSEA", SHOWN)])?);
+    let steps = [Step::Hear(NOW, TAF_KSEA), Step::Hear(NOW, METAR_KPDX)];
+    assert_eq!(rt; first_wrong(alloc, &mut receiver, &steps)?, None);
+    let reports = [
+        ("METAR KPDX", SHOWN),
+        ("METAR KSEA", SHOWN),
+        ("TAF KSEA", SHOWN),
+    ];
+    assert!(rt; has_reports(&receiver, alloc, NOW, &reports)?);
+    let steps = [Step::Hear(NOW + 60, SPECI_KSEA)];
+    assert_eq!(rt; first_wrong(alloc, &mut receiver, &steps)?, None);
+    let reports = [
+        ("METAR KPDX", SHOWN),
+        ("SPECI KSEA", SHOWN + 60),
+        ("TAF KSEA", SHOWN),
+    ];
+    assert!(rt; has_reports(&receiver, alloc, NOW + 60, &reports)?);
+    Ok(())
+}
+
 /// A table without a row of radar.
 const NO_RADAR: &str =
     "version = 1\nlate = 600\n[[text]]\ntype = \"TAF\"\nwords = 2\nlife = 60\nform = 0\n";
@@ -329,118 +451,5 @@ fn ten_unread_frames_are_passed_on_in_their_order(rt: HostRuntime) -> Result<(),
     let answer = hear_bytes(&mut receiver, NOW, data.as_slice())?;
     assert_eq!(rt; answer.unread.len(), 10);
     assert!(rt; are_types_in_order(answer.unread.all()));
-    Ok(())
-}
-
-/// A frame with the report `METAR K` of 22:13 and three further letters, by their places in the
-/// alphabet: its key has two words.
-fn metar(first: u8, second: u8, third: u8) -> [u8; 15]
-    requires first { first < 16 }
-    requires second { second < 16 }
-    requires third { third < 64 }
-{
-    [
-        0x06,
-        0x80,
-        0x06,
-        0x74,
-        0x58,
-        0xD0,
-        0x34,
-        0x55,
-        0x01,
-        0x4A,
-        0x02,
-        0xC0 + first,
-        third * 4,
-        second * 16,
-        0x00,
-    ]
-}
-
-/// A frame with the report `PIREP KA AA` of 22:13, and these letters in place of the three `A`: its
-/// key has three words.
-fn pirep(first: u8, second: u8, third: u8) -> [u8; 15]
-    requires first { first < 16 }
-    requires second { second < 16 }
-    requires third { third < 64 }
-{
-    [
-        0x06,
-        0x80,
-        0x06,
-        0x74,
-        0x58,
-        0xD0,
-        0x40,
-        0x94,
-        0x85,
-        0x42,
-        0x02,
-        0xC0 + first,
-        0x80,
-        second * 16 + third / 4,
-        third % 4 * 64,
-    ]
-}
-
-/// Twenty reports of two words, which differ in one letter.
-fn twenty_metars(alloc: Global, first: u8, second: u8) -> Result<Vec<u8>, Fail>
-    requires first { first < 16 }
-    requires second { second < 16 }
-{
-    let mut data = Vec::new(alloc);
-    for third in 1..21 {
-        data.extend_from_slice(&metar(first, second, third))?;
-    }
-    Ok(data)
-}
-
-/// Twenty reports of three words, which differ in one letter.
-fn twenty_pireps(alloc: Global, first: u8, second: u8) -> Result<Vec<u8>, Fail>
-    requires first { first < 16 }
-    requires second { second < 16 }
-{
-    let mut data = Vec::new(alloc);
-    for third in 1..21 {
-        data.extend_from_slice(&pirep(first, second, third))?;
-    }
-    Ok(data)
-}
-
-/// Hears 400 reports of one letter, of which no two have the same key.
-fn hear_four_hundred(receiver: &mut Receiver, alloc: Global, first: u8) -> Result<(), Fail>
-    requires { first < 16 }
-{
-    for second in 1..11 {
-        let metars = twenty_metars(alloc, first, second)?;
-        hear_bytes(receiver, NOW, metars.as_slice())?;
-        let pireps = twenty_pireps(alloc, first, second)?;
-        hear_bytes(receiver, NOW, pireps.as_slice())?;
-    }
-    Ok(())
-}
-
-#[test]
-fn a_payload_of_twelve_reports_is_heard_whole(rt: HostRuntime) -> Result<(), Fail> {
-    let mut receiver = new_receiver(rt.alloc())?;
-    let mut data = Vec::new(rt.alloc());
-    for third in 1..13 {
-        data.extend_from_slice(&metar(1, 2, third))?;
-    }
-    let answer = hear_bytes(&mut receiver, NOW, data.as_slice())?;
-    assert!(rt; answer.unread.is_empty());
-    assert_eq!(rt; entries_at(&receiver, rt.alloc(), NOW + 1)?, 12);
-    Ok(())
-}
-
-#[test]
-fn two_thousand_reports_are_kept_and_shown(rt: HostRuntime) -> Result<(), Fail> {
-    let mut receiver = new_receiver(rt.alloc())?;
-    for first in 1..6 {
-        hear_four_hundred(&mut receiver, rt.alloc(), first)?;
-    }
-    assert_eq!(rt; entries_at(&receiver, rt.alloc(), NOW + 1)?, 2000);
-    assert_eq!(rt; entries_at(&receiver, rt.alloc(), 1_700_007_180)?, 1000);
     Ok(())
 }
