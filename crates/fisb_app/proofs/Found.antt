@@ -3,7 +3,7 @@ use Rattle.std.proofs.Common.{◌≡◌, ℕ, zero, suc, ◌<◌, ◌≤◌, ◌
 use Rattle.std.proofs.lemmas.Option.{slice_get_cases, slice_get_past, get_or_from_slice_get}
 use Rattle.std.proofs.lemmas.List.{length-map}
 use Rattle.ground_core.specs.Airing.{Frame}
-use Rattle.script_core.specs.declared.reason.Reason.TheVariants.{NoFrame, Late}
+use Rattle.refusal_core.specs.declared.reason.Reason.TheVariants.{NoFrame, Late}
 use Rattle.fisb_app.specs.Reading.{frame_refusal}
 use Rattle.fisb_app.specs.Stands.{Aired, aired_view}
 

@@ -5,8 +5,8 @@ use Rattle.std.specs.List.{cons_option}
 use Rattle.life_table.specs.LifeTable.{LifeTable}
 use Rattle.script_core.specs.Script.{Line}
 use Rattle.script_core.specs.Fields.{line_of}
-use Rattle.script_core.specs.declared.reason.Reason.{Reason}
-use Rattle.script_core.specs.declared.reason.Reason.TheVariants.{Station, NotBuilt}
+use Rattle.refusal_core.specs.declared.reason.Reason.{Reason}
+use Rattle.refusal_core.specs.declared.reason.Reason.TheVariants.{Station, NotBuilt}
 use Rattle.fisb_app.specs.declared.party.Party.{Party}
 use Rattle.fisb_app.specs.Past.{lines_of, moment_of, latest, has_begun}
 use Rattle.fisb_app.specs.Reading.{CanCome, front_refusal, built_refusal, party_refusal, station_refusal, clock_refusal, own_refusal, is_unbuilt, is_station}

@@ -1,6 +1,6 @@
 -- The lines of a script's text as they are written: twelve pieces, and then the rest.
 use Rattle.std.proofs.Common.{◌≡◌, ℕ, List, [], ◌∷◌, ◌++◌, length, map, get_or, codes, decimal, refl, arith, ap, sym, ◌∙◌, append_assoc}
-use Rattle.script_core.specs.Refusal.{spaced}
+use Rattle.refusal_core.specs.Refusal.{spaced}
 
 -- a line that tells of a frame that was sent, with what stands on the air
 abbrev pub sent_air_pieces : ℕ → ℕ → ℕ → ℕ → ℕ → List ℕ → List ℕ

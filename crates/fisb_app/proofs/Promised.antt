@@ -8,8 +8,8 @@ use Rattle.life_table.specs.Rules.{IsTable}
 use Rattle.script_core.specs.Script.{Line, empty, station, text, turn, hear, show, unbuilt}
 use Rattle.script_core.specs.Fields.{line_of}
 use Rattle.script_core.specs.Laws.{LinesHaveRanges}
-use Rattle.script_core.specs.declared.reason.Reason.{Reason}
-use Rattle.script_core.specs.declared.reason.Reason.TheVariants.{LineLong}
+use Rattle.refusal_core.specs.declared.reason.Reason.{Reason}
+use Rattle.refusal_core.specs.declared.reason.Reason.TheVariants.{LineLong}
 use Rattle.run_core.specs.Limits.{line_limit}
 use Rattle.run_core.specs.Work.{Fault}
 use Rattle.run_core.specs.Lines.{lines_in, part_line}

@@ -10,7 +10,7 @@ use Rattle.receiver_core.specs.Answers.{HasHeard, HasTakenPayload}
 use Rattle.receiver_core.specs.Hearing.{HearRefusal, clock, clock_of, refusal_of_air, unread_view}
 use Rattle.segment_core.specs.Store.{last_above}
 use Rattle.receiver_core.specs.declared.heard.Heard.{Heard}
-use Rattle.script_core.specs.declared.reason.Reason.TheVariants.{Clock}
+use Rattle.refusal_core.specs.declared.reason.Reason.TheVariants.{Clock}
 use Rattle.run_core.specs.declared.stop.Stop.{Stop}
 use Rattle.run_core.specs.declared.stop.Stop.TheVariants.{Refused, NoMemory}
 use Rattle.fisb_app.specs.Past.{reception_from, reception_by}

@@ -25,7 +25,7 @@ use Rattle.fisb_link.specs.Hearing.{IsInTime, IsAfterHearings, AreHeard, recepti
 use Rattle.fisb_link.specs.PicturesAgree.{PicturesAgree, HearingsStay}
 use Rattle.script_core.specs.Script.{Line, empty, station, text, turn, hear, show, unbuilt}
 use Rattle.script_core.specs.LineView.{HasRanges}
-use Rattle.script_core.specs.declared.reason.Reason.TheVariants.{Clock, Late}
+use Rattle.refusal_core.specs.declared.reason.Reason.TheVariants.{Clock, Late}
 use Rattle.fisb_app.specs.declared.party.Party.TheVariants.{Link}
 use Rattle.fisb_app.specs.Past.{events, broadcast, hearings, station_of, sent_frames, air_of, air_heard, reception_from, received_frame, reception_by, receptions, latest}
 use Rattle.fisb_app.specs.Reading.{refusal_of, own_refusal, text_refusal, frame_refusal, receiver_refusal, earlier_than, reason_of_update}

@@ -12,7 +12,7 @@ use Rattle.ground_core.specs.Broadcast.{history_of, frames}
 use Rattle.ground_core.specs.OnAir.{IsOnAir}
 use Rattle.ground_core.specs.declared.air_frame.AirFrame.{AirFrame}
 use Rattle.script_core.specs.Script.{Line, empty, station, text, turn, hear, show, unbuilt}
-use Rattle.script_core.specs.Refusal.{spaced}
+use Rattle.refusal_core.specs.Refusal.{spaced}
 use Rattle.hex.specs.Hex.{encode_lower}
 use Rattle.fisb_app.specs.Past.{events, station_of, sent_frames, air_of, has_begun}
 use Rattle.fisb_app.specs.Output.{sent_words}

@@ -21,7 +21,7 @@ use Rattle.receiver_core.specs.declared.unread.UnreadReason.TheVariants.{Files, 
 use Rattle.receiver_core.specs.declared.unread.UnreadReason.TheVariants.{Unlisted}
 use Rattle.fisb_link.specs.LinkPicture.{link_picture}
 use Rattle.script_core.specs.Script.{Line, empty, station, text, turn, hear, show, unbuilt}
-use Rattle.script_core.specs.Refusal.{spaced}
+use Rattle.refusal_core.specs.Refusal.{spaced}
 use Rattle.fisb_app.specs.declared.party.Party.{Party}
 use Rattle.fisb_app.specs.declared.party.Party.TheVariants.{Link, Ground}
 use Rattle.fisb_app.specs.Past.{events, broadcast, hearings, station_of, sent_frames, air_of}

@@ -15,12 +15,12 @@ use Rattle.ground_core.specs.OnAir.{clock_of}
 use Rattle.receiver_core.specs.Reception.{Reception}
 use Rattle.receiver_core.specs.Hearing as heard
 use Rattle.script_core.specs.Script.{Line, empty, station, text, turn, hear, show, unbuilt}
-use Rattle.script_core.specs.declared.reason.Reason.{Reason}
-use Rattle.script_core.specs.declared.reason.Reason.TheVariants.{NotHere, Station, Clock, NoFrame}
-use Rattle.script_core.specs.declared.reason.Reason.TheVariants.{Late, Frames, BadCharacter}
-use Rattle.script_core.specs.declared.reason.Reason.TheVariants.{TextLong, FewWords, Unlisted}
-use Rattle.script_core.specs.declared.reason.Reason.TheVariants.{Coarse, Ahead, Expired, NotNewer}
-use Rattle.script_core.specs.declared.reason.Reason.TheVariants.{NoFile, NotBuilt}
+use Rattle.refusal_core.specs.declared.reason.Reason.{Reason}
+use Rattle.refusal_core.specs.declared.reason.Reason.TheVariants.{NotHere, Station, Clock, NoFrame}
+use Rattle.refusal_core.specs.declared.reason.Reason.TheVariants.{Late, Frames, BadCharacter}
+use Rattle.refusal_core.specs.declared.reason.Reason.TheVariants.{TextLong, FewWords, Unlisted}
+use Rattle.refusal_core.specs.declared.reason.Reason.TheVariants.{Coarse, Ahead, Expired, NotNewer}
+use Rattle.refusal_core.specs.declared.reason.Reason.TheVariants.{NoFile, NotBuilt}
 use Rattle.fisb_app.specs.declared.party.Party.{Party}
 use Rattle.fisb_app.specs.declared.party.Party.TheVariants.{Link, Ground}
 use Rattle.fisb_app.specs.Past.{events, station_of, sent_frames, receptions, moment_of, latest}

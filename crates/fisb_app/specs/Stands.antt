@@ -6,7 +6,7 @@ use Rattle.ground_core.specs.History.{Event}
 use Rattle.ground_core.specs.Airing.{Frame}
 use Rattle.receiver_core.specs.Reception.{Reception}
 use Rattle.script_core.specs.Script.{Line}
-use Rattle.script_core.specs.declared.reason.Reason.{Reason}
+use Rattle.refusal_core.specs.declared.reason.Reason.{Reason}
 use Rattle.run_core.specs.declared.stop.Stop.{Stop}
 use Rattle.run_core.specs.declared.stop.Stop.TheVariants.{Refused, NoMemory}
 use Rattle.fisb_app.specs.declared.sending.Sending.{Sending}

@@ -2,8 +2,8 @@
 use Rattle.std.specs.Prelude.{◌≡◌}
 use Rattle.std.specs.Io.KnownBytes.{Appends}
 use Rattle.fisb_wire.specs.Faults.{Rose}
-use Rattle.script_core.specs.Refusal.{refusal_text}
-use Rattle.script_core.specs.declared.reason.Reason.TheVariants.{NotBuilt}
+use Rattle.refusal_core.specs.Refusal.{refusal_text}
+use Rattle.refusal_core.specs.declared.reason.Reason.TheVariants.{NotBuilt}
 use Rattle.run_core.specs.declared.status.Status.{Status}
 use Rattle.run_core.specs.declared.status.Status.TheVariants.{Done, Usage, Refused, ReadFault}
 use Rattle.run_core.specs.declared.status.Status.TheVariants.{WriteFault, TooLong, NoMemory}

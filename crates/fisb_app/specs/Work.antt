@@ -5,9 +5,9 @@ use Rattle.life_table.specs.TableIn.{table_in}
 use Rattle.life_table.specs.Fault.{Fault, not_toml, bad_row}
 use Rattle.script_core.specs.Script.{Line}
 use Rattle.script_core.specs.Fields.{line_of}
-use Rattle.script_core.specs.Refusal.{refusal_text}
-use Rattle.script_core.specs.declared.reason.Reason.{Reason}
-use Rattle.script_core.specs.declared.reason.Reason.TheVariants.{NotToml, BadRow, Syntax}
+use Rattle.refusal_core.specs.Refusal.{refusal_text}
+use Rattle.refusal_core.specs.declared.reason.Reason.{Reason}
+use Rattle.refusal_core.specs.declared.reason.Reason.TheVariants.{NotToml, BadRow, Syntax}
 use Rattle.run_core.specs.Work.{Work}
 use Rattle.fisb_app.specs.declared.party.Party.{Party}
 use Rattle.fisb_app.specs.declared.party.Party.TheVariants.{Link, Ground}

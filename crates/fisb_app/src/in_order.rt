@@ -5,7 +5,7 @@ ghost use Rattle.life_table.specs.LifeTable.{LifeTable as Table};
 ghost use Rattle.run_core.specs.Actor.{HasOpened};
 ghost use Rattle.script_core.specs.LineView.{line_view, HasRanges};
 ghost use Rattle.script_core.specs.Script.{Line as ScriptLine};
-ghost use Rattle.script_core.specs.declared.reason.Reason.TheVariants.{NotHere};
+ghost use Rattle.refusal_core.specs.declared.reason.Reason.TheVariants.{NotHere};
 ghost use Rattle.fisb_app.specs.Output.{given_text, heard_picture};
 ghost use Rattle.fisb_app.specs.declared.party.Party.{Party as AnyParty};
 ghost use Rattle.fisb_app.specs.Past.{is_empty, moment_of};

@@ -3,7 +3,7 @@ ghost use Rattle.std.specs.Prelude.{◌≡◌, ◌∷◌, [], IfOk, codes, decim
 ghost use Rattle.hex.specs.Hex.{encode_lower};
 ghost use Rattle.picture_core.specs.Views.{entry_view};
 ghost use Rattle.receiver_core.specs.Hearing.{unread_view};
-ghost use Rattle.script_core.specs.Refusal.{spaced};
+ghost use Rattle.refusal_core.specs.Refusal.{spaced};
 ghost use Rattle.picture_core.specs.Key.{text_report};
 ghost use Rattle.picture_core.specs.Entry.{report as report_value};
 ghost use Rattle.text_reports.specs.Views.{key_view};

@@ -3,7 +3,7 @@ ghost use Rattle.std.specs.Prelude.{◌≡◌, ℕ, Option, option_map};
 ghost use Rattle.std.specs.Option.{option_or};
 ghost use Rattle.ground_core.specs.Refusal.{GiveRefusal};
 ghost use Rattle.ground_core.specs.Told.{IsToldAt, IsToldOfText, kept_told};
-ghost use Rattle.script_core.specs.declared.reason.Reason.TheVariants.{Clock};
+ghost use Rattle.refusal_core.specs.declared.reason.Reason.TheVariants.{Clock};
 ghost use Rattle.fisb_app.specs.Reading.{reason_of_update};
 ghost use Rattle.fisb_app.specs.Stands.{TellsRefusal};
 

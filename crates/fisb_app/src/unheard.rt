@@ -3,7 +3,7 @@ ghost use Rattle.std.specs.Prelude.{◌≡◌, ℕ, List, Option, option_map};
 ghost use Rattle.life_table.specs.LifeTable.{LifeTable as Table};
 ghost use Rattle.receiver_core.specs.Hearing.{IsHearFault, IsShowFault, refusal_of_air};
 ghost use Rattle.receiver_core.specs.Reception.{Reception};
-ghost use Rattle.script_core.specs.declared.reason.Reason.TheVariants.{Clock};
+ghost use Rattle.refusal_core.specs.declared.reason.Reason.TheVariants.{Clock};
 ghost use Rattle.fisb_app.specs.Stands.{HasUnheard, TellsRefusal};
 
 use crate::printing::{print_lost, print_no_application};

@@ -3,8 +3,8 @@ use Rattle.std.proofs.Common.{◌≡◌, ℕ, ◌+◌, ◌<◌, ◌≤◌, ◌�
 use Rattle.std.proofs.lemmas.Bool.{cases_Bool}
 use Rattle.std.proofs.lemmas.Bool.Decides.{nat_tests}
 use Rattle.std.proofs.lemmas.List.{take-append-le}
-use Rattle.script_core.specs.declared.reason.Reason.{Reason}
-use Rattle.script_core.specs.declared.reason.Reason.TheVariants.{LineLong, TableLong}
+use Rattle.refusal_core.specs.declared.reason.Reason.{Reason}
+use Rattle.refusal_core.specs.declared.reason.Reason.TheVariants.{LineLong, TableLong}
 use Rattle.run_core.specs.Limits.{line_limit, ring_limit}
 use Rattle.run_core.specs.Work.{Work, Fault}
 use Rattle.run_core.specs.Lines.{lines_in, part_line}

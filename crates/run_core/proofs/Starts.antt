@@ -5,8 +5,8 @@ use Rattle.std.proofs.lemmas.List.{take-append-le}
 use Rattle.std.proofs.KnownBytes.{Appends-nil, Consumes-nil}
 use Rattle.std.specs.Io.KnownBytes.{Consumes, Appends, IsAtEnd}
 use Rattle.fisb_wire.specs.Faults.{Rose}
-use Rattle.script_core.specs.declared.reason.Reason.{Reason}
-use Rattle.script_core.specs.declared.reason.Reason.TheVariants.{NoTable, TableLong}
+use Rattle.refusal_core.specs.declared.reason.Reason.{Reason}
+use Rattle.refusal_core.specs.declared.reason.Reason.TheVariants.{NoTable, TableLong}
 use Rattle.run_core.specs.declared.input.Input.{Input}
 use Rattle.run_core.specs.declared.status.Status.TheVariants.{Done, ReadFault, NoMemory}
 use Rattle.run_core.specs.Limits.{input_limit, ring_limit}

@@ -4,7 +4,7 @@ use Rattle.std.proofs.lemmas.Bool.Decides.{nat_tests}
 use Rattle.std.proofs.KnownBytes.{Appends-trans, Consumes-trans}
 use Rattle.std.specs.Io.KnownBytes.{Consumes, IsAtEnd}
 use Rattle.fisb_wire.specs.Faults.{Rose}
-use Rattle.script_core.specs.declared.reason.Reason.TheVariants.{LineLong}
+use Rattle.refusal_core.specs.declared.reason.Reason.TheVariants.{LineLong}
 use Rattle.run_core.specs.declared.input.Input.{Input}
 use Rattle.run_core.specs.declared.status.Status.TheVariants.{Done, ReadFault, TooLong}
 use Rattle.run_core.specs.Limits.{input_limit, line_limit, ring_limit}

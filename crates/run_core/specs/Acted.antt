@@ -1,8 +1,8 @@
 -- Which lines of an input are acted on, what they give, and the first fault.
 use Rattle.std.specs.Prelude.{ℕ, ◌+◌, Bool, nat_lt, if◌then◌else◌, List, [], ◌∷◌, ◌++◌, length}
 use Rattle.std.specs.Prelude.{take, Option, Some, None, Result, Ok, Err}
-use Rattle.script_core.specs.declared.reason.Reason.{Reason}
-use Rattle.script_core.specs.declared.reason.Reason.TheVariants.{LineLong}
+use Rattle.refusal_core.specs.declared.reason.Reason.{Reason}
+use Rattle.refusal_core.specs.declared.reason.Reason.TheVariants.{LineLong}
 use Rattle.run_core.specs.Limits.{line_limit}
 use Rattle.run_core.specs.Work.{Work, Fault}
 use Rattle.run_core.specs.Lines.{lines_in, part_line}

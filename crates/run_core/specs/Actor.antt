@@ -1,6 +1,6 @@
 -- What an actor answers of a table and of a line.
 use Rattle.std.specs.Prelude.{◌≡◌, ℕ, List, Option, Some, None, Result, Ok, Err}
-use Rattle.script_core.specs.declared.reason.Reason.{Reason}
+use Rattle.refusal_core.specs.declared.reason.Reason.{Reason}
 use Rattle.run_core.specs.declared.stop.Stop.{Stop}
 use Rattle.run_core.specs.declared.stop.Stop.TheVariants.{Refused, NoMemory}
 

@@ -2,7 +2,7 @@
 use Rattle.std.specs.Prelude.{ℕ, ◌+◌, Bool, nat_lt, nat_le, if◌then◌else◌, List, [], ◌∷◌, length}
 use Rattle.std.specs.Prelude.{Option, Some, None, codes}
 use Rattle.std.specs.Str.{bytes_eq}
-use Rattle.script_core.specs.declared.reason.Reason.TheVariants.{TableLong, NoTable}
+use Rattle.refusal_core.specs.declared.reason.Reason.TheVariants.{TableLong, NoTable}
 use Rattle.run_core.specs.Limits.{table_limit, ring_limit}
 use Rattle.run_core.specs.Work.{Fault}
 

@@ -1,6 +1,6 @@
 -- What a command is: the meaning of its table, of its lines and of a refusal, over their bytes.
 use Rattle.std.specs.Prelude.{ℕ, List, Option, Result}
-use Rattle.script_core.specs.declared.reason.Reason.{Reason}
+use Rattle.refusal_core.specs.declared.reason.Reason.{Reason}
 
 pub record Work : Type 0 where
   -- what is wrong with the bytes of a table

@@ -1,6 +1,6 @@
 //! Acts on one line, and writes what it gives or its refusal.
 ghost use Rattle.std.specs.Prelude.{◌≡◌, ℕ, ◌≤◌, List, ◌∷◌, None, Err, Result, length, take};
-ghost use Rattle.script_core.specs.declared.reason.Reason.{Reason as AnyReason};
+ghost use Rattle.refusal_core.specs.declared.reason.Reason.{Reason as AnyReason};
 ghost use Rattle.run_core.specs.Acted.{reading};
 ghost use Rattle.run_core.specs.Acting.{HasStoppedOn, HasActedOn};
 ghost use Rattle.run_core.specs.Run.{sink_end};
@@ -10,7 +10,7 @@ use crate::output::write_all;
 use crate::status::Status;
 use crate::stop::Stop;
 use fisb_wire::{Failed, Sink};
-use script_core::Reason;
+use refusal_core::Reason;
 use std::alloc::Global;
 
 /// The most bytes of a line after the table.

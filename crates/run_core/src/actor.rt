@@ -6,7 +6,7 @@ ghost use Rattle.run_core.specs.Actor.{HasOpened, HasActed};
 
 use crate::stop::Stop;
 use fisb_wire::Bytes;
-use script_core::Reason;
+use refusal_core::Reason;
 use std::alloc::{AllocError, Global};
 
 /// A command: it is made from the bytes of a table, and then acts on one line after another.

@@ -10,7 +10,7 @@ use crate::actor::Actor;
 use crate::input::{Input, Read};
 use crate::status::Status;
 use fisb_wire::{Sink, Source};
-use script_core::Reason;
+use refusal_core::Reason;
 use std::alloc::Global;
 
 /// Acts on the lines in the ring and on those that are still to come, of which the first has the

@@ -2,7 +2,7 @@
 ghost use Rattle.std.specs.Prelude.{◌≡◌};
 ghost use Rattle.run_core.specs.Status.{code_of};
 
-use script_core::Reason;
+use refusal_core::Reason;
 
 /// How a run ended.
 #[derive(Clone, Copy, Debug, PartialEq, Eq)]

@@ -1,6 +1,6 @@
 //! Why an actor does not act.
 
-use script_core::Reason;
+use refusal_core::Reason;
 
 /// Why a table does not open a run, or a line is not acted on.
 #[derive(Clone, Copy, Debug, PartialEq, Eq)]

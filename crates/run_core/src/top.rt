@@ -17,7 +17,7 @@ use crate::search::{TableEnd, search};
 use crate::status::Status;
 use crate::stop::Stop;
 use fisb_wire::{Sink, Source};
-use script_core::Reason;
+use refusal_core::Reason;
 use std::alloc::Global;
 
 /// Runs a command: reads its table, and acts on each line as soon as its end was read.

@@ -2,9 +2,9 @@
 -- line and for one that begins with `#`, and refuses every other.
 use Rattle.std.specs.Prelude.{ℕ, ◌==◌, if◌then◌else◌, List, [], ◌∷◌, ◌++◌, Option, Some, None}
 use Rattle.std.specs.Prelude.{Result, Ok, Err}
-use Rattle.script_core.specs.declared.reason.Reason.{Reason}
-use Rattle.script_core.specs.declared.reason.Reason.TheVariants.{Syntax}
-use Rattle.script_core.specs.Refusal.{refusal_text}
+use Rattle.refusal_core.specs.declared.reason.Reason.{Reason}
+use Rattle.refusal_core.specs.declared.reason.Reason.TheVariants.{Syntax}
+use Rattle.refusal_core.specs.Refusal.{refusal_text}
 use Rattle.run_core.specs.Work.{Work}
 
 -- what a line gives, if it is not refused

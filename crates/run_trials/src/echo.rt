@@ -3,8 +3,8 @@ ghost use Rattle.std.specs.Prelude.{◌≡◌, IfOk};
 ghost use Rattle.run_trials.specs.Echo.{echo_text, echo_work};
 
 use fisb_wire::Bytes;
+use refusal_core::{Reason, print_refused};
 use run_core::{Actor, Stop};
-use script_core::{Reason, print_refused};
 use std::alloc::{AllocError, Global};
 
 /// Gives back each line that begins with a plus sign, gives nothing for an empty line and for one

@@ -5,8 +5,8 @@ use crate::{Echo, run_in_memory};
 use fisb_wire::{
     Bytes, Failed, FaithfulSource, MemorySink, MemorySource, Numbers, PieceSource, Source, StdSink,
 };
+use refusal_core::Reason;
 use run_core::{Status, run};
-use script_core::Reason;
 use std::alloc::{AllocError, Global};
 use std::io;
 use std::io::Write;

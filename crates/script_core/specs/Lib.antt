@@ -3,4 +3,3 @@ pub mod Fields
 pub mod LineView
 pub mod FieldForm
 pub mod Laws
-pub mod Refusal

@@ -7,16 +7,13 @@ mod forms;
 mod hearing;
 mod kinds;
 mod laws;
-mod printing;
 mod reading;
-mod reason;
 mod script_line;
 mod wrong;
 
 pub use laws::ranges_of_lines;
-pub use printing::print_refused;
 pub use reading::read_line;
-pub use reason::Reason;
+pub use refusal_core::{Reason, print_refused};
 pub use script_line::{Line, LineFault};
 pub use wrong::Wrong;
 

@@ -1,6 +1,6 @@
 use Rattle.std.proofs.Common.{◌≡◌, ◌∷◌, map, ◌∙◌, string_bytes, codes, decimal, get_or, length, arith}
 use Rattle.std.proofs.lemmas.Result.{IfOk-weaker}
-use Rattle.script_core.specs.Refusal.{spaced}
+use Rattle.refusal_core.specs.Refusal.{spaced}
 use Rattle.fisb_app.proofs.PrintLines.{heard_pieces, heard_line}
 use Rattle.fisb_app.proofs.printing.heard_line.Goals as goal
 

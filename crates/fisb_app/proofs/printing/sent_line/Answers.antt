@@ -1,6 +1,6 @@
 use Rattle.std.proofs.Common.{◌≡◌, ◌∷◌, [], ◌∙◌, string_bytes, codes, decimal, refl}
 use Rattle.std.proofs.lemmas.Result.{IfOk-weaker}
-use Rattle.script_core.specs.Refusal.{spaced}
+use Rattle.refusal_core.specs.Refusal.{spaced}
 use Rattle.fisb_app.proofs.PrintLines.{sent_air_pieces, sent_air_line}
 use Rattle.fisb_app.proofs.printing.sent_line.Goals as goal
 

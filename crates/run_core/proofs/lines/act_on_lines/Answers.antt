@@ -1,5 +1,5 @@
 use Rattle.std.proofs.Common.{◌≡◌, ◌+◌, ◌≤◌, Some, None, Err, length, take, drop, refl, sym, ap, ◌∙◌, arith}
-use Rattle.script_core.specs.declared.reason.Reason.TheVariants.{LineLong}
+use Rattle.refusal_core.specs.declared.reason.Reason.TheVariants.{LineLong}
 use Rattle.run_core.specs.declared.input.Input.{Input}
 use Rattle.run_core.specs.Reading.{newline_in}
 use Rattle.run_core.specs.Run.{stopped}

@@ -1,5 +1,5 @@
 use Rattle.std.proofs.Common.{◌≡◌, ℕ, false, List, [], None, Err, refl, ap, ◌∙◌, append-nil, sym}
-use Rattle.script_core.specs.declared.reason.Reason.TheVariants.{NoTable, TableLong}
+use Rattle.refusal_core.specs.declared.reason.Reason.TheVariants.{NoTable, TableLong}
 use Rattle.run_core.specs.Lines.{lines_in}
 use Rattle.run_core.specs.Opening.{opening_at}
 use Rattle.run_core.specs.Run.{at_end, stopped}

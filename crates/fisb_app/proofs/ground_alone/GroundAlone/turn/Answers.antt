@@ -1,5 +1,5 @@
 use Rattle.std.proofs.Common.{◌+◌, [], ◌∷◌, ◌++◌, ap, sym, ◌∙◌, length}
-use Rattle.script_core.specs.Refusal.{spaced}
+use Rattle.refusal_core.specs.Refusal.{spaced}
 use Rattle.script_core.specs.Script.{turn}
 use Rattle.hex.specs.Hex.{encode_lower}
 use Rattle.ground_core.specs.Airing.{frame_after}

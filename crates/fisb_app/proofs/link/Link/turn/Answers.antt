@@ -1,5 +1,5 @@
 use Rattle.std.proofs.Common.{◌≡◌, ◌∷◌, ap, sym, ◌∙◌, length, map, arith, subst}
-use Rattle.script_core.specs.Refusal.{spaced}
+use Rattle.refusal_core.specs.Refusal.{spaced}
 use Rattle.script_core.specs.Script.{turn}
 use Rattle.ground_core.specs.Airing.{frame_after}
 use Rattle.fisb_app.specs.Past.{events, station_of, sent_frames, receptions}

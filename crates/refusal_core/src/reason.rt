@@ -48,17 +48,19 @@ pub enum Reason {
     TextLong,
     /// The report has too few words for a key.
     FewWords,
-    /// The table has no row for the report's type.
+    /// The table has no row for the report's type, or for the product of the radar.
     Unlisted,
-    /// The form of the report's row does not show its version.
+    /// A block that no record names, or numbers of blocks that no update may have.
+    BadBlock,
+    /// The form of the update's row does not show its version.
     Coarse,
     /// The version is more than a minute ahead of the line.
     Ahead,
     /// The life of the version is over.
     Expired,
-    /// A version that is not below this one was given for the report's key.
+    /// A version that is not below this one was given for a key of the update.
     NotNewer {
-        /// The greatest version given for the key.
+        /// The greatest version given for the first such key.
         kept: Moment,
     },
     /// The text is sent in segments, and no file number is free.

@@ -1,4 +1,4 @@
-use Rattle.script_core.proofs.printing.refusal_line.Goals as goal
+use Rattle.refusal_core.proofs.printing.refusal_line.Goals as goal
 
 pub returns-in-BadCharacter : goal.returns-in-BadCharacter
 returns-in-BadCharacter c = rw c.in-BadCharacter.is c.format-in-BadCharacter.ensures.ok
@@ -35,6 +35,9 @@ returns-in-FewWords c = rw c.in-FewWords.is c.format-in-FewWords.ensures.ok
 
 pub returns-in-Unlisted : goal.returns-in-Unlisted
 returns-in-Unlisted c = rw c.in-Unlisted.is c.format-in-Unlisted.ensures.ok
+
+pub returns-in-BadBlock : goal.returns-in-BadBlock
+returns-in-BadBlock c = rw c.in-BadBlock.is c.format-in-BadBlock.ensures.ok
 
 pub returns-in-Coarse : goal.returns-in-Coarse
 returns-in-Coarse c = rw c.in-Coarse.is c.format-in-Coarse.ensures.ok

@@ -2,8 +2,8 @@
 use Rattle.std.specs.Prelude.{ℕ, List, [], ◌∷◌, ◌++◌, codes, decimal}
 use Rattle.life_table.specs.declared.fault.RowFault.{RowFault}
 use Rattle.life_table.specs.declared.fault.RowFault.TheVariants as rows
-use Rattle.script_core.specs.declared.reason.Reason.{Reason}
-use Rattle.script_core.specs.declared.reason.Reason.TheVariants as reasons
+use Rattle.refusal_core.specs.declared.reason.Reason.{Reason}
+use Rattle.refusal_core.specs.declared.reason.Reason.TheVariants as reasons
 
 -- words and numbers with a space between them, on a line
 abbrev pub spaced : List (List ℕ) → List ℕ
@@ -43,6 +43,7 @@ reason_words (reasons.BadCharacter place) = codes "character" ∷ decimal place 
 reason_words reasons.TextLong = codes "textlong" ∷ []
 reason_words reasons.FewWords = codes "words" ∷ []
 reason_words reasons.Unlisted = codes "unlisted" ∷ []
+reason_words reasons.BadBlock = codes "block" ∷ []
 reason_words reasons.Coarse = codes "coarse" ∷ []
 reason_words reasons.Ahead = codes "ahead" ∷ []
 reason_words reasons.Expired = codes "expired" ∷ []

@@ -1,6 +1,6 @@
-//! The texts that a script writes.
+//! The text of a refusal.
 ghost use Rattle.std.specs.Prelude.{◌≡◌, IfOk, string_bytes};
-ghost use Rattle.script_core.specs.Refusal.{refusal_text, row_word};
+ghost use Rattle.refusal_core.specs.Refusal.{refusal_text, row_word};
 
 use crate::reason::Reason;
 use fisb_wire::Bytes;
@@ -45,6 +45,7 @@ fn refusal_line(alloc: Global, line: u64, reason: &Reason) -> Result<String, All
         Reason::TextLong => format!(in alloc; "refused {line} textlong\n"),
         Reason::FewWords => format!(in alloc; "refused {line} words\n"),
         Reason::Unlisted => format!(in alloc; "refused {line} unlisted\n"),
+        Reason::BadBlock => format!(in alloc; "refused {line} block\n"),
         Reason::Coarse => format!(in alloc; "refused {line} coarse\n"),
         Reason::Ahead => format!(in alloc; "refused {line} ahead\n"),
         Reason::Expired => format!(in alloc; "refused {line} expired\n"),
