@@ -11,7 +11,7 @@ use Rattle.std.specs.Option.{IfSome}
 use Rattle.std.specs.Str.{is_utf8, IsUtf8}
 use Rattle.fisb_time.specs.Moment.{IsMoment, first_moment, last_moment}
 use Rattle.dlac_text.specs.Plain.{unplained}
-use Rattle.script_core.specs.Fields.{◌>>=◌, fields, is_word, is_number, digits_value, number_within, moment_in, report_in, unbuilt_where, hex_digit, byte_in, wrong_byte_in, wrong_from, is_radar, is_blank, is_rx, station_line, text_line, turn_line, hear_line, show_line, other_line, line_of_fields, line_of}
+use Rattle.script_core.specs.Fields.{◌>>=◌, fields, is_word, is_number, digits_value, number_within, moment_in, report_in, unbuilt_where, hex_digit, byte_in, wrong_byte_in, wrong_from, is_radar, is_blank, is_rx, station_at, station_line, text_line, turn_line, hear_line, show_line, other_line, line_of_fields, line_of}
 use Rattle.script_core.specs.Laws.{LinesHaveRanges}
 use Rattle.script_core.specs.LineView.{HasRanges}
 use Rattle.script_core.specs.Script.{Line, station, text, turn, hear, show}
@@ -56,14 +56,14 @@ station_by latitude longitude site = do
   a ← latitude
   o ← longitude
   s ← site
-  Some (station a o s)
+  Some (station (station_at a o s))
 
 station_by_ranged : (size : ℕ) (latitude longitude site : Option ℕ) → IfSome latitude (λ n. n < 2 ^ 23) → IfSome longitude (λ n. n < 2 ^ 24) → IfSome site (λ n. n < 16)
     → IsRanged size (station_by latitude longitude site)
 station_by_ranged size None longitude site a o s = tt
 station_by_ranged size (Some latitude) None site a o s = tt
 station_by_ranged size (Some latitude) (Some longitude) None a o s = tt
-station_by_ranged size (Some latitude) (Some longitude) (Some site) a o s = (a, o, s)
+station_by_ranged size (Some latitude) (Some longitude) (Some site) a o s = record { lat = a; lon = o; site = s }
 
 station_ranged : (size : ℕ) (rest : List (List ℕ)) → IsRanged size (station_line rest)
 station_ranged size [] = tt

@@ -8,6 +8,7 @@ use Rattle.std.specs.List.{slice_split, join_with_byte, list_all, before_first, 
 use Rattle.std.specs.Str.{bytes_eq, is_utf8}
 use Rattle.fisb_time.specs.Moment.{first_moment, last_moment}
 use Rattle.dlac_text.specs.Plain.{unplained}
+use Rattle.uplink_frame.specs.declared.station.StationId.{StationId}
 use Rattle.script_core.specs.Script.{Line, empty, station, text, turn, hear, show, unbuilt}
 
 infixl 10 ◌>>=◌
@@ -109,6 +110,11 @@ have_forms [] (field ∷ others) = false
 have_forms (is_form ∷ forms) [] = false
 have_forms (is_form ∷ forms) (field ∷ others) = is_form field && have_forms forms others
 
+-- a station of a known position
+abbrev pub station_at : ℕ → ℕ → ℕ → StationId
+station_at latitude longitude site =
+    record { lat = latitude; lon = longitude; position_valid = true; site = site }
+
 -- `station LAT LON SITE`
 abbrev pub station_line : List (List ℕ) → Option Line
 station_line [] = None
@@ -118,7 +124,7 @@ station_line (latitude ∷ longitude ∷ site ∷ []) = do
   a ← number_within 0 8388607 latitude
   o ← number_within 0 16777215 longitude
   s ← number_within 0 15 site
-  Some (station a o s)
+  Some (station (station_at a o s))
 station_line (latitude ∷ longitude ∷ site ∷ more ∷ others) = None
 
 -- `text MOMENT VERSION REPORT`, where REPORT is all of the line behind the third space, UTF-8, and

@@ -5,6 +5,7 @@ ghost use Rattle.script_core.specs.LineView.{line_view, HasRanges};
 
 use crate::fields::{next_field, read_moment, read_number};
 use crate::script_line::Line;
+use uplink_frame::StationId;
 
 /// The greatest latitude, longitude and site of a station, in the units of an uplink header.
 const LAST_LATITUDE: u64 = 8_388_607;
@@ -43,11 +44,12 @@ pub(crate) fn read_station(rest: Option<&[u8]>) -> Option<Line>
     let Some(site) = read_number(site, 0, LAST_SITE) else {
         return None;
     };
-    Some(Line::Station {
+    Some(Line::Station(StationId {
         lat: lat as u32,
         lon: lon as u32,
+        position_valid: true,
         site: site as u8,
-    })
+    }))
 }
 
 /// `turn MOMENT SLOT`

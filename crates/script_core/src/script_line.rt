@@ -2,24 +2,40 @@
 
 use crate::wrong::Wrong;
 use fisb_time::Moment;
+use fisb_wire::Numbers;
+use radar_core::{BlockKey, Cells};
 use thiserror::Error;
+use uplink_frame::StationId;
 
 /// What a line of a script says.
-#[derive(Debug, Drop)]
+#[derive(Drop)]
 pub enum Line {
     /// An empty line.
     Nothing,
-    /// Where the station stands: latitude below 2^23, longitude below 2^24 and site below 16, as an uplink header has them.
-    Station {
-        lat: u32,
-        lon: u32,
-        site: u8,
-    },
+    /// The station, of a valid position: latitude below 2^23, longitude below 2^24 and site below 16, as an uplink header
+    /// has them.
+    Station(StationId),
     /// A text to be given to the ground: when, its version, and the text that REPORT shows.
     Text {
         moment: Moment,
         version: Moment,
         report: String,
+    },
+    /// The cells of a block to be given to the ground: a product below 2,048, a scale below 4, a number below 2^20.
+    Radar {
+        moment: Moment,
+        version: Moment,
+        key: BlockKey,
+        cells: Cells,
+    },
+    /// Blocks of intensity 0 to be given to the ground, in the same ranges: one number at least, in any order.
+    Blank {
+        moment: Moment,
+        version: Moment,
+        product: u16,
+        scale: u8,
+        south: bool,
+        numbers: Numbers,
     },
     /// A frame is sent in a slot below 32.
     Turn {
@@ -31,6 +47,11 @@ pub enum Line {
         moment: Moment,
         frame: u32,
         wrong: Wrong,
+    },
+    /// The bytes of a frame as they are heard.
+    Rx {
+        moment: Moment,
+        air: [u8; 552],
     },
     /// The picture is asked for.
     Show {

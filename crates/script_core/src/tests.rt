@@ -2,6 +2,7 @@ use crate::{Line, LineFault, ranges_of_lines, read_line};
 use std::alloc::{AllocError, Global};
 use std::process::Abort;
 use std::test::Fail;
+use uplink_frame::StationId;
 
 const HEAD: &str = "1700000000 1699999980 64 0 n";
 
@@ -13,22 +14,24 @@ fn nothing_and_stations_are_read(rt: HostRuntime) -> Result<(), Fail> {
     assert!(rt;
         matches!(
             station,
-            Line::Station {
+            Line::Station(StationId {
                 lat: 8_388_607,
                 lon: 16_777_215,
+                position_valid: true,
                 site: 15
-            }
+            })
         )
     );
     let first = read_line(rt.alloc(), b"station 0 0 0")?;
     assert!(rt;
         matches!(
             first,
-            Line::Station {
+            Line::Station(StationId {
                 lat: 0,
                 lon: 0,
+                position_valid: true,
                 site: 0
-            }
+            })
         )
     );
     Ok(())
