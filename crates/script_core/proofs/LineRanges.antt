@@ -1,20 +1,25 @@
 -- What a line says is within its ranges.
-use Rattle.std.proofs.Common.{◌≡◌, ℕ, ◌+◌, ◌*◌, ◌<◌, ◌≤◌, ◌^◌, ◌==◌, Bool, true, false, ◌&&◌, nat_le, nat_lt, cond, if◌then◌else◌, All, List, [], ◌∷◌, Option, Some, None, option_and_then, length, length-append, codes, refl, ap, subst, arith, inl, inr, lit<}
+use Rattle.std.proofs.Common.{◌≡◌, ℕ, ◌+◌, ◌*◌, ◌<◌, ◌≤◌, ◌^◌, ◌==◌, Bool, true, false, ◌&&◌, nat_le, nat_lt, cond, if◌then◌else◌, All, List, [], ◌∷◌, Option, Some, None, Result, Ok, Err, option_and_then, sym, ◌∙◌, length, length-append, codes, refl, ap, subst, arith, inl, inr, lit<}
 use Rattle.std.proofs.lemmas.Bool.{cases_Bool, cond_both}
 use Rattle.std.proofs.lemmas.Bool.Decides.{nat_tests}
 use Rattle.std.proofs.lemmas.List.Splits.{join_with_byte-slice_split}
 use Rattle.std.proofs.lemmas.Str.{IsUtf8-from_is_utf8}
+use Rattle.std.proofs.lemmas.Grind.{get_or_default_zero}
 use Rattle.std.proofs.lemmas.List.Elements.{All-append, All-push}
 use Rattle.std.specs.Char.{digit_value, is_digit}
 use Rattle.std.specs.List.{before_first, after_first, join_with_byte}
 use Rattle.std.specs.Option.{IfSome}
+use Rattle.std.specs.Result.{result_ok}
 use Rattle.std.specs.Str.{is_utf8, IsUtf8}
+use Rattle.hex.specs.Hex.{decode_sized}
+use Rattle.hex.specs.declared.error.FromHexError.{FromHexError}
+use Rattle.hex.proofs.HexLemmas.{decode_sized-ok, decode_sized-twice, decode_of-ok}
 use Rattle.fisb_time.specs.Moment.{IsMoment, first_moment, last_moment}
 use Rattle.dlac_text.specs.Plain.{unplained}
-use Rattle.script_core.specs.Fields.{◌>>=◌, fields, is_word, is_number, digits_value, number_within, moment_in, report_in, unbuilt_where, hex_digit, byte_in, wrong_byte_in, wrong_from, is_radar, is_blank, is_rx, station_at, station_line, text_line, turn_line, hear_line, show_line, other_line, line_of_fields, line_of}
+use Rattle.script_core.specs.Fields.{◌>>=◌, fields, is_word, is_number, digits_value, number_within, moment_in, report_in, unbuilt_where, hex_digit, byte_in, wrong_byte_in, wrong_from, is_radar, is_blank, air_in, rx_line, station_at, station_line, text_line, turn_line, hear_line, show_line, other_line, line_of_fields, line_of}
 use Rattle.script_core.specs.Laws.{LinesHaveRanges}
-use Rattle.script_core.specs.LineView.{HasRanges}
-use Rattle.script_core.specs.Script.{Line, station, text, turn, hear, show}
+use Rattle.script_core.specs.LineView.{HasRanges, IsAir}
+use Rattle.script_core.specs.Script.{Line, station, text, turn, hear, rx, show}
 use Rattle.script_core.proofs.ReportTexts.{report_size}
 use Rattle.script_core.proofs.WrongBytes.{IsWrongByte}
 
@@ -167,6 +172,34 @@ hear_ranged size (moment ∷ frame ∷ places) =
     hear_by_ranged size (moment_in moment) (number_within 0 4294967295 frame) (wrong_from 0 places) (moment_range moment)
     (number_below 4294967295 (2 ^ 32) frame (lit< tt)) (wrong_range 0 places)
 
+air_bytes : (field air : List ℕ) → decode_sized field 552 ≡ Ok air → IsAir air
+air_bytes field air e =
+    let sized = decode_sized-ok field 552 air e in
+    let all = decode_of-ok field air (sym (decode_sized-twice field 552 sized) ∙ e) in
+    let count = all.2 in
+    record { count = omega (arith, count, sized); bytes = λ k d within. subst (λ b. b < 256) (sym (get_or_default_zero air k d within)) (all.3 k) }
+
+air_where : (field : List ℕ) (air : Result (List ℕ) FromHexError) → decode_sized field 552 ≡ air → IfSome (result_ok air) IsAir
+air_where field (Ok air) e = air_bytes field air e
+air_where field (Err fault) e = tt
+
+abbrev rx_by : Option ℕ → Option (List ℕ) → Option Line
+rx_by moment air = do
+  m ← moment
+  a ← air
+  Some (rx m a)
+
+rx_by_ranged : (size : ℕ) (moment : Option ℕ) (air : Option (List ℕ)) → IfSome moment IsMoment → IfSome air IsAir → IsRanged size (rx_by moment air)
+rx_by_ranged size None air m a = tt
+rx_by_ranged size (Some moment) None m a = tt
+rx_by_ranged size (Some moment) (Some air) m a = (m, a)
+
+rx_ranged : (size : ℕ) (rest : List (List ℕ)) → IsRanged size (rx_line rest)
+rx_ranged size [] = tt
+rx_ranged size (moment ∷ []) = tt
+rx_ranged size (moment ∷ hex ∷ []) = rx_by_ranged size (moment_in moment) (air_in hex) (moment_range moment) (air_where hex (decode_sized hex 552) refl)
+rx_ranged size (moment ∷ hex ∷ more ∷ others) = tt
+
 abbrev show_by : Option ℕ → Option Line
 show_by moment = do
   m ← moment
@@ -241,7 +274,7 @@ other_ranged size word rest =
     (either_ranged size (is_word word (codes "radar")) (unbuilt_where (is_radar rest)) _ (unbuilt_ranged size (is_radar rest))
     (either_ranged size (is_word word (codes "blank")) (unbuilt_where (is_blank rest)) _ (unbuilt_ranged size (is_blank rest))
     (either_ranged size (is_word word (codes "turn")) (turn_line rest) _ (turn_ranged size rest)
-    (either_ranged size (is_word word (codes "rx")) (unbuilt_where (is_rx rest)) _ (unbuilt_ranged size (is_rx rest))
+    (either_ranged size (is_word word (codes "rx")) (rx_line rest) _ (rx_ranged size rest)
     (either_ranged size (is_word word (codes "show")) (show_line rest) None (show_ranged size rest) tt)))))
 
 fields_ranged : ShowsUtf8 → (size : ℕ) (parts : List (List ℕ)) → length (join_with_byte 32 parts) ≤ size → IsRanged size (line_of_fields parts)

@@ -2,14 +2,16 @@
 use Rattle.std.specs.Prelude.{ℕ, ◌+◌, ◌-◌, ◌*◌, Bool, true, false, not, ◌&&◌, ◌||◌, ◌==◌}
 use Rattle.std.specs.Prelude.{nat_lt, nat_le, if◌then◌else◌, List, [], ◌∷◌, length, fold, codes}
 use Rattle.std.specs.Prelude.{Option, Some, None, option_and_then, is_some}
-use Rattle.std.specs.Char.{digit_value, is_ascii_digit, is_ascii_hexdigit, is_digit}
+use Rattle.std.specs.Char.{digit_value, is_ascii_digit, is_digit}
 use Rattle.std.specs.Int.{is_in_range}
 use Rattle.std.specs.List.{slice_split, join_with_byte, list_all, before_first, after_first}
+use Rattle.std.specs.Result.{result_ok}
 use Rattle.std.specs.Str.{bytes_eq, is_utf8}
+use Rattle.hex.specs.Hex.{decode_sized}
 use Rattle.fisb_time.specs.Moment.{first_moment, last_moment}
 use Rattle.dlac_text.specs.Plain.{unplained}
 use Rattle.uplink_frame.specs.declared.station.StationId.{StationId}
-use Rattle.script_core.specs.Script.{Line, empty, station, text, turn, hear, show, unbuilt}
+use Rattle.script_core.specs.Script.{Line, empty, station, text, turn, hear, rx, show, unbuilt}
 
 infixl 10 ◌>>=◌
 abbrev pub ◌>>=◌ : {A B : Type 0} → Option A → (A → Option B) → Option B
@@ -68,9 +70,9 @@ is_block_number field = is_up_to 1048575 field
 abbrev pub is_numbers : List ℕ → Bool
 is_numbers field = list_all is_block_number (slice_split (λ b. b == 44) field)
 
--- so many hexadecimal digits, of either case
-abbrev pub is_hex : ℕ → List ℕ → Bool
-is_hex digits field = (length field == digits) && list_all is_ascii_hexdigit field
+-- HEX: the 552 bytes of a frame, as 1,104 hexadecimal digits of either case
+abbrev pub air_in : List ℕ → Option (List ℕ)
+air_in field = result_ok (decode_sized field 552)
 
 -- the value of a hexadecimal digit, of either case
 abbrev pub hex_digit : ℕ → Option ℕ
@@ -178,9 +180,15 @@ hear_line (moment ∷ frame ∷ places) = do
   wrong ← wrong_from 0 places
   Some (hear m f wrong)
 
--- `rx MOMENT HEX`, with the 552 bytes of a frame
-abbrev pub is_rx : List (List ℕ) → Bool
-is_rx rest = have_forms (is_moment ∷ is_hex 1104 ∷ []) rest
+-- `rx MOMENT HEX`
+abbrev pub rx_line : List (List ℕ) → Option Line
+rx_line [] = None
+rx_line (moment ∷ []) = None
+rx_line (moment ∷ hex ∷ []) = do
+  m ← moment_in moment
+  air ← air_in hex
+  Some (rx m air)
+rx_line (moment ∷ hex ∷ more ∷ others) = None
 
 -- `show MOMENT`
 abbrev pub show_line : List (List ℕ) → Option Line
@@ -196,7 +204,7 @@ other_line word rest = if is_word word (codes "station") then station_line rest
     else (if is_word word (codes "radar") then unbuilt_where (is_radar rest)
     else (if is_word word (codes "blank") then unbuilt_where (is_blank rest)
     else (if is_word word (codes "turn") then turn_line rest
-    else (if is_word word (codes "rx") then unbuilt_where (is_rx rest)
+    else (if is_word word (codes "rx") then rx_line rest
     else (if is_word word (codes "show") then show_line rest else None)))))
 
 -- the line that its fields spell
@@ -217,15 +225,10 @@ takes_memory [] = false
 takes_memory (word ∷ rest) =
     is_word word (codes "text") || (is_word word (codes "hear") && nat_lt 2 (length rest))
 
--- the parts between a separator's places in what is left of some bytes, and how many bytes are
--- left; None where none is
+-- the parts between a separator's places in what is left of some bytes; None where none is
 abbrev pub parts_left : ℕ → Option (List ℕ) → List (List ℕ)
 parts_left separator None = []
 parts_left separator (Some bytes) = slice_split (λ b. b == separator) bytes
 
 abbrev pub fields_left : Option (List ℕ) → List (List ℕ)
 fields_left rest = parts_left 32 rest
-
-abbrev pub bytes_left : Option (List ℕ) → ℕ
-bytes_left None = 0
-bytes_left (Some bytes) = length bytes

@@ -2,9 +2,7 @@
 ghost use Rattle.std.specs.Prelude.{◌≡◌};
 ghost use Rattle.script_core.specs.FieldForm.{form_test};
 
-use crate::fields::{
-    is_block_number, is_cells, is_hemisphere, is_hex, is_moment, is_numbers, is_up_to,
-};
+use crate::fields::{is_block_number, is_cells, is_hemisphere, is_moment, is_numbers, is_up_to};
 
 /// The form of a field of a line that is only checked.
 #[derive(Clone, Copy)]
@@ -16,8 +14,6 @@ pub(crate) enum FieldForm {
     BlockNumber,
     Numbers,
     Cells,
-    /// So many hexadecimal digits.
-    Hex(u32),
 }
 
 /// Whether a field has the form.
@@ -31,6 +27,5 @@ pub(crate) fn is_of_form(field: &[u8], form: FieldForm) -> bool
         FieldForm::BlockNumber => is_block_number(field),
         FieldForm::Numbers => is_numbers(field),
         FieldForm::Cells => is_cells(field),
-        FieldForm::Hex(digits) => is_hex(field, digits as usize),
     }
 }

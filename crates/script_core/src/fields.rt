@@ -3,9 +3,10 @@ ghost use Rattle.std.specs.Prelude.{◌≡◌, ◌==◌, ◌<◌, ◌≤◌, ◌
 ghost use Rattle.std.specs.List.{slice_split, before_first, after_first};
 ghost use Rattle.std.specs.Str.{bytes_eq};
 ghost use Rattle.fisb_time.specs.Moment.{IsMoment};
-ghost use Rattle.script_core.specs.Fields.{parts_left, fields_left, bytes_left, number_within, moment_in, is_moment, is_up_to, is_hemisphere, is_cells, is_block_number, is_numbers, is_hex, has_leading_zero};
+ghost use Rattle.script_core.specs.Fields.{parts_left, fields_left, number_within, moment_in, is_moment, is_up_to, is_hemisphere, is_cells, is_block_number, is_numbers, air_in, has_leading_zero};
 
 use fisb_time::Moment;
+use hex::FromHex;
 
 /// The first moment of a line, in seconds.
 const FIRST_MOMENT: u64 = 946_684_800;
@@ -22,11 +23,9 @@ const LAST_BLOCK: u64 = 1_048_575;
 /// The next field of what is left of a line, and what stands behind the space that ends it.
 /// Nothing is left behind a field that no space ends.
 pub(crate) fn next_field(rest: Option<&[u8]>) -> Option<(&[u8], Option<&[u8]>)>
-    ensures fields { MatchOption result
+    ensures { MatchOption result
         (fields_left (option_copied rest.entry) ≡ [])
         (λ r. fields_left (option_copied rest.entry) ≡ r.0.now ∷ fields_left (option_copied r.1)) }
-    ensures size { IfSome result (λ r.
-        bytes_left (option_copied r.1) ≤ bytes_left (option_copied rest.entry)) }
 {
     match rest {
         Some(bytes) => Some(cut_at(bytes, b' ')),
@@ -41,7 +40,6 @@ pub(crate) fn cut_at(bytes: &[u8], separator: u8) -> (&[u8], Option<&[u8]>)
     ensures front { result.0.now ≡ before_first (λ b. b == separator) bytes.now }
     ensures behind { unwrap_or (option_copied result.1) []
         ≡ after_first (λ b. b == separator) bytes.now }
-    ensures size { bytes_left (option_copied result.1) ≤ length bytes.now }
 {
     match bytes.iter().position(|byte| *byte == separator) {
         Some(end) => {
@@ -143,9 +141,9 @@ pub(crate) fn is_numbers(field: &[u8]) -> bool
     field.split(|byte| *byte == b',').all(is_block_number)
 }
 
-/// Whether the field has so many hexadecimal digits, of either case.
-pub(crate) fn is_hex(field: &[u8], digits: usize) -> bool
-    ensures { result ≡ is_hex digits field.now }
+/// The bytes of a frame that a field spells in hexadecimal digits.
+pub(crate) fn read_air(field: &[u8]) -> Option<[u8; 552]>
+    ensures { result ≡ air_in field.now }
 {
-    field.len() == digits && field.iter().all(|digit| digit.is_ascii_hexdigit())
+    <[u8; 552]>::from_hex(field).ok()
 }

@@ -1,6 +1,6 @@
 //! The lines that are only checked: each by the forms of its fields.
 ghost use Rattle.std.specs.Prelude.{◌≡◌, map, option_copied};
-ghost use Rattle.script_core.specs.Fields.{fields_left, have_forms, is_radar, is_blank, is_rx};
+ghost use Rattle.script_core.specs.Fields.{fields_left, have_forms, is_radar, is_blank};
 ghost use Rattle.script_core.specs.FieldForm.{form_test};
 
 use crate::field_form::{FieldForm, is_of_form};
@@ -10,9 +10,6 @@ use crate::fields::next_field;
 const LAST_PRODUCT: u32 = 2_047;
 
 const LAST_SCALE: u32 = 3;
-
-/// The hexadecimal digits of the 552 bytes of a frame.
-const FRAME_DIGITS: u32 = 1_104;
 
 /// Whether the fields are those of `radar MOMENT VERSION PRODUCT SCALE HEMI NUMBER CELLS`.
 pub(crate) fn is_radar(rest: Option<&[u8]>) -> bool
@@ -42,14 +39,6 @@ pub(crate) fn is_blank(rest: Option<&[u8]>) -> bool
         FieldForm::Hemisphere,
         FieldForm::Numbers,
     ];
-    have_forms(rest, &forms)
-}
-
-/// Whether the fields are those of `rx MOMENT HEX`.
-pub(crate) fn is_rx(rest: Option<&[u8]>) -> bool
-    ensures { result ≡ is_rx (fields_left (option_copied rest.entry)) }
-{
-    let forms = [FieldForm::Moment, FieldForm::Hex(FRAME_DIGITS)];
     have_forms(rest, &forms)
 }
 

@@ -1,9 +1,9 @@
-//! The lines of frames that are heard, with the fields PLACE=XX of their wrong bytes.
-ghost use Rattle.std.specs.Prelude.{◌≡◌, ℕ, ◌<◌, ◌≤◌, All, IfOk, IfSome, None, Some, length, option_copied};
-ghost use Rattle.script_core.specs.Fields.{fields_left, byte_in, hear_line, hex_digit, wrong_byte_in, wrong_from};
+//! The lines of frames that are heard: their bytes, or the fields PLACE=XX of their wrong bytes.
+ghost use Rattle.std.specs.Prelude.{◌≡◌, ℕ, ◌<◌, ◌≤◌, All, IfOk, IfSome, None, Some, length, option_copied, option_map};
+ghost use Rattle.script_core.specs.Fields.{fields_left, byte_in, hear_line, hex_digit, rx_line, wrong_byte_in, wrong_from};
 ghost use Rattle.script_core.specs.LineView.{line_view, HasRanges};
 
-use crate::fields::{cut_at, next_field, read_moment, read_number};
+use crate::fields::{cut_at, next_field, read_air, read_moment, read_number};
 use crate::script_line::{Line, LineFault};
 use crate::wrong::Wrong;
 use std::alloc::Global;
@@ -14,6 +14,28 @@ const LAST_FRAME: u64 = 4_294_967_295;
 /// The last place of a frame.
 const LAST_PLACE: u64 = 551;
 
+/// `rx MOMENT HEX`
+pub(crate) fn read_rx(rest: Option<&[u8]>) -> Option<Line>
+    ensures { option_map line_view result ≡ rx_line (fields_left (option_copied rest.entry)) }
+{
+    let Some((moment, rest)) = next_field(rest) else {
+        return None;
+    };
+    let Some((digits, rest)) = next_field(rest) else {
+        return None;
+    };
+    let None = next_field(rest) else {
+        return None;
+    };
+    let Some(moment) = read_moment(moment) else {
+        return None;
+    };
+    let Some(air) = read_air(digits) else {
+        return None;
+    };
+    Some(Line::Rx { moment, air })
+}
+
 /// `hear MOMENT FRAME` and any number of ` PLACE=XX`
 pub(crate) fn read_hear(alloc: Global, rest: Option<&[u8]>) -> Result<Line, LineFault>
     ensures line { IfOk result (λ read.
@@ -22,7 +44,6 @@ pub(crate) fn read_hear(alloc: Global, rest: Option<&[u8]>) -> Result<Line, Line
         hear_line (fields_left (option_copied rest.entry)) ≡ None }
     ensures no_memory { result ≡ Err LineFault.NoMemory →
         2 < length (fields_left (option_copied rest.entry)) }
-    ensures ranges { (size : ℕ) → IfOk result (λ read. HasRanges size (line_view read)) }
 {
     let Some((moment, rest)) = next_field(rest) else {
         return Err(LineFault::Syntax);
@@ -54,7 +75,6 @@ fn read_wrong(alloc: Global, rest: Option<&[u8]>) -> Result<Wrong, LineFault>
         wrong_from 0 (fields_left (option_copied rest.entry)) ≡ None }
     ensures no_memory { result ≡ Err LineFault.NoMemory →
         0 < length (fields_left (option_copied rest.entry)) }
-    ensures ranges { IfOk result (λ wrong. All (λ one. (one.0 < 552) × (one.1 < 256)) wrong) }
 {
     let mut items = Vec::new(alloc);
     let mut rest = rest;

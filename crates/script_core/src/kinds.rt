@@ -19,9 +19,8 @@ const LAST_SLOT: u64 = 31;
 
 /// `station LAT LON SITE`
 pub(crate) fn read_station(rest: Option<&[u8]>) -> Option<Line>
-    ensures line { option_map line_view result
+    ensures { option_map line_view result
         ≡ station_line (fields_left (option_copied rest.entry)) }
-    ensures ranges { (size : ℕ) → IfSome result (λ read. HasRanges size (line_view read)) }
 {
     let Some((lat, rest)) = next_field(rest) else {
         return None;
@@ -54,9 +53,8 @@ pub(crate) fn read_station(rest: Option<&[u8]>) -> Option<Line>
 
 /// `turn MOMENT SLOT`
 pub(crate) fn read_turn(rest: Option<&[u8]>) -> Option<Line>
-    ensures line { option_map line_view result
+    ensures { option_map line_view result
         ≡ turn_line (fields_left (option_copied rest.entry)) }
-    ensures ranges { (size : ℕ) → IfSome result (λ read. HasRanges size (line_view read)) }
 {
     let Some((moment, rest)) = next_field(rest) else {
         return None;
@@ -81,9 +79,8 @@ pub(crate) fn read_turn(rest: Option<&[u8]>) -> Option<Line>
 
 /// `show MOMENT`
 pub(crate) fn read_show(rest: Option<&[u8]>) -> Option<Line>
-    ensures line { option_map line_view result
+    ensures { option_map line_view result
         ≡ show_line (fields_left (option_copied rest.entry)) }
-    ensures ranges { (size : ℕ) → IfSome result (λ read. HasRanges size (line_view read)) }
 {
     let Some((moment, rest)) = next_field(rest) else {
         return None;

@@ -1,15 +1,15 @@
 //! Reads one line of a script.
 ghost use Rattle.std.specs.Prelude.{◌≡◌, ℕ, ◌≤◌, IfOk, IfSome, IsTrue, None, Some, length, option_copied, option_map};
 ghost use Rattle.std.specs.String.{string_bytes};
-ghost use Rattle.script_core.specs.Fields.{fields, fields_left, bytes_left, line_of, text_line, report_in, other_line, unbuilt_where, takes_memory};
+ghost use Rattle.script_core.specs.Fields.{fields, fields_left, line_of, text_line, report_in, other_line, unbuilt_where, takes_memory};
 ghost use Rattle.script_core.specs.LineView.{line_view, HasRanges};
 
 use crate::fields::{is_word, next_field, read_moment};
-use crate::forms::{is_blank, is_radar, is_rx};
-use crate::hearing::read_hear;
+use crate::forms::{is_blank, is_radar};
+use crate::hearing::{read_hear, read_rx};
 use crate::kinds::{read_show, read_station, read_turn};
 use crate::script_line::{Line, LineFault};
-use dlac_text::unplain;
+use dlac_text::{shown_texts, unplain};
 use std::alloc::Global;
 
 /// The line that some bytes without a newline are.
@@ -23,6 +23,16 @@ pub fn read_line(alloc: Global, line: &[u8]) -> Result<Line, LineFault>
     ensures syntax { result ≡ Err LineFault.Syntax → line_of line.now ≡ None }
     ensures no_memory { result ≡ Err LineFault.NoMemory → IsTrue (takes_memory (fields line.now)) }
     ensures ranges { IfOk result (λ read. HasRanges (length line.now) (line_view read)) }
+{
+    shown_texts();
+    read_form(alloc, line)
+}
+
+/// The same, without the ranges of what the line says.
+fn read_form(alloc: Global, line: &[u8]) -> Result<Line, LineFault>
+    ensures line { IfOk result (λ read. line_of line.now ≡ Some (line_view read)) }
+    ensures syntax { result ≡ Err LineFault.Syntax → line_of line.now ≡ None }
+    ensures no_memory { result ≡ Err LineFault.NoMemory → IsTrue (takes_memory (fields line.now)) }
 {
     if line.is_empty() {
         return Ok(Line::Nothing);
@@ -48,8 +58,6 @@ fn read_text(alloc: Global, rest: Option<&[u8]>) -> Result<Line, LineFault>
         text_line (fields_left (option_copied rest.entry)) ≡ Some (line_view read)) }
     ensures syntax { result ≡ Err LineFault.Syntax →
         text_line (fields_left (option_copied rest.entry)) ≡ None }
-    ensures ranges { (size : ℕ) → bytes_left (option_copied rest.entry) ≤ size
-        → IfOk result (λ read. HasRanges size (line_view read)) }
 {
     let Some((moment, rest)) = next_field(rest) else {
         return Err(LineFault::Syntax);
@@ -93,9 +101,8 @@ fn read_report(alloc: Global, bytes: &[u8]) -> Result<String, LineFault>
 
 /// A line of another word than `text` and `hear`.
 fn read_other(word: &[u8], rest: Option<&[u8]>) -> Option<Line>
-    ensures line { option_map line_view result
+    ensures { option_map line_view result
         ≡ other_line word.now (fields_left (option_copied rest.entry)) }
-    ensures ranges { (size : ℕ) → IfSome result (λ read. HasRanges size (line_view read)) }
 {
     if is_word(word, "station") {
         read_station(rest)
@@ -106,7 +113,7 @@ fn read_other(word: &[u8], rest: Option<&[u8]>) -> Option<Line>
     } else if is_word(word, "turn") {
         read_turn(rest)
     } else if is_word(word, "rx") {
-        unbuilt_where(is_rx(rest))
+        read_rx(rest)
     } else if is_word(word, "show") {
         read_show(rest)
     } else {
@@ -116,8 +123,7 @@ fn read_other(word: &[u8], rest: Option<&[u8]>) -> Option<Line>
 
 /// A line that is of its form, and no more.
 fn unbuilt_where(is_form: bool) -> Option<Line>
-    ensures line { option_map line_view result ≡ unbuilt_where is_form }
-    ensures ranges { (size : ℕ) → IfSome result (λ read. HasRanges size (line_view read)) }
+    ensures { option_map line_view result ≡ unbuilt_where is_form }
 {
     if is_form { Some(Line::Unbuilt) } else { None }
 }

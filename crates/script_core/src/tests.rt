@@ -258,31 +258,36 @@ fn cells_are_128_digits(rt: HostRuntime) -> Result<(), Fail> {
 
 #[test]
 fn frame_is_1104_hexadecimal_digits(rt: HostRuntime) -> Result<(), Fail> {
-    for (count, is_form) in [
-        (1_102, false),
-        (1_103, false),
-        (1_104, true),
-        (1_105, false),
+    let digits = repeated(rt.alloc(), "0aF9", 276)?;
+    let digits = digits.as_str();
+    let rx = format!(in rt.alloc(); "rx 1700000003 {digits}")?;
+    match read_line(rt.alloc(), rx.as_str().as_bytes())? {
+        Line::Rx { moment, air } => {
+            assert_eq!(rt; moment.seconds(), 1_700_000_003);
+            assert_eq!(rt;
+                [air[0], air[1], air[550], air[551]],
+                [0x0A, 0xF9, 0x0A, 0xF9]
+            );
+        }
+        _ => assert!(rt; false, "rx"),
+    }
+    for (count, last) in [
+        (1_102, ""),
+        (1_103, ""),
+        (1_103, "g"),
+        (1_103, "G"),
+        (1_103, "/"),
+        (1_104, "0"),
+        (1_104, "00"),
+        (1_104, " "),
     ] {
         let digits = repeated(rt.alloc(), "b", count)?;
         let digits = digits.as_str();
-        let rx = format!(in rt.alloc(); "rx 1700000003 {digits}")?;
-        check_form(&rt, rt.alloc(), rx.as_str(), is_form);
-    }
-    let digits = repeated(rt.alloc(), "0", 1_103)?;
-    let digits = digits.as_str();
-    for (last, is_form) in [
-        ("9", true),
-        ("F", true),
-        ("f", true),
-        ("g", false),
-        ("G", false),
-    ] {
         let rx = format!(in rt.alloc(); "rx 1700000003 {digits}{last}")?;
-        check_form(&rt, rt.alloc(), rx.as_str(), is_form);
-        let early = format!(in rt.alloc(); "rx 946684799 {digits}{last}")?;
-        check_refused(&rt, rt.alloc(), early.as_str());
+        check_refused(&rt, rt.alloc(), rx.as_str());
     }
+    let early = format!(in rt.alloc(); "rx 946684799 {digits}")?;
+    check_refused(&rt, rt.alloc(), early.as_str());
     Ok(())
 }
 

@@ -1,7 +1,6 @@
-use Rattle.std.proofs.Common.{arith, ℕ, ◌≡◌, ◌+◌, ◌∷◌, length, length-append, sym, ap, subst, ◌∙◌, All, [], ◌++◌, option_copied}
-use Rattle.std.proofs.lemmas.List.Elements.{All-push}
+use Rattle.std.proofs.Common.{arith, ℕ, ◌≡◌, ◌+◌, ◌∷◌, length, length-append, sym, ap, ◌∙◌, [], ◌++◌, option_copied}
 use Rattle.script_core.specs.Fields.{fields_left, wrong_from}
-use Rattle.script_core.proofs.WrongBytes.{IsWrongByte, read_before, wrong_step}
+use Rattle.script_core.proofs.WrongBytes.{read_before, wrong_step}
 use Rattle.script_core.proofs.hearing.read_wrong.Goals as goal
 
 pub loop-field-preserved : goal.loop-field-preserved
@@ -11,17 +10,16 @@ loop-field-preserved c =
     let others = fields_left (option_copied c.in-Some.behind) in
     let pushed : c.push.new.self.items ≡ items ++ one ∷ [] = c.in-Ok.ensures.items in
     let counted = c.loop-field.invariant.count in
-    let fields = ap length c.in-Some.ensures.fields in
+    let fields = ap length c.in-Some.ensures in
     let longer = ap length pushed ∙ length-append items (one ∷ []) in
     let range = c.in-Some-read_wrong_byte.ensures.range in
     let below = range.0 in
     record {
       spelled = c.loop-field.invariant.spelled
-          ∙ ap (λ left. read_before items (wrong_from c.loop-field.least left)) c.in-Some.ensures.fields
+          ∙ ap (λ left. read_before items (wrong_from c.loop-field.least left)) c.in-Some.ensures
           ∙ wrong_step items c.loop-field.least one c.in-Some.field.now others c.in-Some-read_wrong_byte.ensures.wrong
           ∙ ap (λ now. read_before now (wrong_from (one.0 + 1) others)) (sym pushed)
           ∙ ap (λ place. read_before c.push.new.self.items (wrong_from (place + 1) others)) (sym c.from-least.ensures);
-      ranges = subst (All IsWrongByte) (sym pushed) (All-push IsWrongByte items one c.loop-field.invariant.ranges range);
       count = omega (arith, counted, fields, longer);
       least = let same = c.from-least.ensures in omega (arith, below, same);
     }

@@ -1,4 +1,4 @@
-use Rattle.std.proofs.Common.{◌≡◌, ◌<◌, ◌≤◌, ◌+◌, All, length, option_copied}
+use Rattle.std.proofs.Common.{◌≡◌, ◌≤◌, ◌+◌, length, option_copied}
 use Rattle.script_core.specs.Fields.{fields_left, wrong_from}
 use Rattle.script_core.proofs.WrongBytes.{read_before}
 use Rattle.script_core.proofs.hearing.read_wrong.Given as goal
@@ -7,7 +7,6 @@ use Rattle.script_core.proofs.hearing.read_wrong.Given as goal
 abbrev pub invariant-loop-field : goal.invariant-loop-field
 invariant-loop-field l = record {
   spelled : wrong_from 0 (fields_left (option_copied l.initial.rest)) ≡ read_before l.items.items (wrong_from l.least (fields_left (option_copied l.rest)));
-  ranges : All (λ one. (one.0 < 552) × (one.1 < 256)) l.items.items;
   count : length (fields_left (option_copied l.initial.rest)) ≡ length l.items.items + length (fields_left (option_copied l.rest));
   least : l.least ≤ 552;
 }
