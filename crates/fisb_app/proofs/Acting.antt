@@ -42,7 +42,7 @@ pub heard-line : {G E : Type 0} (sends : Sends G) (hears : Hears E) (bytes : Lis
     → IsFound old.sending.table.late moment (slice_get (sent_frames old.sending.table acted) number) (Ok air) → heard ≡ air_heard wrong air
     → HasTried (receiver_refusal (receptions old.sending.table acted) moment)
     (HasReceived (λ past. hears old.sending.table past new.ear) old.sending.table (receptions old.sending.table acted) moment heard) result
-    → HasTried (own_refusal old.sending.table acted (hear moment number wrong)) (HasLinked sends hears bytes acted (hear moment number wrong) old new) result
+    → HasTried (own_refusal LinkParty old.sending.table acted (hear moment number wrong)) (HasLinked sends hears bytes acted (hear moment number wrong) old new) result
 heard-line sends hears bytes acted moment number wrong old new air heard (Ok text) h sending sent (frame, found, time, is) put t =
     let table = old.sending.table in
     let past = receptions table acted in
@@ -60,7 +60,7 @@ heard-line sends hears bytes acted moment number wrong old new air heard (Err No
 
 -- no frame is heard
 pub unfound-line : (table : LifeTable) (acted : List Line) (moment number : ℕ) (wrong : List (ℕ × ℕ)) (why : Reason)
-    → frame_refusal table.late moment (slice_get (sent_frames table acted) number) ≡ Some why → own_refusal table acted (hear moment number wrong) ≡ Some why
+    → frame_refusal table.late moment (slice_get (sent_frames table acted) number) ≡ Some why → own_refusal LinkParty table acted (hear moment number wrong) ≡ Some why
 unfound-line table acted moment number wrong why e = ap (λ r. option_or r (receiver_refusal (receptions table acted) moment)) e
 
 -- a picture is shown
@@ -79,7 +79,7 @@ pub shown-line : {G E : Type 0} (sends : Sends G) (hears : Hears E) (bytes : Lis
     (result : Result (List ℕ) Stop) → LinkHolds sends hears bytes acted link
     → HasTried (receiver_refusal (receptions link.sending.table acted) moment)
     (λ text. text ≡ picture_text moment (map shown_value (received_picture link.sending.table (receptions link.sending.table acted) moment))) result
-    → HasTried (own_refusal link.sending.table acted (show moment)) (HasLinked sends hears bytes acted (show moment) link link) result
+    → HasTried (own_refusal LinkParty link.sending.table acted (show moment)) (HasLinked sends hears bytes acted (show moment) link link) result
 shown-line sends hears bytes acted moment link (Ok text) h t = (t.0, (t.1, still-holds sends hears bytes acted moment link h))
 shown-line sends hears bytes acted moment link (Err (Refused why)) h t = t
 shown-line sends hears bytes acted moment link (Err NoMemory) h t = tt

@@ -27,10 +27,10 @@ answer-formed party shows bytes past raw table form opened is =
 
 -- the front reasons come before those of the content
 pub answer-front : (party : Party) (shows : Shows) (table : LifeTable) (acted : List Line) (line : Line) (front own : Option Reason)
-    → front_refusal party (has_begun acted) (latest acted) line ≡ front → own_refusal table acted line ≡ own
+    → front_refusal party (has_begun acted) (latest acted) line ≡ front → own_refusal party table acted line ≡ own
     → line_answer party shows table acted line ≡ text_unless (given_text party shows table acted line) (option_or front own)
 answer-front party shows table acted line front own is so =
-    ap (λ f. text_unless (given_text party shows table acted line) (option_or f (own_refusal table acted line))) is
+    ap (λ f. text_unless (given_text party shows table acted line) (option_or f (own_refusal party table acted line))) is
     ∙ ap (λ o. text_unless (given_text party shows table acted line) (option_or front o)) so
 
 -- the same front reasons by the clock and the beginning that are kept
@@ -61,14 +61,14 @@ pub record IsClear (party : Party) (acted : List Line) (line : Line) : Type 0 wh
 
 pub clear : (party : Party) (acted : List Line) (line : Line) → front_refusal party (has_begun acted) (latest acted) line ≡ None → IsClear party acted line
 clear party acted line e =
-    let one = or-none (built_refusal line) _ e in
-    let two = or-none (party_refusal party line) _ one.1 in
+    let one = or-none (party_refusal party line) _ e in
+    let two = or-none (built_refusal line) _ one.1 in
     let three = or-none (station_refusal (has_begun acted) line) _ two.1 in
     record {
       can = record {
-        built = none-else (is_unbuilt line) NotBuilt one.0;
+        built = none-else (is_unbuilt line) NotBuilt two.0;
         first = both-false (is_station line) (has_begun acted) (none-else _ Station three.0);
       };
-      here = two.0;
+      here = one.0;
       clock = three.1;
     }

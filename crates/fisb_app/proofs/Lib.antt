@@ -6,6 +6,8 @@ pub mod PrintLines
 pub mod PrintLists
 pub mod Damaged
 pub mod Sound
+pub mod Origins
+pub mod Agreeing
 pub mod Promised
 pub mod Receiving
 pub mod Keeping

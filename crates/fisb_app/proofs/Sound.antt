@@ -6,6 +6,7 @@ use Rattle.std.proofs.lemmas.Bool.{cases_Bool, and_parts}
 use Rattle.std.proofs.lemmas.Bool.Decides.{nat_tests}
 use Rattle.std.proofs.lemmas.List.{get_or_past}
 use Rattle.list_members.specs.Membership.{IsIn}
+use Rattle.uplink_frame.specs.declared.station.StationId.{StationId}
 use Rattle.uplink_frame.specs.Station.{FitsStation}
 use Rattle.uplink_frame.specs.Laws.{StationsAreTold}
 use Rattle.uplink_weave.specs.Laws.{NearFrameGivesPayload}
@@ -15,7 +16,7 @@ use Rattle.life_table.specs.Rules.{IsTable}
 use Rattle.ground_core.specs.Update as updates
 use Rattle.ground_core.specs.History.{Event, accepted, fill}
 use Rattle.ground_core.specs.Airing.{Frame, frame_payload}
-use Rattle.ground_core.specs.Broadcast.{StationEvent, IsBroadcast, IsNext, IsNotBefore}
+use Rattle.ground_core.specs.Broadcast.{StationEvent, IsBroadcast, IsNext, IsNotBefore, frames}
 use Rattle.ground_core.specs.Sent.{FramesReadBack}
 use Rattle.receiver_core.specs.Reception.{Reception, received_picture}
 use Rattle.receiver_core.specs.Hearing.{clock_of, is_valid, payload_refusal, refusal_of_air, clock, lost, no_application}
@@ -23,13 +24,13 @@ use Rattle.segment_core.specs.Store.{last_above}
 use Rattle.fisb_link.specs.LinkPicture.{link_picture}
 use Rattle.fisb_link.specs.Hearing.{IsInTime, IsAfterHearings, AreHeard, receptions_of, payload_sent}
 use Rattle.fisb_link.specs.PicturesAgree.{PicturesAgree, HearingsStay}
-use Rattle.script_core.specs.Script.{Line, empty, station, text, turn, hear, show, unbuilt}
+use Rattle.script_core.specs.Script.{Line, empty, station, text, turn, hear, show}
 use Rattle.script_core.specs.LineView.{HasRanges}
 use Rattle.refusal_core.specs.declared.reason.Reason.TheVariants.{Clock, Late}
 use Rattle.fisb_app.specs.declared.party.Party.TheVariants.{Link}
 use Rattle.fisb_app.specs.Past.{events, broadcast, hearings, station_of, sent_frames, air_of, air_heard, reception_from, received_frame, reception_by, receptions, latest}
 use Rattle.fisb_app.specs.Reading.{refusal_of, own_refusal, text_refusal, frame_refusal, receiver_refusal, earlier_than, reason_of_update}
-use Rattle.fisb_app.specs.Damage.{all_near, is_near_frame}
+use Rattle.fisb_app.specs.Damage.{all_near, has_near_blocks, is_near_frame}
 use Rattle.fisb_app.proofs.Judging.{or-none, IsClear, clear}
 use Rattle.fisb_app.proofs.Damaged.{near-blocks}
 use Rattle.fisb_app.proofs.Turning.{history-back, unbegun-events, unbegun-frames}
@@ -72,7 +73,7 @@ map-none f None e = refl
 map-none f (Some x) e = cc
 
 -- a moment that is not behind a line is behind none before it
-not-behind : (moment : ℕ) (last : Option ℕ) → option_map Clock (earlier_than (Some moment) last) ≡ None → IsNotBehind moment last
+pub not-behind : (moment : ℕ) (last : Option ℕ) → option_map Clock (earlier_than (Some moment) last) ≡ None → IsNotBehind moment last
 not-behind moment None e = tt
 not-behind moment (Some kept) e = elim (cases_Bool (nat_lt moment kept)) [
   | inl early ↦ absurd (if-some (nat_lt moment kept) kept early e)
@@ -83,7 +84,7 @@ not-behind moment (Some kept) e = elim (cases_Bool (nat_lt moment kept)) [
     if-some true kept is e = cc
     if-some false kept is e = cc
 
-behind-past : (moment own : ℕ) (last : Option ℕ) → own ≤ moment → IsNotBehind own last → IsNotBehind moment last
+pub behind-past : (moment own : ℕ) (last : Option ℕ) → own ≤ moment → IsNotBehind own last → IsNotBehind moment last
 behind-past moment own None after is = tt
 behind-past moment own (Some kept) after is = omega (arith, after, is)
 
@@ -105,12 +106,11 @@ byte-at bytes all i = elim (cases_Bool (nat_lt i (length bytes))) [
 ]
 
 -- a frame that was sent is received as it was sent, where each of its blocks is near
-received-sent : Laws → (table : LifeTable) (acted : List Line) (past : List Reception) (moment place : ℕ) (wrong : List (ℕ × ℕ)) (frame : Frame) → IsTable table
-    → IsBroadcast table (broadcast acted) → receiver_refusal past moment ≡ None → slice_get (sent_frames table acted) place ≡ Some frame → is_near_frame wrong (Some frame) ≡ true
-    → reception_from past moment (air_heard wrong (air_of frame)) ≡ Some (record { moment = moment; payload = frame_payload frame })
-received-sent laws table acted past moment place wrong frame rules sound none found near =
-    let is = laws.frames_back table (broadcast acted) frame rules sound (found-in (sent_frames table acted) place frame found) in
-    let air = air_heard wrong (air_of frame) in
+pub received-near : Laws → (table : LifeTable) (sent : List StationEvent) (past : List Reception) (moment place : ℕ) (air : List ℕ) (frame : Frame) → IsTable table
+    → IsBroadcast table sent → receiver_refusal past moment ≡ None → slice_get (frames table sent) place ≡ Some frame → has_near_blocks air (air_of frame) ≡ true
+    → reception_from past moment air ≡ Some (record { moment = moment; payload = frame_payload frame })
+received-near laws table sent past moment place air frame rules sound none found near =
+    let is = laws.frames_back table sent frame rules sound (found-in (frames table sent) place frame found) in
     let woven = laws.near (frame_payload frame) air is.size (byte-at _ is.bytes) (near-blocks air (air_of frame) near) in
     let valid : is_valid (frame_payload frame) ≡ true = ap (λ h. h.app_valid) is.header_back in
     let timely = map-none Clock (last_above (clock_of past) moment) none in
@@ -135,7 +135,7 @@ reception-heard : Laws → (table : LifeTable) (acted : List Line) (past : List 
     → is_near_frame wrong found ≡ true → received_frame past moment wrong found ≡ Some (record { moment = moment; payload = payload_sent found })
 reception-heard laws table acted past moment place wrong None rules sound none is in_time near = absurd in_time
 reception-heard laws table acted past moment place wrong (Some frame) rules sound none is in_time near =
-    received-sent laws table acted past moment place wrong frame rules sound none is near
+    received-near laws table (broadcast acted) past moment place (air_heard wrong (air_of frame)) frame rules sound none is near
 
 -- an update that is accepted, and a fill, are the next event of the broadcast
 next-event : StationsAreTold → (table : LifeTable) (acted : List Line) (event : Event) → IsSound table acted → IsNext table (station_of acted) (events acted) event
@@ -191,7 +191,7 @@ sound-turn laws table acted moment slot size ranges is s =
     }
 
 sound-hear : Laws → (table : LifeTable) (acted : List Line) (moment number size : ℕ) (wrong : List (ℕ × ℕ)) → IsTable table → HasRanges size (hear moment number wrong)
-    → IsClear Link acted (hear moment number wrong) → own_refusal table acted (hear moment number wrong) ≡ None → IsSound table acted
+    → IsClear Link acted (hear moment number wrong) → own_refusal Link table acted (hear moment number wrong) ≡ None → IsSound table acted
     → IsSound table (hear moment number wrong ∷ acted)
 sound-hear laws table acted moment number size wrong rules ranges is own s =
     let behind = not-behind moment (latest acted) is.clock in
@@ -225,14 +225,14 @@ sound-show table acted moment is s =
       sent_before = λ m place frame after e. s.sent_before m place frame (behind-past m moment (latest acted) after behind) e;
     }
 
-sound-station : (table : LifeTable) (acted : List Line) (latitude longitude site size : ℕ) → HasRanges size (station latitude longitude site)
-    → IsClear Link acted (station latitude longitude site) → IsSound table acted → IsSound table (station latitude longitude site ∷ acted)
-sound-station table acted latitude longitude site size ranges is s =
-    let line = station latitude longitude site in
+sound-station : (table : LifeTable) (acted : List Line) (named : StationId) → FitsStation named
+    → IsClear Link acted (station named) → IsSound table acted → IsSound table (station named ∷ acted)
+sound-station table acted named fits is s =
+    let line = station named in
     let none = is.can.first refl in
     let same = unbegun-frames table acted line none refl in
     record {
-      station = record { lat = ranges.0; lon = ranges.1; site = ranges.2 };
+      station = fits;
       is_broadcast = subst (λ e. IsBroadcast table (map (λ event. record { station = station_of (line ∷ acted); event = event }) e)) (sym (unbegun-events acted none)) tt;
       heard = subst (λ f. AreHeard table.late f (hearings acted)) (sym same) s.heard;
       received_is = λ near. s.received_is near ∙ ap (λ f. receptions_of f (hearings acted)) (sym same);
@@ -245,8 +245,8 @@ sound-station table acted latitude longitude site size ranges is s =
 pub sound-line : Laws → (table : LifeTable) (acted : List Line) (line : Line) (size : ℕ) → IsTable table → HasRanges size line
     → refusal_of Link table acted line ≡ None → IsSound table acted → IsSound table (line ∷ acted)
 sound-line laws table acted empty size rules ranges e s = record { station = s.station; is_broadcast = s.is_broadcast; heard = s.heard; received_is = s.received_is; events_before = s.events_before; heard_before = s.heard_before; sent_before = s.sent_before }
-sound-line laws table acted (station latitude longitude site) size rules ranges e s =
-    sound-station table acted latitude longitude site size ranges (clear Link acted _ (or-none _ _ e).0) s
+sound-line laws table acted (station named) size rules ranges e s =
+    sound-station table acted named ranges (clear Link acted _ (or-none _ _ e).0) s
 sound-line laws table acted (text moment version chars) size rules ranges e s =
     sound-text laws table acted moment version size chars ranges (clear Link acted _ (or-none _ _ e).0) (or-none _ _ e).1 s
 sound-line laws table acted (turn moment slot) size rules ranges e s =
@@ -255,7 +255,7 @@ sound-line laws table acted (hear moment number wrong) size rules ranges e s =
     sound-hear laws table acted moment number size wrong rules ranges (clear Link acted _ (or-none _ _ e).0) (or-none _ _ e).1 s
 sound-line laws table acted (show moment) size rules ranges e s =
     sound-show table acted moment (clear Link acted _ (or-none _ _ e).0) s
-sound-line laws table acted unbuilt size rules ranges e s = record { station = s.station; is_broadcast = s.is_broadcast; heard = s.heard; received_is = s.received_is; events_before = s.events_before; heard_before = s.heard_before; sent_before = s.sent_before }
+sound-line laws table acted line size rules ranges e s = cc
 
 -- at a moment that a line may have both pictures are one, where each block that was heard is near
 pub pictures-same : Laws → (table : LifeTable) (acted : List Line) (moment : ℕ) → IsTable table → refusal_of Link table acted (show moment) ≡ None → IsSound table acted

@@ -11,7 +11,7 @@ use Rattle.ground_core.specs.Airing.{Frame, frame_after}
 use Rattle.ground_core.specs.Broadcast.{history_of, frames}
 use Rattle.ground_core.specs.OnAir.{IsOnAir}
 use Rattle.ground_core.specs.declared.air_frame.AirFrame.{AirFrame}
-use Rattle.script_core.specs.Script.{Line, empty, station, text, turn, hear, show, unbuilt}
+use Rattle.script_core.specs.Script.{Line, empty, turn}
 use Rattle.refusal_core.specs.Refusal.{spaced}
 use Rattle.hex.specs.Hex.{encode_lower}
 use Rattle.fisb_app.specs.Past.{events, station_of, sent_frames, air_of, has_begun}
@@ -78,12 +78,7 @@ count-alike f g xs ys e = sym (length-map xs f) ∙ ap length e ∙ length-map y
 pub unbegun-events : (acted : List Line) → has_begun acted ≡ false → events acted ≡ []
 unbegun-events [] e = refl
 unbegun-events (empty ∷ past) e = unbegun-events past ((or_parts (has_begun past) _ e).0)
-unbegun-events (station latitude longitude site ∷ past) e = absurd (true≢false (or_parts (has_begun past) true e).1)
-unbegun-events (text moment version chars ∷ past) e = absurd (true≢false (or_parts (has_begun past) true e).1)
-unbegun-events (turn moment slot ∷ past) e = absurd (true≢false (or_parts (has_begun past) true e).1)
-unbegun-events (hear moment frame wrong ∷ past) e = absurd (true≢false (or_parts (has_begun past) true e).1)
-unbegun-events (show moment ∷ past) e = absurd (true≢false (or_parts (has_begun past) true e).1)
-unbegun-events (unbuilt ∷ past) e = absurd (true≢false (or_parts (has_begun past) true e).1)
+unbegun-events (line ∷ past) e = absurd (true≢false (or_parts (has_begun past) true e).1)
 
 -- before it no frame was sent, whatever station is named
 pub unbegun-frames : (table : LifeTable) (acted : List Line) (line : Line) → has_begun acted ≡ false → events (line ∷ acted) ≡ events acted

@@ -4,7 +4,7 @@ use Rattle.std.specs.List.{list_all, range_with_len}
 use Rattle.rs_code.specs.CodeWord.{are_near}
 use Rattle.uplink_weave.specs.Woven.{block, block_roots}
 use Rattle.ground_core.specs.Airing.{Frame}
-use Rattle.script_core.specs.Script.{Line, empty, station, text, turn, hear, show, unbuilt}
+use Rattle.script_core.specs.Script.{Line, hear}
 use Rattle.fisb_app.specs.Past.{sent_frames, air_of, air_heard}
 use Rattle.fisb_app.specs.Output.{Claim}
 
@@ -20,13 +20,8 @@ is_near_frame wrong (Some frame) = has_near_blocks (air_heard wrong (air_of fram
 
 -- a line that hears a frame, where these were sent
 abbrev pub hears_near : List Frame → Line → Bool
-hears_near sent empty = true
-hears_near sent (station latitude longitude site) = true
-hears_near sent (text moment version chars) = true
-hears_near sent (turn moment slot) = true
 hears_near sent (hear moment frame wrong) = is_near_frame wrong (slice_get sent frame)
-hears_near sent (show moment) = true
-hears_near sent unbuilt = true
+hears_near sent line = true
 
 -- all lines acted on
 abbrev pub all_near : Claim

@@ -2,6 +2,7 @@ pub mod Past
 pub mod Reading
 pub mod Output
 pub mod Damage
+pub mod Origin
 pub mod Work
 pub mod Stands
 pub mod Unbuilt

@@ -19,11 +19,12 @@ use Rattle.receiver_core.specs.declared.unread.UnreadReason.TheVariants.{Kind, S
 use Rattle.receiver_core.specs.declared.unread.UnreadReason.TheVariants.{Segment, Product, NoRow}
 use Rattle.receiver_core.specs.declared.unread.UnreadReason.TheVariants.{Files, Time, Stale, Words}
 use Rattle.receiver_core.specs.declared.unread.UnreadReason.TheVariants.{Unlisted}
+use Rattle.gdl90_core.specs.Framing.{framed}
 use Rattle.fisb_link.specs.LinkPicture.{link_picture}
-use Rattle.script_core.specs.Script.{Line, empty, station, text, turn, hear, show, unbuilt}
+use Rattle.script_core.specs.Script.{Line, turn, hear, rx, show}
 use Rattle.refusal_core.specs.Refusal.{spaced}
 use Rattle.fisb_app.specs.declared.party.Party.{Party}
-use Rattle.fisb_app.specs.declared.party.Party.TheVariants.{Link, Ground}
+use Rattle.fisb_app.specs.declared.party.Party.TheVariants.{Ground, Gdl}
 use Rattle.fisb_app.specs.Past.{events, broadcast, hearings, station_of, sent_frames, air_of}
 use Rattle.fisb_app.specs.Past.{air_heard, receptions}
 
@@ -33,8 +34,8 @@ sent_words index frame = codes "sent" ∷ decimal index ∷ decimal frame.moment
     ∷ decimal (length frame.segments) ∷ decimal (used_room frame) ∷ []
 
 abbrev pub sent_text : Party → ℕ → Frame → List ℕ
-sent_text Link index frame = spaced (sent_words index frame)
 sent_text Ground index frame = spaced (sent_words index frame ++ encode_lower (air_of frame) ∷ [])
+sent_text party index frame = spaced (sent_words index frame)
 
 -- an entry of a picture: the words of its key, its version, and what is shown
 abbrev pub third_words : Option (List ℕ) → List (List ℕ)
@@ -117,28 +118,44 @@ Shows = LifeTable → List Line → ℕ → List Entry
 abbrev pub heard_picture : Shows
 heard_picture table acted moment = received_picture table (receptions table acted) moment
 
--- What is claimed of the lines before a picture. Where it holds the picture is the one that the
--- link promises, which knows no byte of a frame; elsewhere it is promised only that it is the
--- picture by the bytes.
+-- What is claimed of the lines before a picture. Where it holds the picture is the one that is
+-- promised, which knows no byte of a frame; elsewhere it is promised only that it is the picture by
+-- the bytes.
 abbrev pub Claim : Type 0
 Claim = LifeTable → List Line → Bool
 
-abbrev pub promised_picture : Claim → Shows
-promised_picture claim table acted moment = if claim table acted
-    then link_picture table (broadcast acted) (hearings acted) moment
-    else heard_picture table acted moment
+abbrev pub promised_picture : Claim → Shows → Shows
+promised_picture claim promised table acted moment = if claim table acted
+    then promised table acted moment else heard_picture table acted moment
+
+-- the picture by what the lines gave, sent and heard
+abbrev pub sent_picture : Shows
+sent_picture table acted moment = link_picture table (broadcast acted) (hearings acted) moment
+
+-- Message 7 for displays (Garmin 560-1058-00, Uplink Data Message) of the payload of a frame, which
+-- tells no time of reception; nothing of a frame without a payload.
+abbrev pub uplink_bytes : List ℕ → List ℕ
+uplink_bytes payload = 7 ∷ 0xFF ∷ 0xFF ∷ 0xFF ∷ payload
+
+abbrev pub display_bytes : Option (List ℕ) → List ℕ
+display_bytes None = []
+display_bytes (Some payload) = framed (uplink_bytes payload)
+
+-- what a frame gives: a message for displays, or what a receiver says of it
+abbrev pub rx_text : Party → LifeTable → List Reception → ℕ → List ℕ → List ℕ
+rx_text Gdl table past moment air = display_bytes (payload_in air)
+rx_text party table past moment air = heard_text table past moment air
 
 -- what a line gives after the lines acted on, where `shows` gives the pictures
 abbrev pub given_text : Party → Shows → LifeTable → List Line → Line → List ℕ
-given_text party shows table past empty = []
-given_text party shows table past (station latitude longitude site) = []
-given_text party shows table past (text moment version chars) = []
 given_text party shows table past (turn moment slot) =
     sent_text party (length (sent_frames table past))
     (frame_after table (station_of past) (events past) moment slot)
 given_text party shows table past (hear moment frame wrong) =
     heard_frame table (receptions table past) moment wrong
     (slice_get (sent_frames table past) frame)
+given_text party shows table past (rx moment air) =
+    rx_text party table (receptions table past) moment air
 given_text party shows table past (show moment) =
     picture_text moment (map shown_value (shows table past moment))
-given_text party shows table past unbuilt = []
+given_text party shows table past line = []

@@ -15,7 +15,7 @@ use Rattle.ground_core.specs.Broadcast.{StationEvent, frames}
 use Rattle.receiver_core.specs.Reception.{Reception}
 use Rattle.receiver_core.specs.Hearing.{HearRefusal, refusal_of_air}
 use Rattle.fisb_link.specs.LinkPicture.{Hearing}
-use Rattle.script_core.specs.Script.{Line, empty, station, text, turn, hear, show, unbuilt}
+use Rattle.script_core.specs.Script.{Line, empty, station, text, radar, blank, turn, hear, rx, show}
 use Rattle.script_core.specs.Fields.{line_of}
 
 -- the lines that some bytes are; each of those acted on is of its form
@@ -24,14 +24,8 @@ lines_of past = filter_map line_of past
 
 -- the station that the lines name
 abbrev pub station_named : Line → StationId → StationId
-station_named empty before = before
-station_named (station latitude longitude site) before =
-    record { lat = latitude; lon = longitude; position_valid = true; site = site }
-station_named (text moment version chars) before = before
-station_named (turn moment slot) before = before
-station_named (hear moment frame wrong) before = before
-station_named (show moment) before = before
-station_named unbuilt before = before
+station_named (station named) before = named
+station_named line before = before
 
 abbrev pub station_of : List Line → StationId
 station_of [] = no_station
@@ -39,13 +33,9 @@ station_of (line ∷ past) = station_named line (station_of past)
 
 -- its history: what it was given, and the frames that it filled
 abbrev pub event_of : Line → Option Event
-event_of empty = None
-event_of (station latitude longitude site) = None
 event_of (text moment version chars) = Some (accepted moment (updates.text version chars))
 event_of (turn moment slot) = Some (fill moment slot)
-event_of (hear moment frame wrong) = None
-event_of (show moment) = None
-event_of unbuilt = None
+event_of line = None
 
 abbrev pub events : List Line → List Event
 events acted = filter_map event_of acted
@@ -72,13 +62,8 @@ air_heard wrong air =
 
 -- what was heard
 abbrev pub hearing_of : Line → Option Hearing
-hearing_of empty = None
-hearing_of (station latitude longitude site) = None
-hearing_of (text moment version chars) = None
-hearing_of (turn moment slot) = None
 hearing_of (hear moment frame wrong) = Some (record { frame = frame; moment = moment })
-hearing_of (show moment) = None
-hearing_of unbuilt = None
+hearing_of line = None
 
 abbrev pub hearings : List Line → List Hearing
 hearings acted = filter_map hearing_of acted
@@ -101,14 +86,10 @@ received_frame past moment wrong (Some frame) =
 -- the receptions after a line, where the frames that were sent and the receptions stood so before
 -- it
 abbrev pub receptions_after : List Frame → List Reception → Line → List Reception
-receptions_after sent past empty = past
-receptions_after sent past (station latitude longitude site) = past
-receptions_after sent past (text moment version chars) = past
-receptions_after sent past (turn moment slot) = past
 receptions_after sent past (hear moment frame wrong) =
     cons_option (received_frame past moment wrong (slice_get sent frame)) past
-receptions_after sent past (show moment) = past
-receptions_after sent past unbuilt = past
+receptions_after sent past (rx moment air) = cons_option (reception_from past moment air) past
+receptions_after sent past line = past
 
 abbrev pub receptions : LifeTable → List Line → List Reception
 receptions table [] = []
@@ -117,13 +98,14 @@ receptions table (line ∷ past) =
 
 -- the moment of a line, and that of the last line with one; moments never fall
 abbrev pub moment_of : Line → Option ℕ
-moment_of empty = None
-moment_of (station latitude longitude site) = None
 moment_of (text moment version chars) = Some moment
+moment_of (radar moment version key cells) = Some moment
+moment_of (blank moment version product scale south numbers) = Some moment
 moment_of (turn moment slot) = Some moment
 moment_of (hear moment frame wrong) = Some moment
+moment_of (rx moment air) = Some moment
 moment_of (show moment) = Some moment
-moment_of unbuilt = None
+moment_of line = None
 
 abbrev pub latest : List Line → Option ℕ
 latest [] = None
@@ -132,12 +114,7 @@ latest (line ∷ past) = option_or (moment_of line) (latest past)
 -- a script has begun with its first line that is not empty
 abbrev pub is_empty : Line → Bool
 is_empty empty = true
-is_empty (station latitude longitude site) = false
-is_empty (text moment version chars) = false
-is_empty (turn moment slot) = false
-is_empty (hear moment frame wrong) = false
-is_empty (show moment) = false
-is_empty unbuilt = false
+is_empty line = false
 
 abbrev pub has_begun : List Line → Bool
 has_begun [] = false

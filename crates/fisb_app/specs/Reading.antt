@@ -14,7 +14,8 @@ use Rattle.segment_core.specs.Store.{last_above}
 use Rattle.ground_core.specs.OnAir.{clock_of}
 use Rattle.receiver_core.specs.Reception.{Reception}
 use Rattle.receiver_core.specs.Hearing as heard
-use Rattle.script_core.specs.Script.{Line, empty, station, text, turn, hear, show, unbuilt}
+use Rattle.script_core.specs.Script.{Line, empty, station, text, radar, blank, turn, hear, rx, show}
+use Rattle.script_core.specs.Script.{unbuilt}
 use Rattle.refusal_core.specs.declared.reason.Reason.{Reason}
 use Rattle.refusal_core.specs.declared.reason.Reason.TheVariants.{NotHere, Station, Clock, NoFrame}
 use Rattle.refusal_core.specs.declared.reason.Reason.TheVariants.{Late, Frames, BadCharacter}
@@ -22,7 +23,7 @@ use Rattle.refusal_core.specs.declared.reason.Reason.TheVariants.{TextLong, FewW
 use Rattle.refusal_core.specs.declared.reason.Reason.TheVariants.{Coarse, Ahead, Expired, NotNewer}
 use Rattle.refusal_core.specs.declared.reason.Reason.TheVariants.{NoFile, NotBuilt}
 use Rattle.fisb_app.specs.declared.party.Party.{Party}
-use Rattle.fisb_app.specs.declared.party.Party.TheVariants.{Link, Ground}
+use Rattle.fisb_app.specs.declared.party.Party.TheVariants.{Link, Ground, Receive, Gdl}
 use Rattle.fisb_app.specs.Past.{events, station_of, sent_frames, receptions, moment_of, latest}
 use Rattle.fisb_app.specs.Past.{has_begun}
 
@@ -30,42 +31,39 @@ use Rattle.fisb_app.specs.Past.{has_begun}
 abbrev pub frame_limit : ℕ
 frame_limit = 65536
 
--- a line that is not built comes first
+-- which lines a command takes
+abbrev pub is_taken : Party → Line → Bool
+is_taken Link (rx moment air) = false
+is_taken Link line = true
+is_taken Ground (hear moment frame wrong) = false
+is_taken Ground (rx moment air) = false
+is_taken Ground (show moment) = false
+is_taken Ground line = true
+is_taken Receive empty = true
+is_taken Receive (rx moment air) = true
+is_taken Receive (show moment) = true
+is_taken Receive line = false
+is_taken Gdl empty = true
+is_taken Gdl (rx moment air) = true
+is_taken Gdl line = false
+
+abbrev pub party_refusal : Party → Line → Option Reason
+party_refusal party line = if is_taken party line then None else Some NotHere
+
+-- a line that nothing acts on yet
 abbrev pub is_unbuilt : Line → Bool
-is_unbuilt empty = false
-is_unbuilt (station latitude longitude site) = false
-is_unbuilt (text moment version chars) = false
-is_unbuilt (turn moment slot) = false
-is_unbuilt (hear moment frame wrong) = false
-is_unbuilt (show moment) = false
+is_unbuilt (radar moment version key cells) = true
+is_unbuilt (blank moment version product scale south numbers) = true
 is_unbuilt unbuilt = true
+is_unbuilt line = false
 
 abbrev pub built_refusal : Line → Option Reason
 built_refusal line = if is_unbuilt line then Some NotBuilt else None
 
--- a ground alone has no receiver
-abbrev pub is_heard_or_shown : Line → Bool
-is_heard_or_shown empty = false
-is_heard_or_shown (station latitude longitude site) = false
-is_heard_or_shown (text moment version chars) = false
-is_heard_or_shown (turn moment slot) = false
-is_heard_or_shown (hear moment frame wrong) = true
-is_heard_or_shown (show moment) = true
-is_heard_or_shown unbuilt = false
-
-abbrev pub party_refusal : Party → Line → Option Reason
-party_refusal Link line = None
-party_refusal Ground line = if is_heard_or_shown line then Some NotHere else None
-
 -- a station is named before any other line is acted on, the empty ones left out
 abbrev pub is_station : Line → Bool
-is_station empty = false
-is_station (station latitude longitude site) = true
-is_station (text moment version chars) = false
-is_station (turn moment slot) = false
-is_station (hear moment frame wrong) = false
-is_station (show moment) = false
-is_station unbuilt = false
+is_station (station named) = true
+is_station line = false
 
 abbrev pub station_refusal : Bool → Line → Option Reason
 station_refusal begun line = if is_station line && begun then Some Station else None
@@ -82,7 +80,7 @@ clock_refusal own last = option_map Clock (earlier_than own last)
 -- the reasons that do not look at the content of a line
 abbrev pub front_refusal : Party → Bool → Option ℕ → Line → Option Reason
 front_refusal party begun last line =
-    option_or (built_refusal line) (option_or (party_refusal party line)
+    option_or (party_refusal party line) (option_or (built_refusal line)
     (option_or (station_refusal begun line) (clock_refusal (moment_of line) last)))
 
 -- the reason of a refused update
@@ -125,24 +123,30 @@ frame_refusal allowed moment (Some frame) = if nat_lt (frame.moment + allowed) m
 abbrev pub receiver_refusal : List Reception → ℕ → Option Reason
 receiver_refusal past moment = option_map Clock (last_above (heard.clock_of past) moment)
 
+-- frames for displays are told of no other frame
+abbrev pub reception_refusal : Party → List Reception → ℕ → Option Reason
+reception_refusal Gdl past moment = None
+reception_refusal party past moment = receiver_refusal past moment
+
 -- what stands against the content of a line
-abbrev pub own_refusal : LifeTable → List Line → Line → Option Reason
-own_refusal table acted empty = None
-own_refusal table acted (station latitude longitude site) = None
-own_refusal table acted (text moment version chars) = text_refusal table acted moment version chars
-own_refusal table acted (turn moment slot) =
+abbrev pub own_refusal : Party → LifeTable → List Line → Line → Option Reason
+own_refusal party table acted (text moment version chars) =
+    text_refusal table acted moment version chars
+own_refusal party table acted (turn moment slot) =
     turn_refusal (length (sent_frames table acted)) acted moment
-own_refusal table acted (hear moment frame wrong) =
+own_refusal party table acted (hear moment frame wrong) =
     option_or (frame_refusal table.late moment (slice_get (sent_frames table acted) frame))
     (receiver_refusal (receptions table acted) moment)
-own_refusal table acted (show moment) = receiver_refusal (receptions table acted) moment
-own_refusal table acted unbuilt = None
+own_refusal party table acted (rx moment air) =
+    reception_refusal party (receptions table acted) moment
+own_refusal party table acted (show moment) = receiver_refusal (receptions table acted) moment
+own_refusal party table acted line = None
 
 -- the first reason against a line of its form
 abbrev pub refusal_of : Party → LifeTable → List Line → Line → Option Reason
 refusal_of party table acted line =
     option_or (front_refusal party (has_begun acted) (latest acted) line)
-    (own_refusal table acted line)
+    (own_refusal party table acted line)
 
 -- a line that is built, and a station only before any other line
 pub record CanCome (acted : List Line) (line : Line) : Type 0 where

@@ -13,6 +13,8 @@ use Rattle.fisb_app.specs.declared.sending.Sending.{Sending}
 use Rattle.fisb_app.specs.declared.in_order.InOrder.{InOrder}
 use Rattle.fisb_app.specs.declared.link.Link.{Link}
 use Rattle.fisb_app.specs.declared.ground_alone.GroundAlone.{GroundAlone}
+use Rattle.fisb_app.specs.declared.receiver_alone.ReceiverAlone.{ReceiverAlone}
+use Rattle.fisb_app.specs.declared.relay.Relay.{Relay}
 use Rattle.fisb_app.specs.declared.sent.SentFrame.{SentFrame}
 use Rattle.fisb_app.specs.Past.{lines_of, station_of, events, sent_frames, air_of, reception_from}
 use Rattle.fisb_app.specs.Past.{receptions, latest, has_begun}
@@ -58,6 +60,15 @@ pub record AloneHolds {G : Type 0} (sends : Sends G) (bytes : List ℕ) (acted :
     : Type 0 where
   pub holds : Holds sends bytes acted alone.sending
   pub sent : alone.sent ≡ length (sent_frames alone.sending.table acted)
+
+-- the table was read of these bytes, and the receiver stands for what the lines made
+pub record EarHolds {E : Type 0} (hears : Hears E) (bytes : List ℕ) (acted : List Line)
+    (alone : ReceiverAlone E) : Type 0 where
+  pub opened : opening_table bytes ≡ Ok alone.table
+  pub ear : hears alone.table (receptions alone.table acted) alone.ear
+
+pub record RelayHolds (bytes : List ℕ) (acted : List Line) (relay : Relay) : Type 0 where
+  pub opened : opening_table bytes ≡ Ok relay.table
 
 -- a command acted on these lines in their order: its clock and its beginning, too, are theirs
 pub record IsInOrder {P : Type 0} (holds : List ℕ → List Line → P → Type 0) (bytes : List ℕ)

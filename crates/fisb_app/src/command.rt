@@ -1,7 +1,12 @@
 //! The words of the command line.
-ghost use Rattle.std.specs.Prelude.{◌≡◌, map, string_bytes};
+ghost use Rattle.std.specs.Prelude.{◌≡◌, IfSome, map, string_bytes};
 ghost use Rattle.std.specs.Str.{bytes_eq};
-ghost use Rattle.fisb_app.specs.Command.{command_named, single_command};
+ghost use Rattle.fisb_app.specs.Command.{HasCount, command_named, make_of, single_command};
+
+use crate::number::read_number;
+
+/// The most minutes of traffic.
+const LAST_COUNT: u64 = 1000;
 
 /// A command that the words name.
 #[derive(Clone, Copy, Debug, PartialEq, Eq)]
@@ -10,27 +15,25 @@ pub(crate) enum Command {
     Ground,
     Receive,
     Gdl,
-    Make,
+    /// So many minutes of traffic from a seed.
+    Make { count: u32, seed: u64 },
 }
 
 /// The command that the words name, if they name one.
 pub(crate) fn command_of(words: &[String]) -> Option<Command>
-    ensures { result ≡ command_named (map string_bytes words.now) }
+    ensures named { result ≡ command_named (map string_bytes words.now) }
+    ensures count { IfSome result HasCount }
 {
-    let [first, rest @ ..] = words else {
-        return None;
-    };
-    if is_text(first, "make") {
-        return Some(Command::Make);
+    match words {
+        [word] => single_command(word),
+        [word, count, seed] if is_text(word, "make") => make_of(count, seed),
+        _ => None,
     }
-    if !rest.is_empty() {
-        return None;
-    }
-    single_command(first)
 }
 
 fn single_command(word: &String) -> Option<Command>
-    ensures { result ≡ single_command (string_bytes word.now) }
+    ensures named { result ≡ single_command (string_bytes word.now) }
+    ensures count { IfSome result HasCount }
 {
     if is_text(word, "link") {
         Some(Command::Link)
@@ -43,6 +46,23 @@ fn single_command(word: &String) -> Option<Command>
     } else {
         None
     }
+}
+
+/// The command `make` with these two numbers.
+fn make_of(count: &String, seed: &String) -> Option<Command>
+    ensures named { result ≡ make_of (string_bytes count.now) (string_bytes seed.now) }
+    ensures count { IfSome result HasCount }
+{
+    let Some(count) = read_number(count.as_bytes(), 1, LAST_COUNT) else {
+        return None;
+    };
+    let Some(seed) = read_number(seed.as_bytes(), 0, u64::MAX) else {
+        return None;
+    };
+    Some(Command::Make {
+        count: count as u32,
+        seed,
+    })
 }
 
 fn is_text(word: &String, text: &str) -> bool

@@ -1,5 +1,6 @@
 //! The command `ground`: a ground alone, which writes what is on the air.
 ghost use Rattle.std.specs.Prelude.{◌≡◌, ℕ, ◌<◌, ◌^◌, ◌∷◌, List, false, length};
+ghost use Rattle.uplink_frame.specs.Station.{FitsStation};
 ghost use Rattle.script_core.specs.LineView.{line_view, HasRanges};
 ghost use Rattle.script_core.specs.Script.{Line as ScriptLine, station, text, turn};
 ghost use Rattle.fisb_app.specs.Output.{given_text, heard_picture};
@@ -17,7 +18,7 @@ use fisb_wire::Bytes;
 use run_core::Stop;
 use script_core::{Line, Reason};
 use std::alloc::{AllocError, Global};
-use uplink_frame::stations_are_told;
+use uplink_frame::{StationId, stations_are_told};
 
 /// What the lines acted on have made.
 #[derive(Drop)]
@@ -45,10 +46,14 @@ impl<G: Sender> LineActor for GroundAlone<G> {
 
     fn act_on(&mut self, alloc: Global, line: &Line) -> Result<Bytes, Stop> {
         match line {
-            Line::Nothing | Line::Unbuilt | Line::Hear { .. } | Line::Show { .. } => {
-                Ok(no_text(alloc))
-            }
-            Line::Station { lat, lon, site } => self.name_station(alloc, *lat, *lon, *site),
+            Line::Nothing
+            | Line::Radar { .. }
+            | Line::Blank { .. }
+            | Line::Hear { .. }
+            | Line::Rx { .. }
+            | Line::Show { .. }
+            | Line::Unbuilt => Ok(no_text(alloc)),
+            Line::Station(station) => self.name_station(alloc, *station),
             Line::Text {
                 moment,
                 version,
@@ -61,16 +66,16 @@ impl<G: Sender> LineActor for GroundAlone<G> {
 
 impl<G: Sender> GroundAlone<G> {
     /// Names the station.
-    fn name_station(&mut self, alloc: Global, lat: u32, lon: u32, site: u8) -> Result<Bytes, Stop>
-        requires { (lat < 2 ^ 23) × (lon < 2 ^ 24) × (site < 16) }
+    fn name_station(&mut self, alloc: Global, named: StationId) -> Result<Bytes, Stop>
+        requires { FitsStation named }
         ensures { (bytes : List ℕ) (acted : List ScriptLine)
-            → CanCome acted (station lat lon site) → AloneHolds G.stands bytes acted self.old
-            → HasTried (own_refusal self.old.sending.table acted (station lat lon site))
+            → CanCome acted (station named) → AloneHolds G.stands bytes acted self.old
+            → HasTried (own_refusal Party.Ground self.old.sending.table acted (station named))
             (λ given. (given ≡ given_text Party.Ground heard_picture self.old.sending.table acted
-            (station lat lon site))
-            × AloneHolds G.stands bytes (station lat lon site ∷ acted) self.new) result }
+            (station named))
+            × AloneHolds G.stands bytes (station named ∷ acted) self.new) result }
     {
-        match self.sending.name_station(alloc, lat, lon, site) {
+        match self.sending.name_station(alloc, named) {
             Ok(()) => Ok(no_text(alloc)),
             Err(AllocError) => Err(Stop::NoMemory),
         }
@@ -88,7 +93,7 @@ impl<G: Sender> GroundAlone<G> {
         ensures { (bytes : List ℕ) (acted : List ScriptLine)
             → CanCome acted (text moment version report.now)
             → AloneHolds G.stands bytes acted self.old
-            → HasTried (own_refusal self.old.sending.table acted (text moment version report.now))
+            → HasTried (own_refusal Party.Ground self.old.sending.table acted (text moment version report.now))
             (λ given. (given ≡ given_text Party.Ground heard_picture self.old.sending.table acted
             (text moment version report.now))
             × AloneHolds G.stands bytes (text moment version report.now ∷ acted) self.new) result }
@@ -104,7 +109,7 @@ impl<G: Sender> GroundAlone<G> {
         requires { slot < 32 }
         ensures { (bytes : List ℕ) (acted : List ScriptLine)
             → CanCome acted (turn moment slot) → AloneHolds G.stands bytes acted self.old
-            → HasTried (own_refusal self.old.sending.table acted (turn moment slot))
+            → HasTried (own_refusal Party.Ground self.old.sending.table acted (turn moment slot))
             (λ given. (given ≡ given_text Party.Ground heard_picture self.old.sending.table acted
             (turn moment slot))
             × AloneHolds G.stands bytes (turn moment slot ∷ acted) self.new) result }

@@ -1,20 +1,20 @@
 //! What the commands have in common: lines are acted on in their order.
-ghost use Rattle.std.specs.Prelude.{◌≡◌, ℕ, ◌||◌, ◌∷◌, List, [], Option, None, Some, Ok, Result, if◌then◌else◌, not};
+ghost use Rattle.std.specs.Prelude.{◌≡◌, ℕ, ◌||◌, ◌∷◌, List, [], Option, None, Some, Ok, Result, IfOk, not};
 ghost use Rattle.std.specs.Option.{option_or};
 ghost use Rattle.life_table.specs.LifeTable.{LifeTable as Table};
 ghost use Rattle.run_core.specs.Actor.{HasOpened};
 ghost use Rattle.script_core.specs.LineView.{line_view, HasRanges};
 ghost use Rattle.script_core.specs.Script.{Line as ScriptLine};
-ghost use Rattle.refusal_core.specs.declared.reason.Reason.TheVariants.{NotHere};
 ghost use Rattle.fisb_app.specs.Output.{given_text, heard_picture};
 ghost use Rattle.fisb_app.specs.declared.party.Party.{Party as AnyParty};
 ghost use Rattle.fisb_app.specs.Past.{is_empty, moment_of};
 ghost use Rattle.fisb_app.specs.Reading.{CanCome, earlier_than, front_refusal, own_refusal, party_refusal};
 ghost use Rattle.fisb_app.specs.Stands.{HasTried, IsInOrder};
-ghost use Rattle.fisb_app.specs.Work.{opened_with, opening_table, work_of};
+ghost use Rattle.fisb_app.specs.Work.{opened_with, opening_table, refusal_by, work_of};
 
-use crate::line_kinds::{is_empty, is_heard_or_shown, is_station, is_unbuilt, moment_of};
+use crate::line_kinds::{is_empty, is_station, is_unbuilt, moment_of, takes};
 use crate::party::Party;
+use crate::printing::no_text;
 use fisb_time::Moment;
 use fisb_wire::Bytes;
 use run_core::{Actor, Stop};
@@ -49,7 +49,7 @@ pub(crate) trait LineActor: Drop {
             → CanCome acted (line_view line.now)
             → party_refusal PARTY (line_view line.now) ≡ None
             → holds bytes acted self.old
-            → HasTried (own_refusal (table self.old) acted (line_view line.now))
+            → HasTried (own_refusal PARTY (table self.old) acted (line_view line.now))
             (λ given. (given ≡ given_text PARTY heard_picture (table self.old) acted
             (line_view line.now))
             × holds bytes (line_view line.now ∷ acted) self.new) result };
@@ -98,7 +98,7 @@ impl<P: LineActor> Actor for InOrder<P> {
     }
 
     fn refusal(alloc: Global, line: u64, reason: &Reason) -> Result<Bytes, AllocError> {
-        print_refused(alloc, line, reason)
+        print_refusal(alloc, P::PARTY, line, reason)
     }
 }
 
@@ -108,11 +108,11 @@ impl<P: LineActor> InOrder<P> {
         ensures { result ≡ front_refusal P.PARTY self.now.has_begun self.now.clock
             (line_view line.now) }
     {
-        if is_unbuilt(line) {
-            return Some(Reason::NotBuilt);
-        }
         if !takes(P::PARTY, line) {
             return Some(Reason::NotHere);
+        }
+        if is_unbuilt(line) {
+            return Some(Reason::NotBuilt);
         }
         if is_station(line) && self.has_begun {
             return Some(Reason::Station);
@@ -137,13 +137,18 @@ impl<P: LineActor> InOrder<P> {
     }
 }
 
-/// Whether a command takes a line.
-fn takes(party: Party, line: &Line) -> bool
-    ensures { party_refusal party (line_view line.now) ≡ (if result then None else Some NotHere) }
+/// What a command writes of a line that it refuses.
+fn print_refusal(
+    alloc: Global,
+    party: Party,
+    line: u64,
+    reason: &Reason,
+) -> Result<Bytes, AllocError>
+    ensures { IfOk result (λ text. text ≡ refusal_by party line reason.now) }
 {
     match party {
-        Party::Link => true,
-        Party::Ground => !is_heard_or_shown(line),
+        Party::Gdl => Ok(no_text(alloc)),
+        Party::Link | Party::Ground | Party::Receive => print_refused(alloc, line, reason),
     }
 }
 

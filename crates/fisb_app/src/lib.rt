@@ -4,12 +4,16 @@
 mod command;
 mod ear;
 mod ground_alone;
+mod hearing;
 mod in_order;
 pub mod laws;
 mod line_kinds;
 mod link;
+mod number;
 mod party;
 mod printing;
+mod receiver_alone;
+mod relay;
 mod sender;
 mod sending;
 mod sent;

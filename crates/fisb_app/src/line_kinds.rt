@@ -2,27 +2,40 @@
 ghost use Rattle.std.specs.Prelude.{◌≡◌};
 ghost use Rattle.script_core.specs.LineView.{line_view};
 ghost use Rattle.fisb_app.specs.Past.{is_empty, moment_of};
-ghost use Rattle.fisb_app.specs.Reading.{is_heard_or_shown, is_station, is_unbuilt};
+ghost use Rattle.fisb_app.specs.Reading.{is_station, is_taken, is_unbuilt};
 
+use crate::party::Party;
 use fisb_time::Moment;
 use script_core::Line;
 
-pub(crate) fn is_heard_or_shown(line: &Line) -> bool
-    ensures { result ≡ is_heard_or_shown (line_view line.now) }
+/// Whether a command takes a line.
+pub(crate) fn takes(party: Party, line: &Line) -> bool
+    ensures { result ≡ is_taken party (line_view line.now) }
 {
-    matches!(line, Line::Hear { .. } | Line::Show { .. })
+    match party {
+        Party::Link => !matches!(line, Line::Rx { .. }),
+        Party::Ground => !matches!(
+            line,
+            Line::Hear { .. } | Line::Rx { .. } | Line::Show { .. }
+        ),
+        Party::Receive => matches!(line, Line::Nothing | Line::Rx { .. } | Line::Show { .. }),
+        Party::Gdl => matches!(line, Line::Nothing | Line::Rx { .. }),
+    }
 }
 
 pub(crate) fn is_unbuilt(line: &Line) -> bool
     ensures { result ≡ is_unbuilt (line_view line.now) }
 {
-    matches!(line, Line::Unbuilt)
+    matches!(
+        line,
+        Line::Radar { .. } | Line::Blank { .. } | Line::Unbuilt
+    )
 }
 
 pub(crate) fn is_station(line: &Line) -> bool
     ensures { result ≡ is_station (line_view line.now) }
 {
-    matches!(line, Line::Station { .. })
+    matches!(line, Line::Station(_))
 }
 
 pub(crate) fn is_empty(line: &Line) -> bool
@@ -36,10 +49,13 @@ pub(crate) fn moment_of(line: &Line) -> Option<Moment>
     ensures { result ≡ moment_of (line_view line.now) }
 {
     match line {
-        Line::Nothing | Line::Station { .. } | Line::Unbuilt => None,
+        Line::Nothing | Line::Station(_) | Line::Unbuilt => None,
         Line::Text { moment, .. }
+        | Line::Radar { moment, .. }
+        | Line::Blank { moment, .. }
         | Line::Turn { moment, .. }
         | Line::Hear { moment, .. }
+        | Line::Rx { moment, .. }
         | Line::Show { moment } => Some(*moment),
     }
 }

@@ -5,6 +5,7 @@ ghost use Rattle.life_table.specs.LifeTable.{LifeTable as Table};
 ghost use Rattle.picture_core.specs.Views.{shown_value};
 ghost use Rattle.receiver_core.specs.Reception.{Reception, received_picture};
 ghost use Rattle.ground_core.specs.Airing.{Frame};
+ghost use Rattle.uplink_frame.specs.Station.{FitsStation};
 ghost use Rattle.script_core.specs.LineView.{line_view, HasRanges};
 ghost use Rattle.script_core.specs.Script.{Line as ScriptLine, hear, station, text, turn};
 ghost use Rattle.fisb_app.specs.Output.{given_text, heard_picture, heard_text, picture_text};
@@ -14,20 +15,20 @@ ghost use Rattle.fisb_app.specs.Reading.{CanCome, own_refusal, receiver_refusal}
 ghost use Rattle.fisb_app.specs.Stands.{HasTried, IsFound, LinkHolds, aired_view, sent_view};
 
 use crate::ear::Ear;
+use crate::hearing::{receive, show};
 use crate::in_order::LineActor;
 use crate::party::Party;
-use crate::printing::{no_text, print_heard, print_picture, print_sent};
+use crate::printing::{no_text, print_sent};
 use crate::sender::Sender;
 use crate::sending::Sending;
 use crate::sent::SentFrame;
-use crate::unheard::{print_unheard, stop_of_show};
 use fisb_time::Moment;
 use fisb_wire::Bytes;
 use ground_core::AirFrame;
 use run_core::Stop;
 use script_core::{Line, Reason, Wrong};
 use std::alloc::{AllocError, Global};
-use uplink_frame::stations_are_told;
+use uplink_frame::{StationId, stations_are_told};
 
 /// What the lines acted on have made.
 #[derive(Drop)]
@@ -62,8 +63,12 @@ impl<G: Sender, E: Ear> LineActor for Link<G, E> {
 
     fn act_on(&mut self, alloc: Global, line: &Line) -> Result<Bytes, Stop> {
         match line {
-            Line::Nothing | Line::Unbuilt => Ok(no_text(alloc)),
-            Line::Station { lat, lon, site } => self.name_station(alloc, *lat, *lon, *site),
+            Line::Nothing
+            | Line::Radar { .. }
+            | Line::Blank { .. }
+            | Line::Rx { .. }
+            | Line::Unbuilt => Ok(no_text(alloc)),
+            Line::Station(station) => self.name_station(alloc, *station),
             Line::Text {
                 moment,
                 version,
@@ -75,24 +80,24 @@ impl<G: Sender, E: Ear> LineActor for Link<G, E> {
                 frame,
                 wrong,
             } => self.hear(alloc, *moment, *frame, wrong),
-            Line::Show { moment } => self.show(alloc, *moment),
+            Line::Show { moment } => show(alloc, &self.ear, *moment),
         }
     }
 }
 
 impl<G: Sender, E: Ear> Link<G, E> {
     /// Names the station.
-    fn name_station(&mut self, alloc: Global, lat: u32, lon: u32, site: u8) -> Result<Bytes, Stop>
-        requires { (lat < 2 ^ 23) × (lon < 2 ^ 24) × (site < 16) }
+    fn name_station(&mut self, alloc: Global, named: StationId) -> Result<Bytes, Stop>
+        requires { FitsStation named }
         ensures { (bytes : List ℕ) (acted : List ScriptLine)
-            → CanCome acted (station lat lon site)
+            → CanCome acted (station named)
             → LinkHolds G.stands E.stands bytes acted self.old
-            → HasTried (own_refusal self.old.sending.table acted (station lat lon site))
+            → HasTried (own_refusal Party.Link self.old.sending.table acted (station named))
             (λ given. (given ≡ given_text Party.Link heard_picture self.old.sending.table acted
-            (station lat lon site))
-            × LinkHolds G.stands E.stands bytes (station lat lon site ∷ acted) self.new) result }
+            (station named))
+            × LinkHolds G.stands E.stands bytes (station named ∷ acted) self.new) result }
     {
-        match self.sending.name_station(alloc, lat, lon, site) {
+        match self.sending.name_station(alloc, named) {
             Ok(()) => Ok(no_text(alloc)),
             Err(AllocError) => Err(Stop::NoMemory),
         }
@@ -110,7 +115,7 @@ impl<G: Sender, E: Ear> Link<G, E> {
         ensures { (bytes : List ℕ) (acted : List ScriptLine)
             → CanCome acted (text moment version report.now)
             → LinkHolds G.stands E.stands bytes acted self.old
-            → HasTried (own_refusal self.old.sending.table acted (text moment version report.now))
+            → HasTried (own_refusal Party.Link self.old.sending.table acted (text moment version report.now))
             (λ given. (given ≡ given_text Party.Link heard_picture self.old.sending.table acted
             (text moment version report.now))
             × LinkHolds G.stands E.stands bytes (text moment version report.now ∷ acted) self.new)
@@ -127,7 +132,7 @@ impl<G: Sender, E: Ear> Link<G, E> {
         requires { slot < 32 }
         ensures { (bytes : List ℕ) (acted : List ScriptLine)
             → CanCome acted (turn moment slot) → LinkHolds G.stands E.stands bytes acted self.old
-            → HasTried (own_refusal self.old.sending.table acted (turn moment slot))
+            → HasTried (own_refusal Party.Link self.old.sending.table acted (turn moment slot))
             (λ given. (given ≡ given_text Party.Link heard_picture self.old.sending.table acted
             (turn moment slot))
             × LinkHolds G.stands E.stands bytes (turn moment slot ∷ acted) self.new) result }
@@ -159,7 +164,7 @@ impl<G: Sender, E: Ear> Link<G, E> {
         ensures { (bytes : List ℕ) (acted : List ScriptLine)
             → CanCome acted (hear moment frame wrong.now)
             → LinkHolds G.stands E.stands bytes acted self.old
-            → HasTried (own_refusal self.old.sending.table acted (hear moment frame wrong.now))
+            → HasTried (own_refusal Party.Link self.old.sending.table acted (hear moment frame wrong.now))
             (λ given. (given ≡ given_text Party.Link heard_picture self.old.sending.table acted
             (hear moment frame wrong.now))
             × LinkHolds G.stands E.stands bytes (hear moment frame wrong.now ∷ acted) self.new)
@@ -170,7 +175,7 @@ impl<G: Sender, E: Ear> Link<G, E> {
             Err(reason) => return Err(Stop::Refused(reason)),
         };
         put_wrong(&mut air, wrong.all());
-        self.receive(alloc, moment, &air)
+        receive(alloc, &mut self.ear, moment, &air)
     }
 
     /// The bytes on the air of a frame that was sent, in time.
@@ -185,41 +190,6 @@ impl<G: Sender, E: Ear> Link<G, E> {
             return Err(Reason::Late);
         }
         Ok(sent.air)
-    }
-
-    /// Hears a frame, and answers its text.
-    fn receive(&mut self, alloc: Global, moment: Moment, air: &[u8; 552]) -> Result<Bytes, Stop>
-        ensures heard { (table : Table) (past : List Reception) → E.stands table past self.old.ear
-            → HasTried (receiver_refusal past moment)
-            (λ text. (text ≡ heard_text table past moment air.now)
-            × E.stands table (cons_option (reception_from past moment air.now) past) self.new.ear)
-            result }
-        ensures sending { self.new.sending ≡ self.old.sending }
-        ensures sent { self.new.sent ≡ self.old.sent }
-    {
-        match self.ear.hear(moment, air) {
-            Ok(heard) => match print_heard(alloc, moment, &heard) {
-                Ok(text) => Ok(text),
-                Err(AllocError) => Err(Stop::NoMemory),
-            },
-            Err(fault) => print_unheard(alloc, moment, fault),
-        }
-    }
-
-    /// The text of the picture at a moment.
-    fn show(&self, alloc: Global, moment: Moment) -> Result<Bytes, Stop>
-        ensures { (table : Table) (past : List Reception) → E.stands table past self.now.ear
-            → HasTried (receiver_refusal past moment)
-            (λ text. text ≡ picture_text moment
-            (map shown_value (received_picture table past moment))) result }
-    {
-        match self.ear.picture(alloc, moment) {
-            Ok(entries) => match print_picture(alloc, moment, entries.all()) {
-                Ok(text) => Ok(text),
-                Err(AllocError) => Err(Stop::NoMemory),
-            },
-            Err(fault) => Err(stop_of_show(fault)),
-        }
     }
 }
 

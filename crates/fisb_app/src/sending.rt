@@ -1,5 +1,6 @@
 //! What both commands do: naming a station, giving texts and filling frames.
 ghost use Rattle.std.specs.Prelude.{◌≡◌, ℕ, ◌<◌, ◌^◌, ◌∷◌, List, [], None, Some, false, IfErr, IfOk, OnOk, length};
+ghost use Rattle.uplink_frame.specs.Station.{FitsStation};
 ghost use Rattle.ground_core.specs.Airing.{frame_after};
 ghost use Rattle.ground_core.specs.OnAir.{IsOnAir};
 ghost use Rattle.run_core.specs.Actor.{HasOpened};
@@ -52,27 +53,15 @@ impl<G: Sender> Sending<G> {
     }
 
     /// Names the station, before any other line.
-    pub(crate) fn name_station(
-        &mut self,
-        alloc: Global,
-        lat: u32,
-        lon: u32,
-        site: u8,
-    ) -> Result<(), AllocError>
-        requires { (lat < 2 ^ 23) × (lon < 2 ^ 24) × (site < 16) }
+    pub(crate) fn name_station(&mut self, alloc: Global, named: StationId) -> Result<(), AllocError>
+        requires { FitsStation named }
         ensures named { (bytes : List ℕ) (acted : List ScriptLine) → has_begun acted ≡ false
             → Holds G.stands bytes acted self.old
-            → OnOk result (Holds G.stands bytes (station lat lon site ∷ acted) self.new) }
+            → OnOk result (Holds G.stands bytes (station named ∷ acted) self.new) }
         ensures table { self.new.table ≡ self.old.table }
     {
-        let station = StationId {
-            lat,
-            lon,
-            position_valid: true,
-            site,
-        };
         let table = self.table.copy(alloc)?;
-        self.ground = G::new(alloc, station, table);
+        self.ground = G::new(alloc, named, table);
         Ok(())
     }
 
@@ -129,7 +118,7 @@ impl<G: Sender> Sending<G> {
 }
 
 /// The table of some bytes: no bytes stand for the default one.
-fn read_table(alloc: Global, bytes: &[u8]) -> Result<LifeTable, Stop>
+pub(crate) fn read_table(alloc: Global, bytes: &[u8]) -> Result<LifeTable, Stop>
     ensures { HasRead (opening_table bytes.now) result }
 {
     if bytes.is_empty() {

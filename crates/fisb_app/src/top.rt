@@ -1,18 +1,21 @@
 //! The top call.
-ghost use Rattle.std.specs.Prelude.{◌≡◌, ◌≤◌, ◌↔◌, None, Some, map, string_bytes};
+ghost use Rattle.std.specs.Prelude.{◌≡◌, ℕ, ◌≤◌, ◌↔◌, None, Some, map, string_bytes};
 ghost use Rattle.fisb_wire.specs.Faults.{Rose};
 ghost use Rattle.run_core.specs.Run.{HasRun, IsDecided, ends, sink_end, task_of};
-ghost use Rattle.fisb_app.specs.Command.{RefusesInWriting, command_named};
+ghost use Rattle.fisb_app.specs.Command.{command_named};
 ghost use Rattle.fisb_app.specs.declared.command.Command.{Command};
 ghost use Rattle.fisb_app.specs.Unbuilt.{HasRefused};
-ghost use Rattle.fisb_app.specs.Work.{ground_work, link_work, promised_work};
+ghost use Rattle.fisb_app.specs.Origin.{IsOrigin, Origin};
+ghost use Rattle.fisb_app.specs.Work.{gdl_work, ground_work, link_work, origin_work, promised_work, receive_work};
 
 use crate::command::{Command, command_of};
 use crate::ear::Ear;
 use crate::ground_alone::GroundAlone;
 use crate::in_order::InOrder;
-use crate::laws::promises_are_kept;
+use crate::laws::{origins_are_told, promises_are_kept};
 use crate::link::Link;
+use crate::receiver_alone::ReceiverAlone;
+use crate::relay::Relay;
 use fisb_wire::{Sink, Source};
 use ground_core::Ground;
 use receiver_core::Receiver;
@@ -65,16 +68,43 @@ pub fn run<S: Source, K: Sink>(
         (ends (S.left source.new) (S.faults source.new) (K.written sink.new) (K.faults sink.new))
         result }
 
-    // The commands that are not built yet: nothing is read, and line 1 is refused; `gdl` writes
-    // nothing.
-    ensures unbuilt { (command : Command)
-        → command_named (map string_bytes words.now) ≡ Some command → RefusesInWriting command
+    // `receive`: the same; and that each picture is the link picture of a broadcast whose frames
+    // were heard in time, with at most ten wrong bytes in each block.
+    ensures receive { command_named (map string_bytes words.now) ≡ Some Command.Receive
+        → HasRun (task_of receive_work)
+        (ends (S.left source.old) (S.faults source.old) (K.written sink.old) (K.faults sink.old))
+        (ends (S.left source.new) (S.faults source.new) (K.written sink.new) (K.faults sink.new))
+        result }
+    ensures receive_headline { (origin : Origin) → IsOrigin origin
+        → command_named (map string_bytes words.now) ≡ Some Command.Receive
+        → HasRun (task_of (origin_work origin))
+        (ends (S.left source.old) (S.faults source.old) (K.written sink.old) (K.faults sink.old))
+        (ends (S.left source.new) (S.faults source.new) (K.written sink.new) (K.faults sink.new))
+        result }
+    ensures receive_decided { command_named (map string_bytes words.now) ≡ Some Command.Receive
+        → IsDecided (task_of receive_work)
+        (ends (S.left source.old) (S.faults source.old) (K.written sink.old) (K.faults sink.old))
+        (ends (S.left source.new) (S.faults source.new) (K.written sink.new) (K.faults sink.new))
+        result }
+
+    // `gdl`: the same, with messages for displays alone.
+    ensures gdl { command_named (map string_bytes words.now) ≡ Some Command.Gdl
+        → HasRun (task_of gdl_work)
+        (ends (S.left source.old) (S.faults source.old) (K.written sink.old) (K.faults sink.old))
+        (ends (S.left source.new) (S.faults source.new) (K.written sink.new) (K.faults sink.new))
+        result }
+    ensures gdl_decided { command_named (map string_bytes words.now) ≡ Some Command.Gdl
+        → IsDecided (task_of gdl_work)
+        (ends (S.left source.old) (S.faults source.old) (K.written sink.old) (K.faults sink.old))
+        (ends (S.left source.new) (S.faults source.new) (K.written sink.new) (K.faults sink.new))
+        result }
+
+    // `make`, which is not built yet: nothing is read, and line 1 is refused.
+    ensures unbuilt { (count seed : ℕ)
+        → command_named (map string_bytes words.now) ≡ Some (Command.Make count seed)
         → (source.new ≡ source.old) × HasRefused
         (sink_end (K.written sink.old) (K.faults sink.old))
         (sink_end (K.written sink.new) (K.faults sink.new)) result }
-    ensures gdl { command_named (map string_bytes words.now) ≡ Some Command.Gdl
-        → (source.new ≡ source.old) × (sink.new ≡ sink.old)
-        × (result ≡ Status.Refused 1 Reason.NotBuilt) }
 
     // What the counts of faults of source and sink tell.
     ensures read_fault { result ≡ Status.ReadFault
@@ -92,7 +122,7 @@ pub fn run<S: Source, K: Sink>(
         Some(Command::Ground) => run_ground(alloc, source, sink),
         Some(Command::Receive) => run_receive(alloc, source, sink),
         Some(Command::Gdl) => run_gdl(alloc, source, sink),
-        Some(Command::Make) => refuse(alloc, sink),
+        Some(Command::Make { count, seed }) => run_make(alloc, count, seed, sink),
     }
 }
 
@@ -182,30 +212,57 @@ pub fn run_ground<S: Source, K: Sink>(alloc: Global, source: &mut S, sink: &mut 
     run_core::run::<InOrder<GroundAlone<Ground>>, S, K>(alloc, source, sink)
 }
 
-/// Runs `receive`, which is not built yet: nothing is read, and line 1 is refused.
+/// Runs `receive`: acts on the lines of the script that the source gives, as a receiver alone.
 pub fn run_receive<S: Source, K: Sink>(alloc: Global, source: &mut S, sink: &mut K) -> Status
     requires { K.spare sink.old ≡ None }
-    ensures unread { source.new ≡ source.old }
-    ensures refused { HasRefused (sink_end (K.written sink.old) (K.faults sink.old))
-        (sink_end (K.written sink.new) (K.faults sink.new)) result }
+    ensures ran { HasRun (task_of receive_work)
+        (ends (S.left source.old) (S.faults source.old) (K.written sink.old) (K.faults sink.old))
+        (ends (S.left source.new) (S.faults source.new) (K.written sink.new) (K.faults sink.new))
+        result }
+    ensures headline { (origin : Origin) → IsOrigin origin → HasRun (task_of (origin_work origin))
+        (ends (S.left source.old) (S.faults source.old) (K.written sink.old) (K.faults sink.old))
+        (ends (S.left source.new) (S.faults source.new) (K.written sink.new) (K.faults sink.new))
+        result }
+    ensures decided { IsDecided (task_of receive_work)
+        (ends (S.left source.old) (S.faults source.old) (K.written sink.old) (K.faults sink.old))
+        (ends (S.left source.new) (S.faults source.new) (K.written sink.new) (K.faults sink.new))
+        result }
+    ensures read_fault { result ≡ Status.ReadFault
+        → Rose (S.faults source.old) (S.faults source.new) }
+    ensures write_fault { result ≡ Status.WriteFault
+        → Rose (K.faults sink.old) (K.faults sink.new) }
+    ensures source_faults { S.faults source.old ≤ S.faults source.new }
     ensures sink_faults { K.faults sink.old ≤ K.faults sink.new }
     ensures spare { K.spare sink.new ≡ None }
     ensures reach { K.reach sink.new ≡ K.reach sink.old }
 {
-    refuse(alloc, sink)
+    runs_agree();
+    origins_are_told();
+    run_core::run::<InOrder<ReceiverAlone<Receiver>>, S, K>(alloc, source, sink)
 }
 
-/// Runs `gdl`, which is not built yet: nothing is read, line 1 is refused, and nothing is written.
+/// Runs `gdl`: acts on the lines of the script that the source gives, and writes the messages for
+/// displays.
 pub fn run_gdl<S: Source, K: Sink>(alloc: Global, source: &mut S, sink: &mut K) -> Status
     requires { K.spare sink.old ≡ None }
-    ensures unread { source.new ≡ source.old }
-    ensures unwritten { sink.new ≡ sink.old }
-    ensures refused { result ≡ Status.Refused 1 Reason.NotBuilt }
+    ensures ran { HasRun (task_of gdl_work)
+        (ends (S.left source.old) (S.faults source.old) (K.written sink.old) (K.faults sink.old))
+        (ends (S.left source.new) (S.faults source.new) (K.written sink.new) (K.faults sink.new))
+        result }
+    ensures decided { IsDecided (task_of gdl_work)
+        (ends (S.left source.old) (S.faults source.old) (K.written sink.old) (K.faults sink.old))
+        (ends (S.left source.new) (S.faults source.new) (K.written sink.new) (K.faults sink.new))
+        result }
+    ensures read_fault { result ≡ Status.ReadFault
+        → Rose (S.faults source.old) (S.faults source.new) }
+    ensures write_fault { result ≡ Status.WriteFault
+        → Rose (K.faults sink.old) (K.faults sink.new) }
+    ensures source_faults { S.faults source.old ≤ S.faults source.new }
+    ensures sink_faults { K.faults sink.old ≤ K.faults sink.new }
+    ensures spare { K.spare sink.new ≡ None }
+    ensures reach { K.reach sink.new ≡ K.reach sink.old }
 {
-    Status::Refused {
-        line: 1,
-        reason: Reason::NotBuilt,
-    }
+    run_core::run::<InOrder<Relay>, S, K>(alloc, source, sink)
 }
 
 /// Runs `make` for so many minutes of traffic from a seed, which is not built yet: line 1 is

@@ -7,6 +7,7 @@ use fisb_app::{
     Ear, Reason, Status, run_gdl, run_ground, run_link, run_link_over, run_make, run_receive,
 };
 use fisb_time::Moment;
+use gdl90_core::{Deframer, Framed};
 use fisb_wire::{Bytes, FaithfulSource, MemorySink, MemorySource, Numbers, PieceSource};
 use life_table::LifeTable;
 use picture_core::Entries;
@@ -23,6 +24,18 @@ const HEARD: &[u8] = b"sent 0 1700000001 0 1 15\nheard 1700000002 0 0 0 0 0 0 0 
 
 const SHOWN: &[u8] =
     b"sent 0 1700000001 0 1 15\nheard 1700000002 0 0 0 0 0 0 0 0\npicture 1700000003 1\ntext METAR KSEA 1699999980 METAR KSEA\n";
+
+// The first lines of the script.
+const GIVEN: &[u8] = b"---\ntext 1700000000 1699999980 METAR KSEA\nturn 1700000001 0\n";
+
+const RECEIVED: &[u8] =
+    b"heard 1700000002 0 0 0 0 0 0 0 0\npicture 1700000003 1\ntext METAR KSEA 1699999980 METAR KSEA\n";
+
+// Message 7, an unknown time, a header, and an information frame of a header at 22:13 and the METAR.
+const MESSAGE_FRONT: [u8; 27] = [
+    0x07, 0xff, 0xff, 0xff, 0x00, 0x00, 0x00, 0x00, 0x00, 0x00, 0xa0, 0x00, 0x06, 0x80, 0x06, 0x74,
+    0x58, 0xd0, 0x34, 0x55, 0x01, 0x4a, 0x02, 0xd3, 0x14, 0x10, 0x00,
+];
 
 fn script(alloc: Global) -> Result<Bytes, AllocError> {
     Ok(Bytes::of(Vec::from_slice(alloc, SCRIPT)?))
@@ -103,21 +116,82 @@ fn the_sizes_of_the_reads_change_nothing(rt: HostRuntime) -> Result<(), Fail> {
 #[test]
 fn each_command_has_a_call_of_its_own(rt: HostRuntime) -> Result<(), Fail> {
     let alloc = rt.alloc();
-    let refused = Status::Refused {
+    let not_built = Status::Refused {
         line: 1,
         reason: Reason::NotBuilt,
     };
     let mut source = FaithfulSource::new(script(alloc)?);
     let mut sink = MemorySink::new(alloc, 4096, numbers(alloc, &[])?)?;
-    assert_eq!(rt; run_receive(alloc, &mut source, &mut sink), refused);
-    assert_eq!(rt; run_gdl(alloc, &mut source, &mut sink), refused);
-    assert_eq!(rt; run_make(alloc, 1, 2, &mut sink), refused);
+    assert_eq!(rt; run_make(alloc, 1, 2, &mut sink), not_built);
     let not_here = Status::Refused {
         line: 4,
         reason: Reason::NotHere,
     };
     assert_eq!(rt; run_ground(alloc, &mut source, &mut sink), not_here);
     assert_eq!(rt; run_link(alloc, &mut source, &mut sink).code(), 3);
+    Ok(())
+}
+
+// A script with one frame: that of the METAR, as a ground writes it.
+fn frame_script(alloc: Global, show: &[u8]) -> Result<Vec<u8>, AllocError> {
+    let given = Vec::from_slice(alloc, GIVEN)?;
+    let mut source = FaithfulSource::new(Bytes::of(given));
+    let mut sink = MemorySink::new(alloc, 4096, numbers(alloc, &[])?)?;
+    let status = run_ground(alloc, &mut source, &mut sink);
+    let mut script = Vec::from_slice(alloc, b"---\nrx 1700000002 ")?;
+    if status == Status::Done {
+        let digits = sink.taken().split(|byte| *byte == b' ').last();
+        script.extend_from_slice(digits.unwrap_or(b""))?;
+    }
+    script.extend_from_slice(show)?;
+    Ok(script)
+}
+
+#[test]
+fn a_frame_of_a_ground_is_received(rt: HostRuntime) -> Result<(), Fail> {
+    let script = frame_script(rt.alloc(), b"show 1700000003\n")?;
+    let mut source = FaithfulSource::new(Bytes::of(script));
+    let mut sink = MemorySink::new(rt.alloc(), 4096, numbers(rt.alloc(), &[])?)?;
+    assert_eq!(rt; run_receive(rt.alloc(), &mut source, &mut sink), Status::Done);
+    assert_eq!(rt; sink.taken(), RECEIVED);
+    Ok(())
+}
+
+// Whether the bytes are this message alone, framed.
+fn is_message(bytes: &[u8], message: &[u8]) -> bool {
+    let mut deframer = Deframer::new();
+    let mut told = 0u32;
+    let mut is_same = false;
+    for byte in bytes {
+        if let Some(framed) = deframer.feed(*byte) {
+            told = told.saturating_add(1);
+            is_same = framed == Framed::Message(message);
+        }
+    }
+    told == 1 && is_same
+}
+
+#[test]
+fn a_frame_of_a_ground_is_handed_on_to_displays(rt: HostRuntime) -> Result<(), Fail> {
+    let mut source = FaithfulSource::new(Bytes::of(frame_script(rt.alloc(), b"")?));
+    let mut sink = MemorySink::new(rt.alloc(), 4096, numbers(rt.alloc(), &[])?)?;
+    assert_eq!(rt; run_gdl(rt.alloc(), &mut source, &mut sink), Status::Done);
+    let mut message = [0; 436];
+    message[..27].copy_from_slice(&MESSAGE_FRONT);
+    assert!(rt; is_message(sink.taken(), &message));
+    Ok(())
+}
+
+#[test]
+fn a_frame_without_valid_application_data_is_handed_on_too(rt: HostRuntime) -> Result<(), Fail> {
+    let mut script = Vec::from_slice(rt.alloc(), b"---\nrx 1700000000 ")?;
+    script.extend_from_slice(&[b'0'; 1104])?;
+    let mut source = FaithfulSource::new(Bytes::of(script));
+    let mut sink = MemorySink::new(rt.alloc(), 4096, numbers(rt.alloc(), &[])?)?;
+    assert_eq!(rt; run_gdl(rt.alloc(), &mut source, &mut sink), Status::Done);
+    let mut message = [0; 436];
+    message[..4].copy_from_slice(&[0x07, 0xff, 0xff, 0xff]);
+    assert!(rt; is_message(sink.taken(), &message));
     Ok(())
 }
 

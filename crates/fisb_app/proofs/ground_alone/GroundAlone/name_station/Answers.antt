@@ -6,7 +6,7 @@ use Rattle.fisb_app.proofs.ground_alone.GroundAlone.name_station.Goals as goal
 
 pub returns-in-Ok : goal.returns-in-Ok
 returns-in-Ok g c = λ bytes acted can h.
-    let line = station c.args.lat c.args.lon c.args.site in
+    let line = station c.args.named in
     let begun = can.first refl in (
       refl,
       (

@@ -1,4 +1,4 @@
-use Rattle.std.proofs.Common.{ap, ◌∙◌}
+use Rattle.std.proofs.Common.{refl, ap, ◌∙◌}
 use Rattle.fisb_app.specs.Past.{air_heard}
 use Rattle.fisb_app.proofs.Acting.{heard-line, unfound-line}
 use Rattle.fisb_app.proofs.link.Link.hear.Goals as goal
@@ -6,10 +6,10 @@ use Rattle.fisb_app.proofs.link.Link.hear.Goals as goal
 pub returns : goal.returns
 returns g c = λ bytes acted can h.
     let table = c.args.self.now.sending.table in
-    heard-line g.G.Sender.stands g.E.Ear.stands bytes acted c.args.moment c.args.frame c.args.wrong.now c.args.self.now c.receive.new.self c.in-Ok.air _ _ h
-    c.receive.ensures.sending c.receive.ensures.sent (c.in-Ok.ensures _ h.sent)
+    heard-line g.G.Sender.stands g.E.Ear.stands bytes acted c.args.moment c.args.frame c.args.wrong.now c.args.self.now (record c.args.self.now { ear = c.receive.new.ear }) c.in-Ok.air _ _ h
+    refl refl (c.in-Ok.ensures _ h.sent)
     (c.put_wrong.ensures ∙ ap (λ wrong. air_heard wrong c.in-Ok.air) c.all.ensures)
-    (c.receive.ensures.heard table _ h.ear)
+    (c.receive.ensures table _ h.ear)
 
 pub returns-in-Err : goal.returns-in-Err
 returns-in-Err g c = λ bytes acted can h.

@@ -6,7 +6,7 @@ use Rattle.fisb_app.proofs.sending.Sending.name_station.Goals as goal
 
 pub returns-clause-named : goal.returns-clause-named
 returns-clause-named g c = λ bytes acted none h.
-    let now = station_of (station c.args.lat c.args.lon c.args.site ∷ acted) in
+    let now = station_of (station c.args.named ∷ acted) in
     let sends = g.G.Sender.stands in record {
       opened = h.opened;
       ground = subst (λ e. sends c.args.self.now.table now e c.new.result) (sym (unbegun-events acted none))

@@ -4,7 +4,7 @@ use Rattle.receiver_core.specs.Hearing.{clock_of}
 use Rattle.segment_core.specs.Store.{last_above}
 use Rattle.fisb_app.specs.Output.{picture_text}
 use Rattle.fisb_app.proofs.Acting.{shown-text}
-use Rattle.fisb_app.proofs.link.Link.show.Goals as goal
+use Rattle.fisb_app.proofs.hearing.show.Goals as goal
 
 pub returns-in-Ok-print_picture : goal.returns-in-Ok-print_picture
 returns-in-Ok-print_picture g c = λ table past s.

@@ -1,0 +1,79 @@
+//! The command `gdl`: hands the payloads of frames on to displays.
+ghost use Rattle.std.specs.Prelude.{◌≡◌, ℕ, ◌∷◌, List, IfOk};
+ghost use Rattle.uplink_weave.specs.Functions.{payload_in};
+ghost use Rattle.script_core.specs.Script.{Line as ScriptLine};
+ghost use Rattle.fisb_app.specs.declared.party.Party.TheVariants.{Gdl as TheGdl};
+ghost use Rattle.fisb_app.specs.Output.{display_bytes};
+ghost use Rattle.fisb_app.specs.Stands.{RelayHolds};
+
+use crate::in_order::LineActor;
+use crate::party::Party;
+use crate::printing::no_text;
+use crate::sending::read_table;
+use arrayvec::ArrayVec;
+use fisb_wire::Bytes;
+use gdl90_core::{frame_message, uplink_message};
+use life_table::LifeTable;
+use run_core::Stop;
+use script_core::Line;
+use std::alloc::{AllocError, Global};
+use uplink_weave::unweave;
+
+/// The time of reception that says that it is not known.
+const UNKNOWN_TIME: u32 = 0x00ff_ffff;
+
+/// What the lines acted on have made: nothing but the table, which each script opens with.
+#[derive(Drop)]
+pub(crate) struct Relay {
+    pub(crate) table: LifeTable,
+}
+
+impl LineActor for Relay {
+    ghost PARTY = { TheGdl };
+
+    const PARTY: Party = Party::Gdl;
+
+    ghost table = { λ actor. actor.table };
+
+    ghost holds = { RelayHolds };
+
+    ghost opened = { λ bytes acted actor h. h.opened };
+
+    fn new(alloc: Global, bytes: &[u8]) -> Result<Relay, Stop> {
+        let table = read_table(alloc, bytes)?;
+        Ok(Relay { table })
+    }
+
+    fn act_on(&mut self, alloc: Global, line: &Line) -> Result<Bytes, Stop> {
+        match line {
+            Line::Nothing
+            | Line::Station(_)
+            | Line::Text { .. }
+            | Line::Radar { .. }
+            | Line::Blank { .. }
+            | Line::Turn { .. }
+            | Line::Hear { .. }
+            | Line::Show { .. }
+            | Line::Unbuilt => Ok(no_text(alloc)),
+            Line::Rx { air, .. } => match display_message(alloc, air) {
+                Ok(bytes) => Ok(bytes),
+                Err(AllocError) => Err(Stop::NoMemory),
+            },
+        }
+    }
+}
+
+/// The framed message of the payload of a frame, and nothing where it has none.
+fn display_message(alloc: Global, air: &[u8; 552]) -> Result<Bytes, AllocError>
+    ensures { IfOk result (λ bytes. bytes ≡ display_bytes (payload_in air.now)) }
+{
+    let mut payload = [0; 432];
+    let Ok(_) = unweave(air, &mut payload) else {
+        return Ok(no_text(alloc));
+    };
+    let message = uplink_message(UNKNOWN_TIME, &payload);
+    let mut framed = ArrayVec::new();
+    frame_message(&message, &mut framed);
+    let bytes = Vec::from_slice(alloc, framed.as_slice())?;
+    Ok(Bytes::of(bytes))
+}
