@@ -68,6 +68,7 @@ impl LifeTable {
     pub fn radar_row(&self, product: u16) -> Option<RadarRow>
         ensures row { option_map (λ r. spec.radar product r.life r.form) result
             ≡ spec.radar_row self.now product }
+        ensures bounded { IfSome result (λ row. row.life ≤ spec.thirty_days) }
         ensures rules { IsTable self.now }
     {
         let Some(row) = radar_of(self.radars.as_slice(), product) else {
