@@ -84,6 +84,7 @@ impl LifeTable {
     pub fn longest(&self, product: u16) -> Option<u64>
         ensures life { result ≡ spec.longest self.now product }
         ensures bounded { IfSome result (λ life. life ≤ spec.thirty_days) }
+        ensures rules { IsTable self.now }
     {
         if product == TEXT_PRODUCT {
             greatest_text_life(self.texts.as_slice())
