@@ -8,14 +8,15 @@ use Rattle.picture_core.specs.Entry.{Entry}
 use Rattle.picture_core.specs.Key.{Key, same_key, key_cmp}
 use Rattle.list_members.specs.Membership.{IsIn}
 use Rattle.picture_core.specs.Picture.{shown_at, with_key, picture}
-use Rattle.picture_core.specs.Kept.{AreAbove, IsRising, keys, newer_of, put, put_all, live_entries, IsStore, IsMonotone}
+use Rattle.picture_core.specs.Kept.{AreAbove, IsRising, kept_at, keys, newer_of, put, put_all, live_entries, IsStore, IsMonotone}
 use Rattle.picture_core.specs.Kept.{AreMonotone, HasLife, HaveLife}
+use Rattle.picture_core.specs.Shown.{shown_with}
 use Rattle.picture_core.proofs.Keys.{equal_keys, equal_from_key_cmp, apart_above, below_from_above}
 use Rattle.picture_core.proofs.KeysRising.{by_order, AreAbove-lower, IsRising-with_key}
 use Rattle.list_members.proofs.Members.{IsIn-before, IsIn-after, IsIn-either}
-use Rattle.picture_core.proofs.PicturesFound.{found, found-same, found-other, found-above, found-live, live}
+use Rattle.picture_core.proofs.PicturesFound.{kept_at-same, kept_at-other, kept_at-above, kept_at-live, live}
 use Rattle.picture_core.proofs.PicturesFound.{IsRising-filter, same_entries}
-use Rattle.picture_core.proofs.PicturesShown.{joined, IsRising-picture, found-picture, shown_at-push}
+use Rattle.picture_core.proofs.PicturesShown.{IsRising-picture, kept_at-picture, shown_at-push}
 
 -- the newer of two entries of one key has that key
 newer-key : (kept e : Entry) → e.key ≡ kept.key → (newer_of kept e).key ≡ kept.key
@@ -38,51 +39,51 @@ pub IsRising-put : (e : Entry) (kept : List Entry) → IsRising (keys kept) → 
 IsRising-put e kept rising = subst IsRising (sym (keys-put e kept)) (IsRising-with_key e.key (keys kept) rising)
 
 -- what a put entry changes is found at its key alone
-pub found-put_own :
+pub kept_at-put_own :
     (e : Entry) (kept : List Entry) (k : Key) → IsRising (keys kept) → same_key k e.key ≡ true
-    → found k (put e kept) ≡ Some (joined (found k kept) e)
-found-put_own e [] k rising own = found-same k e [] own
-found-put_own e (x ∷ more) k rising own =
+    → kept_at k (put e kept) ≡ shown_with (kept_at k kept) (Some e)
+kept_at-put_own e [] k rising own = kept_at-same k e [] own
+kept_at-put_own e (x ∷ more) k rising own =
     let at_e = equal_keys k e.key own in
-    by_order (λ (l : List Entry). found k l ≡ Some (joined (found k (x ∷ more)) e)) (key_cmp e.key x.key)
+    by_order (λ (l : List Entry). kept_at k l ≡ shown_with (kept_at k (x ∷ more)) (Some e)) (key_cmp e.key x.key)
     (e ∷ x ∷ more) (newer_of x e ∷ more) (x ∷ put e more)
     (λ is.
-    let none : found k (x ∷ more) ≡ None =
-    found-above k (x ∷ more)
+    let none : kept_at k (x ∷ more) ≡ None =
+    kept_at-above k (x ∷ more)
     (subst (λ (q : Key). AreAbove q (keys (x ∷ more))) (sym at_e) (is, AreAbove-lower e.key x.key (keys more) is rising.0)) in
-    found-same k e (x ∷ more) own ∙ ap (λ (o : Option Entry). Some (joined o e)) (sym none))
+    kept_at-same k e (x ∷ more) own ∙ ap (λ (o : Option Entry). shown_with o (Some e)) (sym none))
     (λ is.
     let at_x : e.key ≡ x.key = equal_from_key_cmp e.key x.key is in
-    let here : found k (x ∷ more) ≡ Some x = found-same k x more (ap (same_key k) (sym at_x) ∙ own) in
-    found-same k (newer_of x e) more (ap (same_key k) (newer-key x e at_x ∙ sym at_x) ∙ own)
-    ∙ ap (λ (o : Option Entry). Some (joined o e)) (sym here))
+    let here : kept_at k (x ∷ more) ≡ Some x = kept_at-same k x more (ap (same_key k) (sym at_x) ∙ own) in
+    kept_at-same k (newer_of x e) more (ap (same_key k) (newer-key x e at_x ∙ sym at_x) ∙ own)
+    ∙ ap (λ (o : Option Entry). shown_with o (Some e)) (sym here))
     (λ is.
     let other : same_key k x.key ≡ false =
     ap (λ (q : Key). same_key q x.key) at_e ∙ apart_above x.key e.key (below_from_above e.key x.key is) in
-    found-other k x (put e more) other ∙ found-put_own e more k rising.1 own
-    ∙ ap (λ (o : Option Entry). Some (joined o e)) (sym (found-other k x more other)))
+    kept_at-other k x (put e more) other ∙ kept_at-put_own e more k rising.1 own
+    ∙ ap (λ (o : Option Entry). shown_with o (Some e)) (sym (kept_at-other k x more other)))
 
-pub found-put_other :
-    (e : Entry) (kept : List Entry) (k : Key) → same_key k e.key ≡ false → found k (put e kept) ≡ found k kept
-found-put_other e [] k other = found-other k e [] other
-found-put_other e (x ∷ more) k other =
-    by_order (λ (l : List Entry). found k l ≡ found k (x ∷ more)) (key_cmp e.key x.key)
+pub kept_at-put_other :
+    (e : Entry) (kept : List Entry) (k : Key) → same_key k e.key ≡ false → kept_at k (put e kept) ≡ kept_at k kept
+kept_at-put_other e [] k other = kept_at-other k e [] other
+kept_at-put_other e (x ∷ more) k other =
+    by_order (λ (l : List Entry). kept_at k l ≡ kept_at k (x ∷ more)) (key_cmp e.key x.key)
     (e ∷ x ∷ more) (newer_of x e ∷ more) (x ∷ put e more)
-    (λ is. found-other k e (x ∷ more) other)
+    (λ is. kept_at-other k e (x ∷ more) other)
     (λ is.
     let at_x : e.key ≡ x.key = equal_from_key_cmp e.key x.key is in
-    found-other k (newer_of x e) more (ap (same_key k) (newer-key x e at_x ∙ sym at_x) ∙ other)
-    ∙ sym (found-other k x more (ap (same_key k) (sym at_x) ∙ other)))
-    (λ is. ap (λ (o : Option Entry). cond (same_key k x.key) (Some x) o) (found-put_other e more k other))
+    kept_at-other k (newer_of x e) more (ap (same_key k) (newer-key x e at_x ∙ sym at_x) ∙ other)
+    ∙ sym (kept_at-other k x more (ap (same_key k) (sym at_x) ∙ other)))
+    (λ is. ap (λ (o : Option Entry). cond (same_key k x.key) (Some x) o) (kept_at-put_other e more k other))
 
 -- a kept entry against a new one of its key, at any moment
 abbrev pub LastsAgainst : Entry → Entry → Type 0
 LastsAgainst e f = (f.version < e.version → f.until ≤ e.until) × (e.version ≤ f.version → e.until ≤ f.until)
 
-joined-live_some :
+shown_with-live_some :
     (m : ℕ) (f e : Entry) → LastsAgainst e f
-    → cond (nat_lt m e.until) (Some (joined (live m (Some f)) e)) (live m (Some f)) ≡ live m (Some (newer_of f e))
-joined-live_some m f e lasts = elim (cases_Bool (nat_lt f.version e.version)) [
+    → cond (nat_lt m e.until) (shown_with (live m (Some f)) (Some e)) (live m (Some f)) ≡ live m (Some (newer_of f e))
+shown_with-live_some m f e lasts = elim (cases_Bool (nat_lt f.version e.version)) [
   | inl newer_is ↦
       let last : f.until ≤ e.until = lasts.0 (ltb-true f.version e.version newer_is) in
       elim (cases_Bool (nat_lt m e.until)) [
@@ -106,50 +107,50 @@ joined-live_some m f e lasts = elim (cases_Bool (nat_lt f.version e.version)) [
       ]
 ]
 
-joined-live :
+shown_with-live :
     (m : ℕ) (o : Option Entry) (e : Entry) → ((f : Entry) → o ≡ Some f → LastsAgainst e f)
-    → cond (nat_lt m e.until) (Some (joined (live m o) e)) (live m o) ≡ live m (Some (joined o e))
-joined-live m None e lasts = refl
-joined-live m (Some f) e lasts = joined-live_some m f e (lasts f refl)
+    → cond (nat_lt m e.until) (shown_with (live m o) (Some e)) (live m o) ≡ live m (shown_with o (Some e))
+shown_with-live m None e lasts = refl
+shown_with-live m (Some f) e lasts = shown_with-live_some m f e (lasts f refl)
 
 -- what is found is there, under its key
-pub found-in : (k : Key) (entries : List Entry) (f : Entry) → found k entries ≡ Some f → IsIn f entries × (f.key ≡ k)
-found-in k [] f is = absurd (cc)
-found-in k (x ∷ more) f is = elim (cases_Bool (same_key k x.key)) [
+pub kept_at-in : (k : Key) (entries : List Entry) (f : Entry) → kept_at k entries ≡ Some f → IsIn f entries × (f.key ≡ k)
+kept_at-in k [] f is = absurd (cc)
+kept_at-in k (x ∷ more) f is = elim (cases_Bool (same_key k x.key)) [
   | inl same ↦
-      let here = found-same k x more same in
+      let here = kept_at-same k x more same in
       let equal : f ≡ x = cc in
       (inl equal, ap (λ (z : Entry). z.key) equal ∙ sym (equal_keys k x.key same))
-  | inr other ↦ let rest = found-in k more f (sym (found-other k x more other) ∙ is) in (inr rest.0, rest.1)
+  | inr other ↦ let rest = kept_at-in k more f (sym (kept_at-other k x more other) ∙ is) in (inr rest.0, rest.1)
 ]
 
 -- what is shown at a key by all entries, by the kept ones
 shown_at-store :
     (now : ℕ) (contents kept : List Entry) → IsStore now contents kept → (m : ℕ) (k : Key) → now ≤ m
-    → shown_at contents m k ≡ live m (found k kept)
+    → shown_at contents m k ≡ live m (kept_at k kept)
 shown_at-store now contents kept store m k late =
-    sym (found-picture contents m k) ∙ ap (found k) (store.pictures m late) ∙ found-live k m kept store.rising
+    sym (kept_at-picture contents m k) ∙ ap (kept_at k) (store.pictures m late) ∙ kept_at-live k m kept store.rising
 
 shown_at-put :
     (now : ℕ) (contents kept : List Entry) (e : Entry) → IsStore now contents kept → IsMonotone contents e → (m : ℕ) (k : Key)
-    → now ≤ m → shown_at (contents ++ e ∷ []) m k ≡ live m (found k (put e kept))
+    → now ≤ m → shown_at (contents ++ e ∷ []) m k ≡ live m (kept_at k (put e kept))
 shown_at-put now contents kept e store monotone m k late = elim (cases_Bool (same_key k e.key)) [
   | inl own ↦
       let at_e = equal_keys k e.key own in
       shown_at-push contents m k e
-      ∙ ap (λ (b : Bool). cond (b && nat_lt m e.until) (Some (joined (shown_at contents m k) e)) (shown_at contents m k)) own
-      ∙ ap (λ (o : Option Entry). cond (nat_lt m e.until) (Some (joined o e)) o) (shown_at-store now contents kept store m k late)
-      ∙ joined-live m (found k kept) e (λ f is.
-      let there = found-in k kept f is in
+      ∙ ap (λ (b : Bool). cond (b && nat_lt m e.until) (shown_with (shown_at contents m k) (Some e)) (shown_at contents m k)) own
+      ∙ ap (λ (o : Option Entry). cond (nat_lt m e.until) (shown_with o (Some e)) o) (shown_at-store now contents kept store m k late)
+      ∙ shown_with-live m (kept_at k kept) e (λ f is.
+      let there = kept_at-in k kept f is in
       let same : f.key ≡ e.key = there.1 ∙ at_e in
       let here = store.brought f there.0 in
       (monotone.newer_lasts f here same, monotone.older_ends f here same))
-      ∙ ap (live m) (sym (found-put_own e kept k store.rising own))
+      ∙ ap (live m) (sym (kept_at-put_own e kept k store.rising own))
   | inr other ↦
       shown_at-push contents m k e
-      ∙ ap (λ (b : Bool). cond (b && nat_lt m e.until) (Some (joined (shown_at contents m k) e)) (shown_at contents m k)) other
+      ∙ ap (λ (b : Bool). cond (b && nat_lt m e.until) (shown_with (shown_at contents m k) (Some e)) (shown_at contents m k)) other
       ∙ shown_at-store now contents kept store m k late
-      ∙ ap (live m) (sym (found-put_other e kept k other))
+      ∙ ap (live m) (sym (kept_at-put_other e kept k other))
 ]
 
 pub picture_of_put :
@@ -160,9 +161,9 @@ picture_of_put now contents kept e store monotone m late =
     same_entries (picture (contents ++ e ∷ []) m) (live_entries m (put e kept)) (IsRising-picture (contents ++ e ∷ []) m)
     (IsRising-filter (λ (x : Entry). nat_lt m x.until) (put e kept) rising)
     (λ k.
-    found-picture (contents ++ e ∷ []) m k
+    kept_at-picture (contents ++ e ∷ []) m k
     ∙ shown_at-put now contents kept e store monotone m k late
-    ∙ sym (found-live k m (put e kept) rising))
+    ∙ sym (kept_at-live k m (put e kept) rising))
 
 -- the members of the kept entries with a new one
 pub IsIn-from_put : (x e : Entry) (kept : List Entry) → IsIn x (put e kept) → (x ≡ e) ⊎ IsIn x kept

@@ -11,44 +11,40 @@ use Rattle.picture_core.specs.Kept.{AreAbove, IsRising, kept_at, keys, live_entr
 use Rattle.picture_core.proofs.Keys.{same_key-itself, equal_keys, apart_below, apart_above, cases_key}
 use Rattle.picture_core.proofs.KeysRising.{AreAbove-lower, AreAbove-at}
 
--- the first entry of a key
-abbrev pub found : Key → List Entry → Option Entry
-found key entries = kept_at key entries
+pub kept_at-same : (k : Key) (e : Entry) (more : List Entry) → same_key k e.key ≡ true → kept_at k (e ∷ more) ≡ Some e
+kept_at-same k e more same = cond-true (same_key k e.key) (Some e) (kept_at k more) same
 
-pub found-same : (k : Key) (e : Entry) (more : List Entry) → same_key k e.key ≡ true → found k (e ∷ more) ≡ Some e
-found-same k e more same = cond-true (same_key k e.key) (Some e) (found k more) same
+pub kept_at-other : (k : Key) (e : Entry) (more : List Entry) → same_key k e.key ≡ false → kept_at k (e ∷ more) ≡ kept_at k more
+kept_at-other k e more other = cond-false (same_key k e.key) (Some e) (kept_at k more) other
 
-pub found-other : (k : Key) (e : Entry) (more : List Entry) → same_key k e.key ≡ false → found k (e ∷ more) ≡ found k more
-found-other k e more other = cond-false (same_key k e.key) (Some e) (found k more) other
-
-pub found-above : (k : Key) (entries : List Entry) → AreAbove k (keys entries) → found k entries ≡ None
-found-above k [] above = refl
-found-above k (e ∷ more) above = found-other k e more (apart_below k e.key above.0) ∙ found-above k more above.1
+pub kept_at-above : (k : Key) (entries : List Entry) → AreAbove k (keys entries) → kept_at k entries ≡ None
+kept_at-above k [] above = refl
+kept_at-above k (e ∷ more) above = kept_at-other k e more (apart_below k e.key above.0) ∙ kept_at-above k more above.1
 
 -- two such lists with the same at each key are one
 pub same_entries :
-    (one other : List Entry) → IsRising (keys one) → IsRising (keys other) → ((k : Key) → found k one ≡ found k other)
+    (one other : List Entry) → IsRising (keys one) → IsRising (keys other) → ((k : Key) → kept_at k one ≡ kept_at k other)
     → one ≡ other
 same_entries [] [] rising rising' same = refl
 same_entries [] (y ∷ ys) rising rising' same =
-    let here = found-same y.key y ys (same_key-itself y.key) in
+    let here = kept_at-same y.key y ys (same_key-itself y.key) in
     let none = same y.key in
     absurd (cc)
 same_entries (x ∷ xs) [] rising rising' same =
-    let here = found-same x.key x xs (same_key-itself x.key) in
+    let here = kept_at-same x.key x xs (same_key-itself x.key) in
     let none = same x.key in
     absurd (cc)
 same_entries (x ∷ xs) (y ∷ ys) rising rising' same = elim (cases_key x.key y.key) [
   | inl below ↦
-      let here = found-same x.key x xs (same_key-itself x.key) in
-      let none = found-above x.key (y ∷ ys) (below, AreAbove-lower x.key y.key (keys ys) below rising'.0) in
+      let here = kept_at-same x.key x xs (same_key-itself x.key) in
+      let none = kept_at-above x.key (y ∷ ys) (below, AreAbove-lower x.key y.key (keys ys) below rising'.0) in
       let both = same x.key in
       absurd (cc)
   | inr rest ↦ elim rest [
     | inl equal ↦
-        let here = found-same x.key x xs (same_key-itself x.key) in
-        let there : found x.key (y ∷ ys) ≡ Some y =
-        found-same x.key y ys (ap (same_key x.key) (sym equal) ∙ same_key-itself x.key) in
+        let here = kept_at-same x.key x xs (same_key-itself x.key) in
+        let there : kept_at x.key (y ∷ ys) ≡ Some y =
+        kept_at-same x.key y ys (ap (same_key x.key) (sym equal) ∙ same_key-itself x.key) in
         let both = same x.key in
         let heads : x ≡ y = cc in
         ap₂ (λ (z : Entry) (zs : List Entry). z ∷ zs) heads
@@ -56,14 +52,14 @@ same_entries (x ∷ xs) (y ∷ ys) rising rising' same = elim (cases_key x.key y
           | inl is ↦
               let at_x = equal_keys k x.key is in
               let at_y = at_x ∙ equal in
-              found-above k xs (subst (λ (q : Key). AreAbove q (keys xs)) (sym at_x) rising.0)
-              ∙ sym (found-above k ys (subst (λ (q : Key). AreAbove q (keys ys)) (sym at_y) rising'.0))
+              kept_at-above k xs (subst (λ (q : Key). AreAbove q (keys xs)) (sym at_x) rising.0)
+              ∙ sym (kept_at-above k ys (subst (λ (q : Key). AreAbove q (keys ys)) (sym at_y) rising'.0))
           | inr isnt ↦
-              sym (found-other k x xs isnt) ∙ same k ∙ found-other k y ys (ap (same_key k) (sym equal) ∙ isnt)
+              sym (kept_at-other k x xs isnt) ∙ same k ∙ kept_at-other k y ys (ap (same_key k) (sym equal) ∙ isnt)
         ]))
     | inr above ↦
-        let here = found-same y.key y ys (same_key-itself y.key) in
-        let none = found-above y.key (x ∷ xs) (above, AreAbove-lower y.key x.key (keys xs) above rising.0) in
+        let here = kept_at-same y.key y ys (same_key-itself y.key) in
+        let none = kept_at-above y.key (x ∷ xs) (above, AreAbove-lower y.key x.key (keys xs) above rising.0) in
         let both = same y.key in
         absurd (cc)
   ]
@@ -90,23 +86,23 @@ abbrev pub live : ℕ → Option Entry → Option Entry
 live moment None = None
 live moment (Some e) = cond (nat_lt moment e.until) (Some e) None
 
-pub found-live :
+pub kept_at-live :
     (k : Key) (m : ℕ) (entries : List Entry) → IsRising (keys entries)
-    → found k (live_entries m entries) ≡ live m (found k entries)
-found-live k m [] rising = refl
-found-live k m (e ∷ more) rising = elim (cases_Bool (same_key k e.key)) [
+    → kept_at k (live_entries m entries) ≡ live m (kept_at k entries)
+kept_at-live k m [] rising = refl
+kept_at-live k m (e ∷ more) rising = elim (cases_Bool (same_key k e.key)) [
   | inl same ↦ elim (cases_Bool (nat_lt m e.until)) [
     | inl lives ↦ rw lives (rw same (rw lives refl))
     | inr over ↦
         rw over
-        (found-above k (live_entries m more)
+        (kept_at-above k (live_entries m more)
         (subst (λ (q : Key). AreAbove q (keys (live_entries m more))) (sym (equal_keys k e.key same))
         (AreAbove-filter (λ (x : Entry). nat_lt m x.until) e.key more rising.0))
         ∙ rw same (rw over refl))
   ]
   | inr other ↦ elim (cases_Bool (nat_lt m e.until)) [
-    | inl lives ↦ rw lives (rw other (found-live k m more rising.1))
-    | inr over ↦ rw over (rw other (found-live k m more rising.1))
+    | inl lives ↦ rw lives (rw other (kept_at-live k m more rising.1))
+    | inr over ↦ rw over (rw other (kept_at-live k m more rising.1))
   ]
 ]
 
@@ -136,46 +132,46 @@ IsRising-given give own (j ∷ ks) rising =
     by_given (λ (l : List Entry). IsRising (keys l)) (give j) (filter_map give ks) (λ none. rest)
     (λ e is. (AreAbove-given give own e.key ks (subst (λ (q : Key). AreAbove q ks) (sym (own j e is)) rising.0), rest))
 
-found-none_given :
+kept_at-none_given :
     (give : Key → Option Entry) → IsOwn give → (k : Key) (ks : List Key) → give k ≡ None
-    → found k (filter_map give ks) ≡ None
-found-none_given give own k [] none = refl
-found-none_given give own k (j ∷ ks) none =
-    let rest = found-none_given give own k ks none in
-    by_given (λ (l : List Entry). found k l ≡ None) (give j) (filter_map give ks) (λ nothing. rest)
+    → kept_at k (filter_map give ks) ≡ None
+kept_at-none_given give own k [] none = refl
+kept_at-none_given give own k (j ∷ ks) none =
+    let rest = kept_at-none_given give own k ks none in
+    by_given (λ (l : List Entry). kept_at k l ≡ None) (give j) (filter_map give ks) (λ nothing. rest)
     (λ e is. elim (cases_Bool (same_key k e.key)) [
       | inl same ↦
           let at_j : k ≡ j = equal_keys k e.key same ∙ own j e is in
           let some : give k ≡ Some e = ap give at_j ∙ is in
           absurd (cc)
-      | inr other ↦ found-other k e (filter_map give ks) other ∙ rest
+      | inr other ↦ kept_at-other k e (filter_map give ks) other ∙ rest
     ])
 
-found-some_given :
+kept_at-some_given :
     (give : Key → Option Entry) → IsOwn give → (k : Key) (ks : List Key) → IsRising ks → IsIn k ks
-    → found k (filter_map give ks) ≡ give k
-found-some_given give own k [] rising here = absurd here
-found-some_given give own k (j ∷ ks) rising (inl same) =
-    by_given (λ (l : List Entry). found k l ≡ give k) (give j) (filter_map give ks)
+    → kept_at k (filter_map give ks) ≡ give k
+kept_at-some_given give own k [] rising here = absurd here
+kept_at-some_given give own k (j ∷ ks) rising (inl same) =
+    by_given (λ (l : List Entry). kept_at k l ≡ give k) (give j) (filter_map give ks)
     (λ none.
-    found-above k (filter_map give ks) (AreAbove-given give own k ks (subst (λ (q : Key). AreAbove q ks) (sym same) rising.0))
+    kept_at-above k (filter_map give ks) (AreAbove-given give own k ks (subst (λ (q : Key). AreAbove q ks) (sym same) rising.0))
     ∙ sym (ap give same ∙ none))
     (λ e is.
     let at_e : e.key ≡ k = own j e is ∙ sym same in
-    found-same k e (filter_map give ks) (ap (same_key k) at_e ∙ same_key-itself k) ∙ sym (ap give same ∙ is))
-found-some_given give own k (j ∷ ks) rising (inr later) =
-    let rest = found-some_given give own k ks rising.1 later in
-    by_given (λ (l : List Entry). found k l ≡ give k) (give j) (filter_map give ks) (λ none. rest)
+    kept_at-same k e (filter_map give ks) (ap (same_key k) at_e ∙ same_key-itself k) ∙ sym (ap give same ∙ is))
+kept_at-some_given give own k (j ∷ ks) rising (inr later) =
+    let rest = kept_at-some_given give own k ks rising.1 later in
+    by_given (λ (l : List Entry). kept_at k l ≡ give k) (give j) (filter_map give ks) (λ none. rest)
     (λ e is.
-    found-other k e (filter_map give ks)
+    kept_at-other k e (filter_map give ks)
     (ap (same_key k) (own j e is) ∙ apart_above j k (AreAbove-at j k ks rising.0 later))
     ∙ rest)
 
-pub found-given :
+pub kept_at-given :
     (give : Key → Option Entry) → IsOwn give → (k : Key) (ks : List Key) → IsRising ks
     → ((e : Entry) → give k ≡ Some e → IsIn k ks)
-    → found k (filter_map give ks) ≡ give k
-found-given give own k ks rising within = cases (give k) refl where
-  cases : (o : Option Entry) → give k ≡ o → found k (filter_map give ks) ≡ give k
-  cases None none = found-none_given give own k ks none ∙ sym none
-  cases (Some e) some = found-some_given give own k ks rising (within e some)
+    → kept_at k (filter_map give ks) ≡ give k
+kept_at-given give own k ks rising within = cases (give k) refl where
+  cases : (o : Option Entry) → give k ≡ o → kept_at k (filter_map give ks) ≡ give k
+  cases None none = kept_at-none_given give own k ks none ∙ sym none
+  cases (Some e) some = kept_at-some_given give own k ks rising (within e some)

@@ -9,12 +9,12 @@ use Rattle.picture_core.specs.Entry.{Entry}
 use Rattle.picture_core.specs.Key.{Key, same_key}
 use Rattle.list_members.specs.Membership.{IsIn}
 use Rattle.picture_core.specs.Picture.{newest_of, shown_at, keys_of, picture}
-use Rattle.picture_core.specs.Kept.{IsRising, keys, newer_of}
-use Rattle.picture_core.specs.Shown.{IsShown}
+use Rattle.picture_core.specs.Kept.{IsRising, kept_at, keys, newer_of}
+use Rattle.picture_core.specs.Shown.{IsShown, shown_with}
 use Rattle.picture_core.proofs.Keys.{same_key-Decides, equal_keys}
 use Rattle.picture_core.proofs.KeysRising.{IsRising-keys_of, IsIn-keys_of}
 use Rattle.list_members.proofs.Members.{IsIn-filter, IsIn-from_filter}
-use Rattle.picture_core.proofs.PicturesFound.{found, IsOwn, IsRising-given, found-given}
+use Rattle.picture_core.proofs.PicturesFound.{IsOwn, IsRising-given, kept_at-given}
 
 -- the best of entries, each newer_of one taken
 abbrev pub best : Entry → List Entry → Entry
@@ -109,26 +109,22 @@ pub IsRising-picture : (entries : List Entry) (m : ℕ) → IsRising (keys (pict
 IsRising-picture entries m =
     IsRising-given (shown_at entries m) (shown_at-own entries m) (keys_of entries) (IsRising-keys_of entries)
 
-pub found-picture : (entries : List Entry) (m : ℕ) (k : Key) → found k (picture entries m) ≡ shown_at entries m k
-found-picture entries m k =
-    found-given (shown_at entries m) (shown_at-own entries m) k (keys_of entries) (IsRising-keys_of entries)
+pub kept_at-picture : (entries : List Entry) (m : ℕ) (k : Key) → kept_at k (picture entries m) ≡ shown_at entries m k
+kept_at-picture entries m k =
+    kept_at-given (shown_at entries m) (shown_at-own entries m) k (keys_of entries) (IsRising-keys_of entries)
     (λ e is.
     let shown = shown_at-is entries m k e is in
     subst (λ (q : Key). IsIn q (keys_of entries)) shown.own (IsIn-keys_of e entries shown.there))
 
 -- one entry more, after those that were there
-abbrev pub joined : Option Entry → Entry → Entry
-joined None e = e
-joined (Some f) e = newer_of f e
-
-newest-push : (entries : List Entry) (e : Entry) → newest_of (entries ++ e ∷ []) ≡ Some (joined (newest_of entries) e)
+newest-push : (entries : List Entry) (e : Entry) → newest_of (entries ++ e ∷ []) ≡ shown_with (newest_of entries) (Some e)
 newest-push [] e = refl
 newest-push (a ∷ more) e = ap Some (fold-append newer_of a more (e ∷ []))
 
 pub shown_at-push :
     (entries : List Entry) (m : ℕ) (k : Key) (e : Entry)
     → shown_at (entries ++ e ∷ []) m k
-    ≡ cond (same_key k e.key && nat_lt m e.until) (Some (joined (shown_at entries m k) e)) (shown_at entries m k)
+    ≡ cond (same_key k e.key && nat_lt m e.until) (shown_with (shown_at entries m k) (Some e)) (shown_at entries m k)
 shown_at-push entries m k e =
     let test = is_live_at m k in
     let split = filter-append test entries (e ∷ []) in
@@ -136,10 +132,10 @@ shown_at-push entries m k e =
       | inl t ↦
           ap newest_of (split ∙ ap (λ (es : List Entry). filter test entries ++ es) (cond-true (test e) (e ∷ []) [] t))
           ∙ newest-push (filter test entries) e
-          ∙ sym (cond-true (test e) (Some (joined (shown_at entries m k) e)) (shown_at entries m k) t)
+          ∙ sym (cond-true (test e) (shown_with (shown_at entries m k) (Some e)) (shown_at entries m k) t)
       | inr f ↦
           ap newest_of
           (split ∙ ap (λ (es : List Entry). filter test entries ++ es) (cond-false (test e) (e ∷ []) [] f)
           ∙ append-nil (filter test entries))
-          ∙ sym (cond-false (test e) (Some (joined (shown_at entries m k) e)) (shown_at entries m k) f)
+          ∙ sym (cond-false (test e) (shown_with (shown_at entries m k) (Some e)) (shown_at entries m k) f)
     ]

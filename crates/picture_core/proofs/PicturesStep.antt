@@ -7,12 +7,12 @@ use Rattle.std.proofs.lemmas.List.Sums.{fold-append}
 use Rattle.picture_core.specs.Entry.{Entry}
 use Rattle.picture_core.specs.Key.{Key}
 use Rattle.picture_core.specs.Picture.{newest_of, shown_at, picture}
-use Rattle.picture_core.specs.Kept.{IsRising, keys, newer_of, put}
+use Rattle.picture_core.specs.Kept.{IsRising, kept_at, keys, newer_of, put}
 use Rattle.picture_core.specs.Shown.{AddsSame, shown_with}
 use Rattle.picture_core.proofs.Keys.{same_key-itself}
-use Rattle.picture_core.proofs.Pictures.{found-put_own}
-use Rattle.picture_core.proofs.PicturesFound.{found, same_entries}
-use Rattle.picture_core.proofs.PicturesShown.{best, joined, is_live_at, shown_at-is, shown_at-some, IsRising-picture, found-picture}
+use Rattle.picture_core.proofs.Pictures.{kept_at-put_own}
+use Rattle.picture_core.proofs.PicturesFound.{same_entries}
+use Rattle.picture_core.proofs.PicturesShown.{best, is_live_at, shown_at-is, shown_at-some, IsRising-picture, kept_at-picture}
 
 newer_of-kept : (a b : Entry) → b.version ≤ a.version → newer_of a b ≡ a
 newer_of-kept a b most = cond-false (nat_lt a.version b.version) b a (le-ltb a.version b.version most)
@@ -59,19 +59,15 @@ shown_at-append one other m k =
 -- at the key of a put entry stands the newer one of it and the one that was kept there
 pub kept_at-put :
     (e : Entry) (kept : List Entry) → IsRising (keys kept)
-    → found e.key (put e kept) ≡ shown_with (found e.key kept) (Some e)
-kept_at-put e kept rising =
-    found-put_own e kept e.key rising (same_key-itself e.key) ∙ by_kept (found e.key kept) where
-      by_kept : (o : Option Entry) → Some (joined o e) ≡ shown_with o (Some e)
-      by_kept None = refl
-      by_kept (Some f) = refl
+    → kept_at e.key (put e kept) ≡ shown_with (kept_at e.key kept) (Some e)
+kept_at-put e kept rising = kept_at-put_own e kept e.key rising (same_key-itself e.key)
 
 -- the same shown at each key is the same picture
 pub same_pictures :
     (one other : List Entry) (m : ℕ) → ((k : Key) → shown_at one m k ≡ shown_at other m k) → picture one m ≡ picture other m
 same_pictures one other m same =
     same_entries (picture one m) (picture other m) (IsRising-picture one m) (IsRising-picture other m)
-    (λ k. found-picture one m k ∙ same k ∙ sym (found-picture other m k))
+    (λ k. kept_at-picture one m k ∙ same k ∙ sym (kept_at-picture other m k))
 
 -- what is added to one side, where all of it that reaches further than what is shown is on the other side too, is the same
 -- beside what is shown, or is not above it

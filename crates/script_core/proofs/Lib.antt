@@ -1,6 +1,11 @@
+pub mod ReadLists
 pub mod WrongBytes
 pub mod ByteCuts
 pub mod DigitSteps
 pub mod ReportTexts
 pub mod LineForms
+pub mod BlockNumbers
+pub mod CellDigits
+pub mod FieldRanges
+pub mod RadarRanges
 pub mod LineRanges

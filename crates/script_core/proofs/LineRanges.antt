@@ -1,5 +1,5 @@
 -- What a line says is within its ranges.
-use Rattle.std.proofs.Common.{◌≡◌, ℕ, ◌+◌, ◌*◌, ◌<◌, ◌≤◌, ◌^◌, ◌==◌, Bool, true, false, ◌&&◌, nat_le, nat_lt, cond, if◌then◌else◌, All, List, [], ◌∷◌, Option, Some, None, Result, Ok, Err, option_and_then, sym, ◌∙◌, length, length-append, codes, refl, ap, subst, arith, inl, inr, lit<}
+use Rattle.std.proofs.Common.{◌≡◌, ℕ, ◌+◌, ◌*◌, ◌<◌, ◌≤◌, ◌^◌, ◌==◌, Bool, true, false, nat_lt, cond, if◌then◌else◌, All, List, [], ◌∷◌, Option, Some, None, Result, Ok, Err, option_and_then, sym, ◌∙◌, length, codes, refl, ap, subst, arith, inl, inr, lit<}
 use Rattle.std.proofs.lemmas.Bool.{cases_Bool, cond_both}
 use Rattle.std.proofs.lemmas.Bool.Decides.{nat_tests}
 use Rattle.std.proofs.lemmas.List.Splits.{join_with_byte-slice_split}
@@ -14,46 +14,21 @@ use Rattle.std.specs.Str.{is_utf8, IsUtf8}
 use Rattle.hex.specs.Hex.{decode_sized}
 use Rattle.hex.specs.declared.error.FromHexError.{FromHexError}
 use Rattle.hex.proofs.HexLemmas.{decode_sized-ok, decode_sized-twice, decode_of-ok}
-use Rattle.fisb_time.specs.Moment.{IsMoment, first_moment, last_moment}
+use Rattle.fisb_time.specs.Moment.{IsMoment}
 use Rattle.dlac_text.specs.Plain.{unplained}
-use Rattle.script_core.specs.Fields.{◌>>=◌, fields, is_word, is_number, digits_value, number_within, moment_in, report_in, unbuilt_where, hex_digit, byte_in, wrong_byte_in, wrong_from, is_radar, is_blank, air_in, rx_line, station_at, station_line, text_line, turn_line, hear_line, show_line, other_line, line_of_fields, line_of}
+use Rattle.script_core.specs.Fields.{◌>>=◌, fields, is_word, number_within, moment_in, report_in, hex_digit, byte_in, wrong_byte_in, wrong_from, air_in, rx_line, station_at, station_line, text_line, turn_line, hear_line, show_line, other_line, line_of_fields, line_of}
 use Rattle.script_core.specs.Laws.{LinesHaveRanges}
-use Rattle.script_core.specs.LineView.{HasRanges, IsAir}
+use Rattle.script_core.specs.LineView.{IsAir}
 use Rattle.script_core.specs.Script.{Line, station, text, turn, hear, rx, show}
+use Rattle.script_core.specs.Fields.{radar_line, blank_line}
+use Rattle.script_core.proofs.FieldRanges.{IsRanged, number_bounds, number_below, moment_range, joined_behind}
+use Rattle.script_core.proofs.RadarRanges.{radar_ranged, blank_ranged}
 use Rattle.script_core.proofs.ReportTexts.{report_size}
 use Rattle.script_core.proofs.WrongBytes.{IsWrongByte}
 
 -- what a plain text shows is UTF-8, as the plain text is
 abbrev ShowsUtf8 : Type 0
 ShowsUtf8 = (plain shown : List ℕ) → IsUtf8 plain → unplained plain ≡ Some shown → IsUtf8 shown
-
--- a line, if there is one, is within its ranges
-abbrev IsRanged : ℕ → Option Line → Type 0
-IsRanged size line = IfSome line (HasRanges size)
-
-number_where : (b : Bool) (low high n : ℕ) → IfSome (cond (b && nat_le low n && nat_le n high) (Some n) None) (λ m. (low ≤ m) × (m ≤ high))
-number_where b low high n =
-    elim (cases_Bool (b && nat_le low n && nat_le n high)) [
-      | inl holds ↦ rw holds (grind (arith, nat_tests), grind (arith, nat_tests))
-      | inr fails ↦ rw fails tt
-    ]
-
-number_bounds : (low high : ℕ) (field : List ℕ) → IfSome (number_within low high field) (λ m. (low ≤ m) × (m ≤ high))
-number_bounds low high field = number_where (is_number field) low high (digits_value field)
-
-lower : (high bound : ℕ) (number : Option ℕ) → high < bound → IfSome number (λ m. (0 ≤ m) × (m ≤ high)) → IfSome number (λ m. m < bound)
-lower high bound None below h = tt
-lower high bound (Some n) below h = let most : n ≤ high = h.1 in omega (arith, most)
-
-number_below : (high bound : ℕ) (field : List ℕ) → high < bound → IfSome (number_within 0 high field) (λ m. m < bound)
-number_below high bound field below = lower high bound (number_within 0 high field) below (number_bounds 0 high field)
-
-moment_range : (field : List ℕ) → IfSome (moment_in field) IsMoment
-moment_range field = number_bounds first_moment last_moment field
-
-unbuilt_ranged : (size : ℕ) (is_form : Bool) → IsRanged size (unbuilt_where is_form)
-unbuilt_ranged size true = tt
-unbuilt_ranged size false = tt
 
 -- each line, by what its fields spell
 abbrev station_by : Option ℕ → Option ℕ → Option ℕ → Option Line
@@ -248,13 +223,6 @@ report_ranged law size bytes fits =
     where_some size (report_in bytes)
     (λ shown e. let short = report_size bytes shown e in (where_utf8 law bytes shown e, omega (arith, short)))
 
--- the parts behind the first are no longer, joined, than all
-joined_behind : (part : List ℕ) (others : List (List ℕ)) → length (join_with_byte 32 others) ≤ length (join_with_byte 32 (part ∷ others))
-joined_behind part [] = omega arith
-joined_behind part (next ∷ more) =
-    let whole = length-append part (32 ∷ join_with_byte 32 (next ∷ more)) in
-    omega (arith, whole)
-
 text_ranged : ShowsUtf8 → (size : ℕ) (rest : List (List ℕ)) → length (join_with_byte 32 rest) ≤ size → IsRanged size (text_line rest)
 text_ranged law size [] fits = tt
 text_ranged law size (moment ∷ []) fits = tt
@@ -271,18 +239,18 @@ either_ranged size b one other h k = cond_both b one other (IsRanged size) (λ e
 other_ranged : (size : ℕ) (word : List ℕ) (rest : List (List ℕ)) → IsRanged size (other_line word rest)
 other_ranged size word rest =
     either_ranged size (is_word word (codes "station")) (station_line rest) _ (station_ranged size rest)
-    (either_ranged size (is_word word (codes "radar")) (unbuilt_where (is_radar rest)) _ (unbuilt_ranged size (is_radar rest))
-    (either_ranged size (is_word word (codes "blank")) (unbuilt_where (is_blank rest)) _ (unbuilt_ranged size (is_blank rest))
+    (either_ranged size (is_word word (codes "radar")) (radar_line rest) _ (radar_ranged size rest)
     (either_ranged size (is_word word (codes "turn")) (turn_line rest) _ (turn_ranged size rest)
     (either_ranged size (is_word word (codes "rx")) (rx_line rest) _ (rx_ranged size rest)
-    (either_ranged size (is_word word (codes "show")) (show_line rest) None (show_ranged size rest) tt)))))
+    (either_ranged size (is_word word (codes "show")) (show_line rest) None (show_ranged size rest) tt))))
 
 fields_ranged : ShowsUtf8 → (size : ℕ) (parts : List (List ℕ)) → length (join_with_byte 32 parts) ≤ size → IsRanged size (line_of_fields parts)
 fields_ranged law size [] fits = tt
 fields_ranged law size (word ∷ rest) fits =
     let behind = joined_behind word rest in
     either_ranged size (is_word word (codes "text")) (text_line rest) _ (text_ranged law size rest (omega (arith, behind, fits)))
-    (either_ranged size (is_word word (codes "hear")) (hear_line rest) (other_line word rest) (hear_ranged size rest) (other_ranged size word rest))
+    (either_ranged size (is_word word (codes "blank")) (blank_line rest) _ (blank_ranged size rest (omega (arith, behind, fits)))
+    (either_ranged size (is_word word (codes "hear")) (hear_line rest) (other_line word rest) (hear_ranged size rest) (other_ranged size word rest)))
 
 line_ranged : ShowsUtf8 → (bytes : List ℕ) → IsRanged (length bytes) (line_of bytes)
 line_ranged law [] = tt

@@ -1,19 +1,11 @@
 -- The wrong bytes of a frame, read one field at a time.
-use Rattle.std.proofs.Common.{◌≡◌, ℕ, ◌+◌, ◌<◌, List, [], ◌∷◌, ◌++◌, Option, Some, None, option_map, option_and_then, refl, sym, ap, ◌∙◌, append_assoc}
+use Rattle.std.proofs.Common.{◌≡◌, ℕ, ◌+◌, ◌<◌, List, [], ◌∷◌, ◌++◌, Some, None, option_and_then, sym, ap, ◌∙◌}
+use Rattle.script_core.proofs.ReadLists.{read_before, one_more}
 use Rattle.script_core.specs.Fields.{wrong_byte_in, wrong_from}
 
 -- a wrong byte stands within the frame, and is a byte
 abbrev pub IsWrongByte : ℕ × ℕ → Type 0
 IsWrongByte one = (one.0 < 552) × (one.1 < 256)
-
--- what the fields that are left spell, behind what was read
-abbrev pub read_before : List (ℕ × ℕ) → Option (List (ℕ × ℕ)) → Option (List (ℕ × ℕ))
-read_before items rest = option_map (λ more. items ++ more) rest
-
-one_more : (items : List (ℕ × ℕ)) (one : ℕ × ℕ) (rest : Option (List (ℕ × ℕ)))
-    → read_before items (option_and_then (λ more. Some (one ∷ more)) rest) ≡ read_before (items ++ one ∷ []) rest
-one_more items one None = refl
-one_more items one (Some more) = ap Some (sym (append_assoc items (one ∷ []) more))
 
 pub wrong_step : (items : List (ℕ × ℕ)) (least : ℕ) (one : ℕ × ℕ) (field : List ℕ) (others : List (List ℕ)) → Some one ≡ wrong_byte_in least field
     → read_before items (wrong_from least (field ∷ others)) ≡ read_before (items ++ one ∷ []) (wrong_from (one.0 + 1) others)
@@ -25,7 +17,3 @@ pub wrong_none : (items : List (ℕ × ℕ)) (least : ℕ) (field : List ℕ) (o
     → read_before items (wrong_from least (field ∷ others)) ≡ None
 wrong_none items least field others is =
     ap (λ o. read_before items (option_and_then (λ (x : ℕ × ℕ). option_and_then (λ more. Some (x ∷ more)) (wrong_from (x.0 + 1) others)) o)) (sym is)
-
-pub read_start : (rest : Option (List (ℕ × ℕ))) → rest ≡ read_before [] rest
-read_start None = refl
-read_start (Some more) = refl

@@ -1,7 +1,7 @@
 -- The forms of the lines of a script: a word, and fields with exactly one space between them.
 use Rattle.std.specs.Prelude.{ℕ, ◌+◌, ◌-◌, ◌*◌, Bool, true, false, not, ◌&&◌, ◌||◌, ◌==◌}
-use Rattle.std.specs.Prelude.{nat_lt, nat_le, if◌then◌else◌, List, [], ◌∷◌, length, fold, codes}
-use Rattle.std.specs.Prelude.{Option, Some, None, option_and_then, is_some}
+use Rattle.std.specs.Prelude.{nat_lt, nat_le, if◌then◌else◌, List, [], ◌∷◌, length, fold, map, codes}
+use Rattle.std.specs.Prelude.{Option, Some, None, option_and_then}
 use Rattle.std.specs.Char.{digit_value, is_ascii_digit, is_digit}
 use Rattle.std.specs.Int.{is_in_range}
 use Rattle.std.specs.List.{slice_split, join_with_byte, list_all, before_first, after_first}
@@ -11,7 +11,8 @@ use Rattle.hex.specs.Hex.{decode_sized}
 use Rattle.fisb_time.specs.Moment.{first_moment, last_moment}
 use Rattle.dlac_text.specs.Plain.{unplained}
 use Rattle.uplink_frame.specs.declared.station.StationId.{StationId}
-use Rattle.script_core.specs.Script.{Line, empty, station, text, turn, hear, rx, show, unbuilt}
+use Rattle.script_core.specs.Script.{Line, empty, station, text, radar, blank, turn, hear, rx, show}
+use Rattle.script_core.specs.declared.radar.RadarHead.{RadarHead}
 
 infixl 10 ◌>>=◌
 abbrev pub ◌>>=◌ : {A B : Type 0} → Option A → (A → Option B) → Option B
@@ -47,28 +48,32 @@ number_within low high field =
 abbrev pub moment_in : List ℕ → Option ℕ
 moment_in field = number_within first_moment last_moment field
 
-abbrev pub is_moment : List ℕ → Bool
-is_moment field = is_some (moment_in field)
+-- HEMI: whether the blocks lie south of the equator
+abbrev pub south_in : List ℕ → Option Bool
+south_in field = if is_word field (codes "n") then Some false
+    else (if is_word field (codes "s") then Some true else None)
 
--- a field that spells a number from 0 to the greatest one
-abbrev pub is_up_to : ℕ → List ℕ → Bool
-is_up_to greatest field = is_some (number_within 0 greatest field)
-
--- HEMI: north or south
-abbrev pub is_hemisphere : List ℕ → Bool
-is_hemisphere field = is_word field (codes "n") || is_word field (codes "s")
-
--- CELLS: the 128 intensities of a block, from 0 to 7
+-- CELLS: the 128 intensities of a block, a digit from 0 to 7 each
 abbrev pub is_cells : List ℕ → Bool
 is_cells field = (length field == 128) && list_all (is_in_range 48 55) field
 
+abbrev pub intensities_in : List ℕ → Option (List ℕ)
+intensities_in field = if is_cells field then Some (map (λ digit. digit - 48) field) else None
+
 -- the number of a block
-abbrev pub is_block_number : List ℕ → Bool
-is_block_number field = is_up_to 1048575 field
+abbrev pub block_number_in : List ℕ → Option ℕ
+block_number_in field = number_within 0 1048575 field
+
+abbrev pub block_numbers : List (List ℕ) → Option (List ℕ)
+block_numbers [] = Some []
+block_numbers (part ∷ others) = do
+  number ← block_number_in part
+  more ← block_numbers others
+  Some (number ∷ more)
 
 -- NUMBERS: one number of a block or more, joined by commas
-abbrev pub is_numbers : List ℕ → Bool
-is_numbers field = list_all is_block_number (slice_split (λ b. b == 44) field)
+abbrev pub numbers_in : List ℕ → Option (List ℕ)
+numbers_in field = block_numbers (slice_split (λ b. b == 44) field)
 
 -- HEX: the 552 bytes of a frame, as 1,104 hexadecimal digits of either case
 abbrev pub air_in : List ℕ → Option (List ℕ)
@@ -105,13 +110,6 @@ wrong_from least (field ∷ others) = do
   more ← wrong_from (one.0 + 1) others
   Some (one ∷ more)
 
--- as many fields as forms, and each of its form
-abbrev pub have_forms : List (List ℕ → Bool) → List (List ℕ) → Bool
-have_forms [] [] = true
-have_forms [] (field ∷ others) = false
-have_forms (is_form ∷ forms) [] = false
-have_forms (is_form ∷ forms) (field ∷ others) = is_form field && have_forms forms others
-
 -- a station of a known position
 abbrev pub station_at : ℕ → ℕ → ℕ → StationId
 station_at latitude longitude site =
@@ -144,21 +142,57 @@ text_line (moment ∷ version ∷ word ∷ rest) = do
   report ← report_in (join_with_byte 32 (word ∷ rest))
   Some (text m v report)
 
--- a line that is of its form, and no more
-abbrev pub unbuilt_where : Bool → Option Line
-unbuilt_where is_form = if is_form then Some unbuilt else None
+-- MOMENT VERSION PRODUCT SCALE HEMI, which begin the lines of radar
+abbrev pub head_in : (moment version product scale hemisphere : List ℕ) → Option RadarHead
+head_in moment version product scale hemisphere = do
+  m ← moment_in moment
+  v ← moment_in version
+  p ← number_within 0 2047 product
+  s ← number_within 0 3 scale
+  h ← south_in hemisphere
+  Some (record { moment = m; version = v; product = p; scale = s; south = h })
+
+-- the same, and the fields behind them
+abbrev pub radar_head : List (List ℕ) → Option (RadarHead × List (List ℕ))
+radar_head [] = None
+radar_head (moment ∷ []) = None
+radar_head (moment ∷ version ∷ []) = None
+radar_head (moment ∷ version ∷ product ∷ []) = None
+radar_head (moment ∷ version ∷ product ∷ scale ∷ []) = None
+radar_head (moment ∷ version ∷ product ∷ scale ∷ hemisphere ∷ rest) = do
+  head ← head_in moment version product scale hemisphere
+  Some (head, rest)
+
+-- NUMBER CELLS
+abbrev pub block_behind : RadarHead → List (List ℕ) → Option Line
+block_behind head [] = None
+block_behind head (number ∷ []) = None
+block_behind head (number ∷ cells ∷ []) = do
+  n ← block_number_in number
+  c ← intensities_in cells
+  Some (radar head.moment head.version
+      (record { product = head.product; scale = head.scale; south = head.south; number = n }) c)
+block_behind head (number ∷ cells ∷ more ∷ others) = None
 
 -- `radar MOMENT VERSION PRODUCT SCALE HEMI NUMBER CELLS`
-abbrev pub is_radar : List (List ℕ) → Bool
-is_radar rest =
-    have_forms (is_moment ∷ is_moment ∷ is_up_to 2047 ∷ is_up_to 3 ∷ is_hemisphere
-    ∷ is_block_number ∷ is_cells ∷ []) rest
+abbrev pub radar_line : List (List ℕ) → Option Line
+radar_line rest = do
+  front ← radar_head rest
+  block_behind front.0 front.1
+
+-- NUMBERS
+abbrev pub blanks_behind : RadarHead → List (List ℕ) → Option Line
+blanks_behind head [] = None
+blanks_behind head (numbers ∷ []) = do
+  n ← numbers_in numbers
+  Some (blank head.moment head.version head.product head.scale head.south n)
+blanks_behind head (numbers ∷ more ∷ others) = None
 
 -- `blank MOMENT VERSION PRODUCT SCALE HEMI NUMBERS`
-abbrev pub is_blank : List (List ℕ) → Bool
-is_blank rest =
-    have_forms (is_moment ∷ is_moment ∷ is_up_to 2047 ∷ is_up_to 3 ∷ is_hemisphere
-    ∷ is_numbers ∷ []) rest
+abbrev pub blank_line : List (List ℕ) → Option Line
+blank_line rest = do
+  front ← radar_head rest
+  blanks_behind front.0 front.1
 
 -- `turn MOMENT SLOT`
 abbrev pub turn_line : List (List ℕ) → Option Line
@@ -198,32 +232,33 @@ show_line (moment ∷ []) = do
   Some (show m)
 show_line (moment ∷ more ∷ others) = None
 
--- the line of a word other than `text` and `hear`
+-- the line of a word other than `text`, `blank` and `hear`
 abbrev pub other_line : List ℕ → List (List ℕ) → Option Line
 other_line word rest = if is_word word (codes "station") then station_line rest
-    else (if is_word word (codes "radar") then unbuilt_where (is_radar rest)
-    else (if is_word word (codes "blank") then unbuilt_where (is_blank rest)
+    else (if is_word word (codes "radar") then radar_line rest
     else (if is_word word (codes "turn") then turn_line rest
     else (if is_word word (codes "rx") then rx_line rest
-    else (if is_word word (codes "show") then show_line rest else None)))))
+    else (if is_word word (codes "show") then show_line rest else None))))
 
 -- the line that its fields spell
 abbrev pub line_of_fields : List (List ℕ) → Option Line
 line_of_fields [] = None
 line_of_fields (word ∷ rest) = if is_word word (codes "text") then text_line rest
-    else (if is_word word (codes "hear") then hear_line rest else other_line word rest)
+    else (if is_word word (codes "blank") then blank_line rest
+    else (if is_word word (codes "hear") then hear_line rest else other_line word rest))
 
 -- the line that some bytes without a newline are; None where they are of no line's form
 abbrev pub line_of : List ℕ → Option Line
 line_of [] = Some empty
 line_of (b ∷ bytes) = line_of_fields (fields (b ∷ bytes))
 
--- whether the line of some fields takes memory: a `text` line for its report, and a `hear` line for
--- its wrong bytes
+-- whether the line of some fields takes memory: a `text` line for its report, a `blank` line for its
+-- numbers, and a `hear` line for its wrong bytes
 abbrev pub takes_memory : List (List ℕ) → Bool
 takes_memory [] = false
 takes_memory (word ∷ rest) =
-    is_word word (codes "text") || (is_word word (codes "hear") && nat_lt 2 (length rest))
+    is_word word (codes "text") || is_word word (codes "blank")
+    || (is_word word (codes "hear") && nat_lt 2 (length rest))
 
 -- the parts between a separator's places in what is left of some bytes; None where none is
 abbrev pub parts_left : ℕ → Option (List ℕ) → List (List ℕ)

@@ -1,5 +1,4 @@
 pub mod Script
 pub mod Fields
 pub mod LineView
-pub mod FieldForm
 pub mod Laws

@@ -1,12 +1,16 @@
 //! The fields of a line, and the small forms that they have.
-ghost use Rattle.std.specs.Prelude.{◌≡◌, ◌==◌, ◌<◌, ◌≤◌, ◌^◌, ◌∷◌, [], unwrap_or, IfSome, MatchOption, length, option_copied};
+ghost use Rattle.std.specs.Prelude.{◌≡◌, ◌==◌, ◌<◌, ◌≤◌, ◌^◌, ◌∷◌, [], unwrap_or, None, Some, IfOk, IfSome, MatchOption, length, option_copied};
 ghost use Rattle.std.specs.List.{slice_split, before_first, after_first};
 ghost use Rattle.std.specs.Str.{bytes_eq};
 ghost use Rattle.fisb_time.specs.Moment.{IsMoment};
-ghost use Rattle.script_core.specs.Fields.{parts_left, fields_left, number_within, moment_in, is_moment, is_up_to, is_hemisphere, is_cells, is_block_number, is_numbers, air_in, has_leading_zero};
+ghost use Rattle.script_core.specs.Fields.{parts_left, fields_left, number_within, moment_in, south_in, is_cells, intensities_in, block_number_in, numbers_in, air_in, has_leading_zero};
 
+use crate::script_line::LineFault;
 use fisb_time::Moment;
+use fisb_wire::Numbers;
 use hex::FromHex;
+use radar_core::Cells;
+use std::alloc::Global;
 
 /// The first moment of a line, in seconds.
 const FIRST_MOMENT: u64 = 946_684_800;
@@ -27,8 +31,18 @@ pub(crate) fn next_field(rest: Option<&[u8]>) -> Option<(&[u8], Option<&[u8]>)>
         (fields_left (option_copied rest.entry) ≡ [])
         (λ r. fields_left (option_copied rest.entry) ≡ r.0.now ∷ fields_left (option_copied r.1)) }
 {
+    next_part(rest, b' ')
+}
+
+/// The same, where the separator stands between the parts.
+pub(crate) fn next_part(rest: Option<&[u8]>, separator: u8) -> Option<(&[u8], Option<&[u8]>)>
+    ensures { MatchOption result
+        (parts_left separator (option_copied rest.entry) ≡ [])
+        (λ r. parts_left separator (option_copied rest.entry)
+        ≡ r.0.now ∷ parts_left separator (option_copied r.1)) }
+{
     match rest {
-        Some(bytes) => Some(cut_at(bytes, b' ')),
+        Some(bytes) => Some(cut_at(bytes, separator)),
         None => None,
     }
 }
@@ -100,45 +114,66 @@ pub(crate) fn read_moment(field: &[u8]) -> Option<Moment>
     }
 }
 
-pub(crate) fn is_moment(field: &[u8]) -> bool
-    ensures { result ≡ is_moment field.now }
+/// Whether the hemisphere that a field names is the southern one.
+pub(crate) fn read_south(field: &[u8]) -> Option<bool>
+    ensures { result ≡ south_in field.now }
 {
-    read_moment(field).is_some()
+    if is_word(field, "n") {
+        Some(false)
+    } else if is_word(field, "s") {
+        Some(true)
+    } else {
+        None
+    }
 }
 
-/// Whether the field spells a number up to the greatest one.
-pub(crate) fn is_up_to(field: &[u8], greatest: u64) -> bool
-    requires { greatest < 2 ^ 40 }
-    ensures { result ≡ is_up_to greatest field.now }
+/// The intensities of the cells of a block, a digit a cell.
+pub(crate) fn read_cells(field: &[u8]) -> Option<Cells>
+    ensures { result ≡ intensities_in field.now }
 {
-    read_number(field, 0, greatest).is_some()
+    if !is_cells(field) {
+        return None;
+    }
+    let Ok(digits) = <[u8; CELLS]>::try_from(field) else {
+        return None;
+    };
+    Cells::new(digits.map(|digit| digit.saturating_sub(b'0')))
 }
 
-/// Whether the field names a hemisphere.
-pub(crate) fn is_hemisphere(field: &[u8]) -> bool
-    ensures { result ≡ is_hemisphere field.now }
-{
-    is_word(field, "n") || is_word(field, "s")
-}
-
-/// Whether the field has the intensities of the cells of a block, a digit a cell.
-pub(crate) fn is_cells(field: &[u8]) -> bool
+/// Whether the field has the digits of the cells of a block.
+fn is_cells(field: &[u8]) -> bool
     ensures { result ≡ is_cells field.now }
 {
     field.len() == CELLS && field.iter().all(|digit| matches!(*digit, b'0'..=b'7'))
 }
 
-pub(crate) fn is_block_number(field: &[u8]) -> bool
-    ensures { result ≡ is_block_number field.now }
+/// The number of a block.
+pub(crate) fn read_block_number(field: &[u8]) -> Option<u32>
+    ensures { result ≡ block_number_in field.now }
 {
-    is_up_to(field, LAST_BLOCK)
+    match read_number(field, 0, LAST_BLOCK) {
+        Some(number) => Some(number as u32),
+        None => None,
+    }
 }
 
-/// Whether the field has one number of a block or more, joined by commas.
-pub(crate) fn is_numbers(field: &[u8]) -> bool
-    ensures { result ≡ is_numbers field.now }
+/// The numbers of blocks that a field joins by commas.
+pub(crate) fn read_numbers(alloc: Global, field: &[u8]) -> Result<Numbers, LineFault>
+    ensures numbers { IfOk result (λ numbers. numbers_in field.now ≡ Some numbers) }
+    ensures syntax { result ≡ Err LineFault.Syntax → numbers_in field.now ≡ None }
 {
-    field.split(|byte| *byte == b',').all(is_block_number)
+    let mut items = Vec::new(alloc);
+    let mut rest = Some(field);
+    while let Some((part, behind)) = next_part(rest, b',') {
+        let Some(number) = read_block_number(part) else {
+            return Err(LineFault::Syntax);
+        };
+        let Ok(()) = items.push(number) else {
+            return Err(LineFault::NoMemory);
+        };
+        rest = behind;
+    }
+    Ok(Numbers::of(items))
 }
 
 /// The bytes of a frame that a field spells in hexadecimal digits.

@@ -1,12 +1,11 @@
 //! The lines of a script: what one line says, or that it is of no line's form.
 #![tactic(auto)]
 
-mod field_form;
 mod fields;
-mod forms;
 mod hearing;
 mod kinds;
 mod laws;
+mod radar;
 mod reading;
 mod script_line;
 mod wrong;

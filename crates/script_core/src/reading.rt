@@ -1,13 +1,13 @@
 //! Reads one line of a script.
 ghost use Rattle.std.specs.Prelude.{◌≡◌, ℕ, ◌≤◌, IfOk, IfSome, IsTrue, None, Some, length, option_copied, option_map};
 ghost use Rattle.std.specs.String.{string_bytes};
-ghost use Rattle.script_core.specs.Fields.{fields, fields_left, line_of, text_line, report_in, other_line, unbuilt_where, takes_memory};
+ghost use Rattle.script_core.specs.Fields.{fields, fields_left, line_of, text_line, report_in, other_line, takes_memory};
 ghost use Rattle.script_core.specs.LineView.{line_view, HasRanges};
 
 use crate::fields::{is_word, next_field, read_moment};
-use crate::forms::{is_blank, is_radar};
 use crate::hearing::{read_hear, read_rx};
 use crate::kinds::{read_show, read_station, read_turn};
+use crate::radar::{read_blank, read_radar};
 use crate::script_line::{Line, LineFault};
 use dlac_text::{shown_texts, unplain};
 use std::alloc::Global;
@@ -17,7 +17,7 @@ use std::alloc::Global;
 /// # Errors
 ///
 /// `Syntax` where the bytes are of no line's form; `NoMemory` where memory runs out, which only the report of a
-/// `text` line and the wrong bytes of a `hear` line take.
+/// `text` line, the numbers of a `blank` line and the wrong bytes of a `hear` line take.
 pub fn read_line(alloc: Global, line: &[u8]) -> Result<Line, LineFault>
     ensures line { IfOk result (λ read. line_of line.now ≡ Some (line_view read)) }
     ensures syntax { result ≡ Err LineFault.Syntax → line_of line.now ≡ None }
@@ -42,6 +42,9 @@ fn read_form(alloc: Global, line: &[u8]) -> Result<Line, LineFault>
     };
     if is_word(word, "text") {
         return read_text(alloc, rest);
+    }
+    if is_word(word, "blank") {
+        return read_blank(alloc, rest);
     }
     if is_word(word, "hear") {
         return read_hear(alloc, rest);
@@ -99,7 +102,7 @@ fn read_report(alloc: Global, bytes: &[u8]) -> Result<String, LineFault>
     }
 }
 
-/// A line of another word than `text` and `hear`.
+/// A line of another word than `text`, `blank` and `hear`.
 fn read_other(word: &[u8], rest: Option<&[u8]>) -> Option<Line>
     ensures { option_map line_view result
         ≡ other_line word.now (fields_left (option_copied rest.entry)) }
@@ -107,9 +110,7 @@ fn read_other(word: &[u8], rest: Option<&[u8]>) -> Option<Line>
     if is_word(word, "station") {
         read_station(rest)
     } else if is_word(word, "radar") {
-        unbuilt_where(is_radar(rest))
-    } else if is_word(word, "blank") {
-        unbuilt_where(is_blank(rest))
+        read_radar(rest)
     } else if is_word(word, "turn") {
         read_turn(rest)
     } else if is_word(word, "rx") {
@@ -119,11 +120,4 @@ fn read_other(word: &[u8], rest: Option<&[u8]>) -> Option<Line>
     } else {
         None
     }
-}
-
-/// A line that is of its form, and no more.
-fn unbuilt_where(is_form: bool) -> Option<Line>
-    ensures { option_map line_view result ≡ unbuilt_where is_form }
-{
-    if is_form { Some(Line::Unbuilt) } else { None }
 }

@@ -1,4 +1,5 @@
 use crate::{Line, LineFault, ranges_of_lines, read_line};
+use radar_core::BlockKey;
 use std::alloc::{AllocError, Global};
 use std::process::Abort;
 use std::test::Fail;
@@ -194,18 +195,70 @@ fn wrong_bytes_are_read_with_their_places(rt: HostRuntime) -> Result<(), Fail> {
 }
 
 #[test]
-fn radar_and_blank_lines_are_of_their_form(rt: HostRuntime) -> Result<(), Fail> {
+fn radar_line_gives_its_block(rt: HostRuntime) -> Result<(), Fail> {
+    let cells = repeated(rt.alloc(), "01234567", 16)?;
+    let cells = cells.as_str();
+    let line = format!(in rt.alloc(); "radar 1700000000 1699999980 2047 3 s 1048575 {cells}")?;
+    match read_line(rt.alloc(), line.as_str().as_bytes())? {
+        Line::Radar {
+            moment,
+            version,
+            key,
+            cells,
+        } => {
+            assert_eq!(rt; moment.seconds(), 1_700_000_000);
+            assert_eq!(rt; version.seconds(), 1_699_999_980);
+            assert_eq!(rt;
+                key,
+                BlockKey {
+                    product: 2_047,
+                    scale: 3,
+                    south: true,
+                    number: 1_048_575
+                }
+            );
+            assert_eq!(rt; [cells.at(0), cells.at(9), cells.at(127)], [0, 1, 7]);
+        }
+        _ => assert!(rt; false, "radar"),
+    }
+    Ok(())
+}
+
+#[test]
+fn blank_line_gives_its_numbers(rt: HostRuntime) -> Result<(), Fail> {
+    match read_line(
+        rt.alloc(),
+        b"blank 1700000000 1699999980 64 0 n 1048575,0,7,7",
+    )? {
+        Line::Blank {
+            moment,
+            version,
+            product,
+            scale,
+            south,
+            numbers,
+        } => {
+            assert_eq!(rt; moment.seconds(), 1_700_000_000);
+            assert_eq!(rt; version.seconds(), 1_699_999_980);
+            assert!(rt; product == 64 && scale == 0 && !south);
+            assert_eq!(rt; numbers.all(), [1_048_575, 0, 7, 7].as_slice());
+        }
+        _ => assert!(rt; false, "blank"),
+    }
+    let many = repeated(rt.alloc(), "0,", 1_024)?;
+    let many = many.as_str();
+    let long = format!(in rt.alloc(); "blank {HEAD} {many}0")?;
+    match read_line(rt.alloc(), long.as_str().as_bytes())? {
+        Line::Blank { numbers, .. } => assert_eq!(rt; numbers.len(), 1_025),
+        _ => assert!(rt; false, "long blank"),
+    }
+    Ok(())
+}
+
+#[test]
+fn wrong_radar_lines_are_refused(rt: HostRuntime) -> Result<(), Fail> {
     let cells = repeated(rt.alloc(), "07", 64)?;
     let cells = cells.as_str();
-    for head in [
-        "1700000000 1699999980 0 0 s",
-        "1700000000 1699999980 2047 3 n",
-    ] {
-        let radar = format!(in rt.alloc(); "radar {head} 1048575 {cells}")?;
-        check_unbuilt(&rt, rt.alloc(), radar.as_str());
-        let blank = format!(in rt.alloc(); "blank {head} 1048575,0,7")?;
-        check_unbuilt(&rt, rt.alloc(), blank.as_str());
-    }
     for head in [
         "1700000000 1699999980 2048 0 n",
         "1700000000 1699999980 64 4 n",
@@ -234,24 +287,12 @@ fn radar_and_blank_lines_are_of_their_form(rt: HostRuntime) -> Result<(), Fail> 
 }
 
 #[test]
-fn cells_are_128_digits(rt: HostRuntime) -> Result<(), Fail> {
-    for (count, is_form) in [(127, false), (128, true), (129, false)] {
+fn cells_are_128_digits_up_to_7(rt: HostRuntime) -> Result<(), Fail> {
+    for (count, last) in [(127, ""), (128, "7"), (127, "8"), (127, "/"), (127, "a")] {
         let cells = repeated(rt.alloc(), "7", count)?;
         let cells = cells.as_str();
-        let radar = format!(in rt.alloc(); "radar {HEAD} 0 {cells}")?;
-        check_form(&rt, rt.alloc(), radar.as_str(), is_form);
-    }
-    let cells = repeated(rt.alloc(), "0", 127)?;
-    let cells = cells.as_str();
-    for (last, is_form) in [
-        ("0", true),
-        ("7", true),
-        ("8", false),
-        ("/", false),
-        ("a", false),
-    ] {
         let radar = format!(in rt.alloc(); "radar {HEAD} 0 {cells}{last}")?;
-        check_form(&rt, rt.alloc(), radar.as_str(), is_form);
+        check_refused(&rt, rt.alloc(), radar.as_str());
     }
     Ok(())
 }
@@ -298,19 +339,6 @@ fn fault_says_its_cause(rt: HostRuntime) -> Result<(), Fail> {
     let memory = format!(in rt.alloc(); "{}", LineFault::NoMemory)?;
     assert_eq!(rt; memory.as_str(), "no memory is left");
     Ok(())
-}
-
-fn check_form(rt: &impl Abort, alloc: Global, line: &str, is_form: bool) {
-    if is_form {
-        check_unbuilt(rt, alloc, line);
-    } else {
-        check_refused(rt, alloc, line);
-    }
-}
-
-fn check_unbuilt(rt: &impl Abort, alloc: Global, line: &str) {
-    let read = read_line(alloc, line.as_bytes());
-    assert!(rt; matches!(read, Ok(Line::Unbuilt)), "{line}");
 }
 
 fn check_refused(rt: &impl Abort, alloc: Global, line: &str) {

@@ -1,6 +1,7 @@
 use Rattle.std.proofs.Common.{arith, ℕ, ◌≡◌, ◌+◌, ◌∷◌, length, length-append, sym, ap, ◌∙◌, [], ◌++◌, option_copied}
 use Rattle.script_core.specs.Fields.{fields_left, wrong_from}
-use Rattle.script_core.proofs.WrongBytes.{read_before, wrong_step}
+use Rattle.script_core.proofs.WrongBytes.{wrong_step}
+use Rattle.script_core.proofs.ReadLists.{read_before}
 use Rattle.script_core.proofs.hearing.read_wrong.Goals as goal
 
 pub loop-field-preserved : goal.loop-field-preserved

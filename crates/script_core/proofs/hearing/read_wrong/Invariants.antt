@@ -1,6 +1,6 @@
 use Rattle.std.proofs.Common.{◌≡◌, ◌≤◌, ◌+◌, length, option_copied}
 use Rattle.script_core.specs.Fields.{fields_left, wrong_from}
-use Rattle.script_core.proofs.WrongBytes.{read_before}
+use Rattle.script_core.proofs.ReadLists.{read_before}
 use Rattle.script_core.proofs.hearing.read_wrong.Given as goal
 
 -- all fields spell what was read and what those that are left spell
