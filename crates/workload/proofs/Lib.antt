@@ -4,3 +4,4 @@ pub mod ChangeLemmas
 pub mod PartLemmas
 pub mod Transitions
 pub mod Ranges
+pub mod Fits

@@ -74,7 +74,7 @@ unfolding still_to_come rest
 still_to_come-none p h = let none : p.left ≡ 0 = omega arith in rw none refl
 
 -- a whole minute is what comes from its first METAR on
-minute-is : (i : ℕ) → rest_of_minute i [] (Metar 0) ≡ minute i
+pub minute-is : (i : ℕ) → rest_of_minute i [] (Metar 0) ≡ minute i
 unfolding rest_of_minute after_metars turns picture minute
 minute-is i = refl
 

@@ -1,12 +1,14 @@
 -- What is still to come of a workload.
-use Rattle.std.specs.Prelude.{◌≡◌, ℕ, zero, suc, ◌+◌, ◌-◌, ◌*◌, ◌%◌, ◌==◌, if◌then◌else◌, ◌<◌, ◌≤◌, List, [], ◌∷◌, ◌++◌, Option, option_to_list}
+use Rattle.std.specs.Prelude.{◌≡◌, ℕ, zero, suc, ◌+◌, ◌-◌, ◌*◌, ◌%◌, ◌==◌, ◌<◌, ◌≤◌}
+use Rattle.std.specs.Prelude.{if◌then◌else◌, List, [], ◌∷◌, ◌++◌, Option, option_to_list}
 use Rattle.workload.specs.declared.step.Step.{Step}
 use Rattle.workload.specs.declared.step.Step.TheVariants.{Show}
 use Rattle.workload.specs.declared.progress.Phase.{Phase}
-use Rattle.workload.specs.declared.progress.Phase.TheVariants.{Metar, Taf, Block, Turn, Hearing, Picture}
+use Rattle.workload.specs.declared.progress.Phase.TheVariants.{Metar, Taf, Block, Turn}
+use Rattle.workload.specs.declared.progress.Phase.TheVariants.{Hearing, Picture}
 use Rattle.workload.specs.declared.progress.Progress.{Progress}
-use Rattle.workload.specs.Workload.{Part, nothing, step, ◌>>◌, each_from, metar_in, taf_in, radar_in, blocks}
-use Rattle.workload.specs.Workload.{hearing, second, moment_of, minute}
+use Rattle.workload.specs.Workload.{Part, nothing, step, ◌>>◌, each_from, moment_of, minute}
+use Rattle.workload.specs.Workload.{metar_in, taf_in, radar_in, blocks, hearing, second}
 
 -- the picture of minute i
 unfoldable pub picture : ℕ → Part

@@ -18,6 +18,7 @@ five_digits number =
 abbrev pub word : ℕ → List ℕ
 word number = codes " " ++ five_digits number
 
--- a report of a kind, of the station `K`, two digits, `X`, with these words
+-- a report of a kind, of the station `K`, two digits and `X`, with these words
 abbrev pub report : List ℕ → ℕ → List ℕ → List ℕ
-report kind station numbers = kind ++ codes " K" ++ two_digits station ++ codes "X" ++ flat_map word numbers
+report kind station numbers =
+    kind ++ codes " K" ++ two_digits station ++ codes "X" ++ flat_map word numbers

@@ -1,5 +1,7 @@
--- The workload: the list of its steps.
-use Rattle.std.specs.Prelude.{ℕ, zero, suc, ◌+◌, ◌*◌, ◌%◌, ◌==◌, nat_lt, if◌then◌else◌, List, [], ◌∷◌, ◌++◌, codes}
+-- The workload: the list of its steps. Each block is of product 63, scale 0, north, and the version
+-- of each update is its moment.
+use Rattle.std.specs.Prelude.{ℕ, zero, suc, ◌+◌, ◌*◌, ◌%◌, ◌==◌, nat_lt, if◌then◌else◌}
+use Rattle.std.specs.Prelude.{List, [], ◌∷◌, ◌++◌, codes}
 use Rattle.workload.specs.declared.step.Step.{Step}
 use Rattle.workload.specs.declared.step.Step.TheVariants.{Text, Block, Blanks, Turn, Hear, Show}
 use Rattle.workload.specs.Draws.{Drawn, draw, draws, give, ◌>>=◌}
@@ -15,7 +17,7 @@ abbrev pub nothing : Part
 nothing = give []
 
 abbrev pub step : Step → Part
-step next = give (next ∷ [])
+step one = give (one ∷ [])
 
 -- one part, and then another one
 infixl 10 ◌>>◌
@@ -55,8 +57,8 @@ unfoldable pub blanks : ℕ → List ℕ → Part
 blanks moment [] = nothing
 blanks moment (number ∷ numbers) = step (Blanks moment (number ∷ numbers))
 
--- So many blocks, the first of them this one, behind those that are listed so far. Where a draw is even, the block is given
--- at once, and else it is listed. In the end the list is given as blank.
+-- So many blocks, the first of them this one, behind those that are listed so far. Where a draw is
+-- even, the block is given at once, and else it is listed. In the end the list is given as blank.
 unfoldable pub blocks : ℕ → List ℕ → ℕ → ℕ → Part
 blocks moment listed number zero = blanks moment listed
 blocks moment listed number (suc more) = do
@@ -65,7 +67,8 @@ blocks moment listed number (suc more) = do
     then (block moment number >> blocks moment listed (number + 1) more)
     else blocks moment (listed ++ number ∷ []) (number + 1) more
 
--- the frame that was sent last is not heard where the draw is a multiple of 5, and else it is heard with changes
+-- the frame that was sent last is not heard where the draw is a multiple of 5, and else it is heard
+-- with changes
 unfoldable pub hearing : ℕ → Part
 hearing moment = do
   drawn ← draw

@@ -1,11 +1,13 @@
 //! What is changed of a frame before it is heard.
-ghost use Rattle.std.specs.Prelude.{◌≡◌, ◌<◌, [], ◌∷◌, ◌++◌, IfOk, length, slice_index_or};
+ghost use Rattle.std.specs.Prelude.{◌≡◌, ◌<◌, [], ◌∷◌, ◌++◌, All, IfOk, length};
+ghost use Rattle.workload.specs.Hearings.{changed};
 
 use std::alloc::{AllocError, Global};
 use std::marker::Model;
 
-/// Changes of a frame: places, from 0 to 551 in the order on the air, each with a byte that is added to the one there by
-/// exclusive or. They stand in the order in which they were drawn, block by block.
+/// Changes of a frame: places, from 0 to 551 in the order on the air, each with a byte that is
+/// added to the one there by exclusive or. They stand in the order in which they were drawn, block
+/// by block.
 #[derive(Debug, Drop)]
 pub struct Changes {
     items: Vec<(u16, u8)>,
@@ -20,26 +22,23 @@ impl Model for Changes {
 }
 
 impl Changes {
-    /// How many changes there are.
-    pub fn len(&self) -> usize
-        ensures { result ≡ length self.now }
-    {
-        self.items.len()
-    }
-
-    /// The place and the byte of a change below `len`, counted from 0.
-    pub fn at(&self, place: usize) -> (u16, u8)
-        requires { place < length self.now }
-        ensures { result ≡ slice_index_or self.now place result }
-    {
-        self.items[place]
-    }
-
     /// All places and bytes.
     pub fn all(&self) -> &[(u16, u8)]
         ensures { result.now ≡ self.now }
     {
         self.items.as_slice()
+    }
+
+    /// Changes a frame of 552 bytes: each byte is added to the one at its place without carry.
+    pub fn add_to(&self, frame: &mut [u8])
+        requires places { All (λ change. change.0 < 552) self.now }
+        requires frame { length frame.old ≡ 552 }
+        ensures { frame.new ≡ changed self.now frame.old }
+    {
+        for &(place, byte) in self.items.as_slice() {
+            let place = usize::from(place);
+            frame[place] ^= byte;
+        }
     }
 
     /// No changes.

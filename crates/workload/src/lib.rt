@@ -1,10 +1,11 @@
-//! The workload: an endless broadcast in small, with reports, radar, turns, hearings and pictures, made from a number.
-//! It is a list of steps, and is handed out step by step.
+//! The workload: an endless broadcast in small, with reports, radar, turns, hearings and pictures,
+//! made from a number. It is a list of steps, and is handed out step by step.
 #![tactic(auto)]
 
 mod changes;
 mod drawing;
 mod draws;
+pub mod laws;
 mod progress;
 mod report_text;
 mod step;

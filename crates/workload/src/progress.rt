@@ -1,7 +1,8 @@
 //! How far a workload has come.
 ghost use Rattle.std.specs.Prelude.{◌≡◌, ◌+◌, ◌*◌, ◌<◌, ◌≤◌, ◌++◌, [], OnOk, OnErr, IfOk};
 ghost use Rattle.workload.specs.Workload.{moment_of};
-ghost use Rattle.workload.specs.Progress.{IsSound, FitsPhase, HandsOut, distance, phase_after_taf, still_to_come};
+ghost use Rattle.workload.specs.Progress.{IsSound, HandsOut, distance, phase_after_taf};
+ghost use Rattle.workload.specs.Progress.{still_to_come};
 
 use crate::draws::Draws;
 use crate::step::Step;
@@ -31,8 +32,8 @@ pub(crate) enum Phase {
     Picture,
 }
 
-/// How far a workload has come: the minute and what comes next in it, how many minutes are left with it, the draws, and the
-/// blocks that are listed as blank.
+/// How far a workload has come: the minute and what comes next in it, how many minutes are left
+/// with it, the draws, and the blocks that are listed as blank.
 #[derive(Drop)]
 pub(crate) struct Progress {
     pub(crate) minute: u32,
@@ -43,7 +44,8 @@ pub(crate) struct Progress {
 }
 
 impl Progress {
-    /// Goes one step further, which mostly hands out a step of the workload. After an error all is as it was.
+    /// Goes one step further, which mostly hands out a step of the workload. After an error all is
+    /// as it was.
     pub(crate) fn advance(&mut self, alloc: Global) -> Result<Option<Step>, AllocError>
         requires sound { IsSound self.old }
         requires more { 0 < self.old.left }
@@ -224,7 +226,8 @@ impl Progress {
     }
 }
 
-/// What comes after the TAF of a minute: the blocks of radar in every fifth one, and else the turns.
+/// What comes after the TAF of a minute: the blocks of radar in every fifth one, and else the
+/// turns.
 fn phase_after_taf(minute: u32) -> Phase
     ensures { result ≡ phase_after_taf minute }
 {

@@ -1,5 +1,5 @@
 //! The text of a report that is given.
-ghost use Rattle.std.specs.Prelude.{◌≡◌, ◌<◌, [], ◌∷◌, ◌++◌, IfOk, length, slice_index};
+ghost use Rattle.std.specs.Prelude.{◌≡◌, ◌<◌, [], ◌∷◌, ◌++◌, IfOk};
 ghost use Rattle.workload.specs.Texts.{digit, five_digits, two_digits};
 
 use std::alloc::{AllocError, Global};
@@ -21,13 +21,6 @@ impl Model for ReportText {
 }
 
 impl ReportText {
-    /// The number of characters.
-    pub fn len(&self) -> usize
-        ensures { result ≡ length self.now }
-    {
-        self.text.len()
-    }
-
     /// The whole text.
     pub fn all(&self) -> &str
         ensures { result.now ≡ self.now }

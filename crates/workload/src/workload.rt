@@ -1,5 +1,6 @@
 //! The workload, step by step.
-ghost use Rattle.std.specs.Prelude.{◌≡◌, ◌^◌, ◌<◌, ◌≤◌, ◌∷◌, ◌++◌, [], IfOk, OnErr, option_to_list};
+ghost use Rattle.std.specs.Prelude.{◌≡◌, ◌≤◌, ◌++◌, [], IfOk, IfSome, OnErr, option_to_list};
+ghost use Rattle.workload.specs.Step.{FitsStep};
 ghost use Rattle.workload.specs.Workload.{workload};
 
 use crate::draws::Draws;
@@ -8,7 +9,8 @@ use crate::step::Step;
 use std::alloc::{AllocError, Global};
 use std::marker::Model;
 
-/// A workload, of which some steps may have been handed out. A contract sees it as the list of the steps that are still to come.
+/// A workload, of which some steps may have been handed out. A contract sees it as the list of the
+/// steps that are still to come.
 #[derive(Drop)]
 pub struct Workload {
     alloc: Global,
@@ -46,10 +48,12 @@ impl Workload {
         }
     }
 
-    /// Hands out the next step, or `None` once there is none. After an error the same steps are still to come.
+    /// Hands out the next step, or `None` once there is none. After an error the same steps are
+    /// still to come.
     pub fn next_step(&mut self) -> Result<Option<Step>, AllocError>
         ensures handed { IfOk result (λ step. self.old ≡ option_to_list step ++ self.new) }
         ensures end { result ≡ Ok None → self.old ≡ [] }
+        ensures fits { IfOk result (λ step. IfSome step FitsStep) }
         ensures kept { OnErr result (self.new ≡ self.old) }
     {
         while self.progress.left > 0 {
