@@ -1,5 +1,5 @@
 -- Cells that are written one after another.
-use Rattle.std.proofs.Common.{◌≡◌, ℕ, ◌+◌, ◌/◌, ◌<◌, ◌≤◌, List, ◌∷◌, [], ◌++◌, length, take, map, get_or, set, refl, sym, ap, ◌∙◌, arith}
+use Rattle.std.proofs.Common.{◌≡◌, ℕ, ◌+◌, ◌/◌, ◌<◌, List, ◌∷◌, [], ◌++◌, length, take, map, get_or, set, sym, ap, ◌∙◌, arith}
 use Rattle.std.proofs.Math.Seq.{take-length}
 use Rattle.std.proofs.lemmas.List.{take_more_set}
 use Rattle.std.proofs.lemmas.List.FromFn.{get_or-map-range_with_len, map-range_with_len_more}
@@ -31,5 +31,5 @@ cells_of-small intensities long small k d h =
     let inside : k < 128 = h in
     let at : k / 8 < length intensities = omega arith in
     let is : get_or (map (λ cell. get_or intensities (cell / 8) 0) (range_with_len 0 128)) k d ≡ get_or intensities (k / 8) 0 =
-        get_or-map-range_with_len (λ cell. get_or intensities (cell / 8) 0) 0 128 k k d inside (omega arith) in
+    get_or-map-range_with_len (λ cell. get_or intensities (cell / 8) 0) 0 128 k k d inside (omega arith) in
     rw is (small (k / 8) 0 at)

@@ -1,15 +1,15 @@
 -- Every step of a workload is in its ranges.
-use Rattle.std.proofs.Common.{◌≡◌, ℕ, zero, suc, ◌+◌, ◌-◌, ◌*◌, ◌%◌, ◌<◌, ◌≤◌, Bool, true, false, cond, eqb, ltb, List, [], ◌∷◌, ◌++◌, map, length, refl, sym, ap, ◌∙◌, subst, arith, length-append}
+use Rattle.std.proofs.Common.{◌≡◌, ℕ, zero, suc, ◌+◌, ◌-◌, ◌*◌, ◌%◌, ◌<◌, ◌≤◌, Bool, true, false, cond, eqb, ltb, List, [], ◌∷◌, ◌++◌, length, refl, ap, ◌∙◌, subst, arith, length-append}
 use Rattle.std.proofs.lemmas.List.Elements.{All-nil, All-cons, All-append, All-map}
 use Rattle.std.specs.Prelude.{codes, flat_map, All, Option, Some, option_to_list}
 use Rattle.std.specs.List.{range_with_len}
 use Rattle.workload.specs.declared.step.Step.{Step}
-use Rattle.workload.specs.declared.step.Step.TheVariants.{Text, Block as block_step, Blanks as blanks_step, Turn as turn_step, Hear, Show}
+use Rattle.workload.specs.declared.step.Step.TheVariants.{Text, Blanks as blanks_step, Turn as turn_step, Hear, Show}
 use Rattle.workload.specs.declared.progress.Phase.{Phase}
 use Rattle.workload.specs.declared.progress.Phase.TheVariants.{Metar, Taf, Block, Turn, Hearing, Picture}
 use Rattle.workload.specs.declared.progress.Progress.{Progress}
 use Rattle.workload.specs.Draws.{state_after, number_from, draws}
-use Rattle.workload.specs.Texts.{word, five_digits, two_digits, report}
+use Rattle.workload.specs.Texts.{word, two_digits, report}
 use Rattle.workload.specs.Hearings.{place_on_air, block_changes, changes}
 use Rattle.workload.specs.Step.{FitsStep}
 use Rattle.workload.specs.Workload.{Part, nothing, step, ◌>>◌, each_from, metar, taf, block, blanks, blocks, hearing, second, moment_of, metar_in, taf_in, radar_in, minute, workload}

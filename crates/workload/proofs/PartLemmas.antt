@@ -1,9 +1,8 @@
 -- What the parts of a minute give.
-use Rattle.std.proofs.Common.{◌≡◌, ℕ, ◌+◌, ◌%◌, List, [], ◌∷◌, ◌++◌, eqb, true, false, refl, sym, ap, ◌∙◌, inl, inr, arith}
+use Rattle.std.proofs.Common.{◌≡◌, ℕ, ◌+◌, ◌%◌, List, [], ◌∷◌, eqb, true, false, refl, sym, ap, ◌∙◌, inl, inr}
 use Rattle.std.proofs.lemmas.Bool.{eq-eqb}
 use Rattle.std.proofs.lemmas.Bool.Decides.{eqb_tells}
 use Rattle.std.specs.Prelude.{codes, ◌≢◌}
-use Rattle.workload.specs.declared.step.Step.{Step}
 use Rattle.workload.specs.declared.step.Step.TheVariants.{Text, Block, Hear}
 use Rattle.workload.specs.Draws.{state_after, number_from, draws}
 use Rattle.workload.specs.Texts.{report}

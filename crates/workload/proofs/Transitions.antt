@@ -1,5 +1,5 @@
 -- What is still to come before and after each phase of a minute.
-use Rattle.std.proofs.Common.{◌≡◌, ℕ, zero, suc, ◌+◌, ◌-◌, ◌*◌, ◌%◌, ◌<◌, ◌≤◌, Bool, true, false, cond, eqb, ltb, List, [], ◌∷◌, ◌++◌, refl, sym, ap, ◌∙◌, inl, inr, arith, append_assoc, eq-eqb}
+use Rattle.std.proofs.Common.{◌≡◌, ℕ, zero, suc, ◌+◌, ◌-◌, ◌%◌, ◌<◌, ◌≤◌, true, false, cond, eqb, ltb, List, [], ◌∷◌, ◌++◌, refl, sym, ap, ◌∙◌, arith, append_assoc, eq-eqb}
 use Rattle.std.proofs.lemmas.Bool.Decides.{nat_tests}
 use Rattle.workload.specs.declared.step.Step.{Step}
 use Rattle.workload.specs.declared.step.Step.TheVariants.{Blanks as blanks_step, Turn as turn_step, Show as show_step}
@@ -7,7 +7,7 @@ use Rattle.workload.specs.declared.progress.Phase.{Phase}
 use Rattle.workload.specs.declared.progress.Progress.{Progress}
 use Rattle.workload.specs.declared.progress.Phase.TheVariants.{Metar, Taf, Block, Turn, Hearing, Picture}
 use Rattle.workload.specs.Draws.{state_after, number_from}
-use Rattle.workload.specs.Workload.{Part, nothing, step, ◌>>◌, each_from, metar, taf, block, blanks, blocks, hearing, second, moment_of, metar_in, taf_in, radar_in, minute, workload}
+use Rattle.workload.specs.Workload.{Part, nothing, ◌>>◌, each_from, metar, taf, block, blanks, blocks, hearing, second, moment_of, metar_in, taf_in, radar_in, minute}
 use Rattle.workload.specs.Progress.{picture, turns, after_metars, rest_of_minute, phase_after_taf, rest, still_to_come}
 use Rattle.workload.proofs.PartLemmas.{ne-eqb}
 

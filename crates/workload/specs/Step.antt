@@ -1,5 +1,5 @@
 -- The ranges of steps.
-use Rattle.std.specs.Prelude.{◌≡◌, ℕ, ◌+◌, ◌*◌, ◌%◌, ◌^◌, ◌<◌, List, length, All}
+use Rattle.std.specs.Prelude.{◌<◌, length, All}
 use Rattle.workload.specs.declared.step.Step.{Step}
 use Rattle.workload.specs.declared.step.Step.TheVariants.{Text, Block, Blanks, Turn, Hear, Show}
 

@@ -64,8 +64,8 @@ blocks moment listed number zero = blanks moment listed
 blocks moment listed number (suc more) = do
   drawn ← draw
   if drawn % 2 == 0
-    then (block moment number >> blocks moment listed (number + 1) more)
-    else blocks moment (listed ++ number ∷ []) (number + 1) more
+      then (block moment number >> blocks moment listed (number + 1) more)
+      else blocks moment (listed ++ number ∷ []) (number + 1) more
 
 -- the frame that was sent last is not heard where the draw is a multiple of 5, and else it is heard
 -- with changes

@@ -31,10 +31,7 @@ impl Draws {
     {
         let count = 4 + self.next_number() % 8;
         let text = self.report(alloc, "METAR", station, count)?;
-        Ok(Step::Text {
-            moment,
-            text,
-        })
+        Ok(Step::Text { moment, text })
     }
 
     /// Draws a TAF of a station.
@@ -49,10 +46,7 @@ impl Draws {
     {
         let count = 40 + self.next_number() % 60;
         let text = self.report(alloc, "TAF", station, count)?;
-        Ok(Step::Text {
-            moment,
-            text,
-        })
+        Ok(Step::Text { moment, text })
     }
 
     /// Draws a report of a kind, with a number of words.
@@ -126,10 +120,7 @@ impl Draws {
             return Ok(None);
         }
         let changes = self.changes(alloc)?;
-        Ok(Some(Step::Hear {
-            moment,
-            changes,
-        }))
+        Ok(Some(Step::Hear { moment, changes }))
     }
 
     /// Draws the changes of all blocks.

@@ -1,5 +1,5 @@
-//! The workload: an endless broadcast in small, with reports, radar, turns, hearings and pictures,
-//! made from a number. It is a list of steps, and is handed out step by step.
+//! The workload of `make`: reports, radar, turns, hearings and pictures, drawn from a number. It is a
+//! list of steps, and is handed out step by step.
 #![tactic(auto)]
 
 mod changes;
@@ -9,9 +9,9 @@ pub mod laws;
 mod progress;
 mod report_text;
 mod step;
-mod workload;
 #[cfg(test)]
 mod tests;
+mod workload;
 
 pub use changes::Changes;
 pub use report_text::ReportText;

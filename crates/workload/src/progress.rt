@@ -13,6 +13,7 @@ use std::mem;
 
 /// The first block, and the one after the last.
 const FIRST_BLOCK: u32 = 99_900;
+
 const END_OF_BLOCKS: u32 = 100_800;
 
 /// What comes next in a minute.

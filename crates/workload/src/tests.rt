@@ -104,7 +104,11 @@ fn steps_are_those_of_the_rules(rt: HostRuntime) -> Result<(), Fail> {
         (2, 7, 684, (64_754, 16_983)),
         (6, u64::MAX, 1_607, (36_999, 12_751)),
     ] {
-        assert_eq!(rt; summary(rt.alloc(), count, seed)?, (steps, halves), "{count} {seed}");
+        assert_eq!(rt;
+            summary(rt.alloc(), count, seed)?,
+            (steps, halves),
+            "{count} {seed}"
+        );
     }
     Ok(())
 }

@@ -1,5 +1,4 @@
 -- One change after another.
-use Rattle.std.proofs.Common.{◌≡◌, ap, ◌∙◌, ◌∷◌, [], ◌++◌}
 use Rattle.workload.proofs.drawing.push_changes.Goals as goal
 use Rattle.workload.proofs.ChangeLemmas.{block_changes-zero, block_changes-more}
 

@@ -1,5 +1,5 @@
 -- Ten times nine is below 92.
-use Rattle.std.proofs.Common.{◌≡◌, ◌+◌, ◌*◌, ◌%◌, ◌<◌, arith}
+use Rattle.std.proofs.Common.{arith}
 use Rattle.workload.proofs.laws.places_differ.Goals as goal
 
 pub returns : goal.returns

@@ -1,5 +1,5 @@
 -- Radar comes in every fifth minute.
-use Rattle.std.proofs.Common.{◌≡◌, ◌%◌, eqb, refl, eq-eqb}
+use Rattle.std.proofs.Common.{◌%◌, refl, eq-eqb}
 use Rattle.workload.specs.Progress.{phase_after_taf}
 use Rattle.workload.proofs.progress.phase_after_taf.Goals as goal
 use Rattle.workload.proofs.PartLemmas.{ne-eqb}

@@ -1,5 +1,5 @@
 -- The intensities of a block are drawn.
-use Rattle.std.proofs.Common.{◌≡◌, ◌<◌, ℕ, List, sym, subst, arith}
+use Rattle.std.proofs.Common.{◌<◌, ℕ, List, sym, subst, arith}
 use Rattle.std.specs.List.{All}
 use Rattle.workload.proofs.draws.Draws.block.Goals as goal
 use Rattle.workload.proofs.DrawLemmas.{draws-below}

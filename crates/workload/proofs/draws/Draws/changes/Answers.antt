@@ -1,5 +1,5 @@
 -- One block after another.
-use Rattle.std.proofs.Common.{◌≡◌, ℕ, arith}
+use Rattle.std.proofs.Common.{◌≡◌, arith}
 use Rattle.workload.proofs.draws.Draws.changes.Goals as goal
 use Rattle.workload.proofs.ChangeLemmas.{blocks-more, blocks-end, states-end}
 

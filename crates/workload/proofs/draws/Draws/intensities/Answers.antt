@@ -1,5 +1,5 @@
 -- One intensity after another.
-use Rattle.std.proofs.Common.{◌≡◌, ◌<◌, ℕ, length, arith}
+use Rattle.std.proofs.Common.{◌≡◌, ◌<◌, length, arith}
 use Rattle.workload.proofs.draws.Draws.intensities.Goals as goal
 use Rattle.workload.proofs.DrawLemmas.{numbers-more, numbers-end, draws-end}
 

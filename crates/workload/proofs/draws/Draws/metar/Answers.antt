@@ -1,5 +1,4 @@
 -- The words of a METAR are counted and drawn.
-use Rattle.std.proofs.Common.{◌≡◌, ◌+◌, ◌%◌, ap, ◌∙◌}
 use Rattle.workload.proofs.draws.Draws.metar.Goals as goal
 use Rattle.workload.proofs.PartLemmas.{metar-is}
 

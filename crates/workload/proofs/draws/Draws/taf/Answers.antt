@@ -1,5 +1,4 @@
 -- The words of a TAF are counted and drawn.
-use Rattle.std.proofs.Common.{◌≡◌, ◌+◌, ◌%◌, ap, ◌∙◌}
 use Rattle.workload.proofs.draws.Draws.taf.Goals as goal
 use Rattle.workload.proofs.PartLemmas.{taf-is}
 

@@ -1,5 +1,5 @@
 -- One word after another.
-use Rattle.std.proofs.Common.{◌≡◌, ℕ, arith}
+use Rattle.std.proofs.Common.{◌≡◌, arith}
 use Rattle.workload.proofs.draws.Draws.words.Goals as goal
 use Rattle.workload.proofs.DrawLemmas.{words-more, words-end, draws-end}
 

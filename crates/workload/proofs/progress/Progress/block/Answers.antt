@@ -1,5 +1,5 @@
 -- A block is given at once or listed.
-use Rattle.std.proofs.Common.{◌≡◌, ℕ, List, ◌<◌, ◌≤◌, [], ◌∷◌, ap, arith}
+use Rattle.std.proofs.Common.{ℕ, List, ◌<◌, [], ◌∷◌, ap, arith}
 use Rattle.workload.specs.declared.progress.Phase.TheVariants.{Block}
 use Rattle.workload.specs.Progress.{still_to_come, rest}
 use Rattle.workload.proofs.progress.Progress.block.Goals as goal

@@ -1,5 +1,5 @@
 -- A METAR of a station, if it has one in this minute.
-use Rattle.std.proofs.Common.{◌≡◌, ◌<◌, ◌≤◌, [], ◌∷◌, arith}
+use Rattle.std.proofs.Common.{◌<◌, ◌≤◌, [], ◌∷◌, arith}
 use Rattle.workload.specs.declared.progress.Phase.TheVariants.{Metar}
 use Rattle.workload.specs.Progress.{still_to_come}
 use Rattle.workload.proofs.progress.Progress.metar.Goals as goal

@@ -1,5 +1,5 @@
 -- A minute ends with its picture.
-use Rattle.std.proofs.Common.{◌≡◌, List, ℕ, []}
+use Rattle.std.proofs.Common.{◌≡◌, []}
 use Rattle.workload.specs.declared.progress.Phase.TheVariants.{Picture}
 use Rattle.workload.specs.Progress.{still_to_come}
 use Rattle.workload.proofs.progress.Progress.picture.Goals as goal

@@ -1,5 +1,5 @@
 -- The TAF, if there is one in this minute.
-use Rattle.std.proofs.Common.{◌≡◌, ◌*◌, ◌+◌, ◌<◌, List, ℕ, [], ◌∷◌, arith}
+use Rattle.std.proofs.Common.{◌≡◌, [], ◌∷◌}
 use Rattle.workload.specs.declared.progress.Phase.TheVariants.{Taf}
 use Rattle.workload.specs.Progress.{still_to_come}
 use Rattle.workload.proofs.progress.Progress.taf.Goals as goal
@@ -11,7 +11,7 @@ returns-then-station-ge40-clause-sound c =
     let none : c.args.self.now.listed.items ≡ [] = fits-at c.args.self.now Taf c.requires.sound c.requires.phase in
     record {
       minutes = c.requires.sound.minutes;
-      phase = FitsPhase-after_taf c.args.self.now.minute c.phase_after_taf-next.result c.args.self.now.listed.items c.phase_after_taf-next.ensures none
+      phase = FitsPhase-after_taf c.args.self.now.minute c.phase_after_taf-next.result c.args.self.now.listed.items c.phase_after_taf-next.ensures none;
     }
 
 pub returns-then-station-ge40-clause-handed : goal.returns-then-station-ge40-clause-handed
@@ -30,7 +30,7 @@ returns-clause-sound c =
     let none : c.args.self.now.listed.items ≡ [] = fits-at c.args.self.now Taf c.requires.sound c.requires.phase in
     record {
       minutes = c.requires.sound.minutes;
-      phase = FitsPhase-after_taf c.args.self.now.minute c.phase_after_taf-next.result c.args.self.now.listed.items c.phase_after_taf-next.ensures none
+      phase = FitsPhase-after_taf c.args.self.now.minute c.phase_after_taf-next.result c.args.self.now.listed.items c.phase_after_taf-next.ensures none;
     }
 
 pub returns-clause-handed : goal.returns-clause-handed

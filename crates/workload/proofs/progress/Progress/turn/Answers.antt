@@ -1,5 +1,5 @@
 -- A turn comes before its hearing, and the picture after the last.
-use Rattle.std.proofs.Common.{◌≡◌, ◌%◌, ◌<◌, ◌≤◌, [], ◌∷◌, arith}
+use Rattle.std.proofs.Common.{◌%◌, ◌<◌, ◌≤◌, [], ◌∷◌, arith}
 use Rattle.workload.specs.declared.step.Step.TheVariants.{Turn as turn_step}
 use Rattle.workload.specs.declared.progress.Phase.TheVariants.{Turn}
 use Rattle.workload.specs.Progress.{still_to_come}

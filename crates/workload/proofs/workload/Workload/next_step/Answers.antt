@@ -1,5 +1,5 @@
 -- What is handed out is in its ranges, and there is no step once no minute is left.
-use Rattle.std.proofs.Common.{◌≡◌, ◌∙◌}
+use Rattle.std.proofs.Common.{◌∙◌}
 use Rattle.workload.proofs.workload.Workload.next_step.Goals as goal
 use Rattle.workload.proofs.Fits.{fits-handed}
 use Rattle.workload.proofs.Transitions.{still_to_come-none}
