@@ -11,9 +11,10 @@ use fisb_wire::Numbers;
 use std::alloc::{AllocError, Global};
 use std::mem;
 
-/// The first block, and the one after the last.
+/// The first block.
 const FIRST_BLOCK: u32 = 99_900;
 
+/// The block after the last one.
 const END_OF_BLOCKS: u32 = 100_800;
 
 /// What comes next in a minute.
