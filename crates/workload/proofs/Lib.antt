@@ -1,0 +1,7 @@
+pub mod DrawLemmas
+pub mod CellLemmas
+pub mod ChangeLemmas
+pub mod PartLemmas
+pub mod Transitions
+pub mod Ranges
+pub mod Fits
