@@ -30,6 +30,14 @@ abbrev pub ends : Option (List ℕ) → ℕ → Option (List ℕ) → ℕ → En
 ends left reads written writes =
     record { left = left; reads = reads; written = written; writes = writes }
 
+-- what a source alone has left, where it tells it, and how many of its reads failed
+pub record SourceEnd : Type 0 where
+  pub left : Option (List ℕ)
+  pub reads : ℕ
+
+abbrev pub source_end : Option (List ℕ) → ℕ → SourceEnd
+source_end left reads = record { left = left; reads = reads }
+
 -- what a sink alone holds, where it tells it, and how many of its writes failed
 pub record SinkEnd : Type 0 where
   pub written : Option (List ℕ)

@@ -6,7 +6,7 @@ ghost use Rattle.run_core.specs.Actor.{HasOpened};
 ghost use Rattle.run_core.specs.Reading.{IsWithin};
 ghost use Rattle.run_core.specs.Run.{Ends, HasRun, IsComplete, IsDecided, ends, task_of};
 ghost use Rattle.run_core.specs.Running.{IsFilled};
-ghost use Rattle.run_core.specs.Searched.{IsFound, IsLast};
+ghost use Rattle.run_core.specs.Searched.{IsTable, IsLast};
 
 use crate::acting::refuse;
 use crate::actor::Actor;
@@ -91,7 +91,7 @@ fn start<A: Actor, S: Source, K: Sink>(
     ensures ran { (old : Ends) → IsFilled old
         (ends (S.left source.old) (S.faults source.old) (K.written sink.old) (K.faults sink.old))
         input
-        → IsFound input.ring.items size number
+        → IsTable input.ring.items size number
         → HasRun (task_of A.work) old
         (ends (S.left source.new) (S.faults source.new) (K.written sink.new) (K.faults sink.new))
         result }
