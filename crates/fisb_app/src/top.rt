@@ -1,7 +1,7 @@
 //! The top call.
 ghost use Rattle.std.specs.Prelude.{◌≡◌, ℕ, ◌≤◌, ◌↔◌, None, Some, map, string_bytes};
 ghost use Rattle.fisb_wire.specs.Faults.{Rose};
-ghost use Rattle.run_core.specs.Run.{HasRun, IsDecided, ends, sink_end, task_of};
+ghost use Rattle.run_core.specs.Run.{HasRun, IsComplete, IsDecided, ends, sink_end, task_of};
 ghost use Rattle.fisb_app.specs.Command.{command_named};
 ghost use Rattle.fisb_app.specs.declared.command.Command.{Command};
 ghost use Rattle.fisb_app.specs.Unbuilt.{HasRefused};
@@ -55,6 +55,11 @@ pub fn run<S: Source, K: Sink>(
         (ends (S.left source.old) (S.faults source.old) (K.written sink.old) (K.faults sink.old))
         (ends (S.left source.new) (S.faults source.new) (K.written sink.new) (K.faults sink.new))
         result }
+    ensures complete { command_named (map string_bytes words.now) ≡ Some Command.Link
+        → IsComplete (task_of link_work) (K.reach sink.old)
+        (ends (S.left source.old) (S.faults source.old) (K.written sink.old) (K.faults sink.old))
+        (ends (S.left source.new) (S.faults source.new) (K.written sink.new) (K.faults sink.new))
+        result }
 
     // `ground`: the same, without pictures.
     ensures ground_alone { command_named (map string_bytes words.now) ≡ Some Command.Ground
@@ -64,6 +69,11 @@ pub fn run<S: Source, K: Sink>(
         result }
     ensures ground_decided { command_named (map string_bytes words.now) ≡ Some Command.Ground
         → IsDecided (task_of ground_work)
+        (ends (S.left source.old) (S.faults source.old) (K.written sink.old) (K.faults sink.old))
+        (ends (S.left source.new) (S.faults source.new) (K.written sink.new) (K.faults sink.new))
+        result }
+    ensures ground_complete { command_named (map string_bytes words.now) ≡ Some Command.Ground
+        → IsComplete (task_of ground_work) (K.reach sink.old)
         (ends (S.left source.old) (S.faults source.old) (K.written sink.old) (K.faults sink.old))
         (ends (S.left source.new) (S.faults source.new) (K.written sink.new) (K.faults sink.new))
         result }
@@ -86,6 +96,11 @@ pub fn run<S: Source, K: Sink>(
         (ends (S.left source.old) (S.faults source.old) (K.written sink.old) (K.faults sink.old))
         (ends (S.left source.new) (S.faults source.new) (K.written sink.new) (K.faults sink.new))
         result }
+    ensures receive_complete { command_named (map string_bytes words.now) ≡ Some Command.Receive
+        → IsComplete (task_of receive_work) (K.reach sink.old)
+        (ends (S.left source.old) (S.faults source.old) (K.written sink.old) (K.faults sink.old))
+        (ends (S.left source.new) (S.faults source.new) (K.written sink.new) (K.faults sink.new))
+        result }
 
     // `gdl`: the same, with messages for displays alone.
     ensures gdl { command_named (map string_bytes words.now) ≡ Some Command.Gdl
@@ -95,6 +110,11 @@ pub fn run<S: Source, K: Sink>(
         result }
     ensures gdl_decided { command_named (map string_bytes words.now) ≡ Some Command.Gdl
         → IsDecided (task_of gdl_work)
+        (ends (S.left source.old) (S.faults source.old) (K.written sink.old) (K.faults sink.old))
+        (ends (S.left source.new) (S.faults source.new) (K.written sink.new) (K.faults sink.new))
+        result }
+    ensures gdl_complete { command_named (map string_bytes words.now) ≡ Some Command.Gdl
+        → IsComplete (task_of gdl_work) (K.reach sink.old)
         (ends (S.left source.old) (S.faults source.old) (K.written sink.old) (K.faults sink.old))
         (ends (S.left source.new) (S.faults source.new) (K.written sink.new) (K.faults sink.new))
         result }
@@ -142,6 +162,10 @@ pub fn run_link<S: Source, K: Sink>(alloc: Global, source: &mut S, sink: &mut K)
         (ends (S.left source.old) (S.faults source.old) (K.written sink.old) (K.faults sink.old))
         (ends (S.left source.new) (S.faults source.new) (K.written sink.new) (K.faults sink.new))
         result }
+    ensures complete { IsComplete (task_of link_work) (K.reach sink.old)
+        (ends (S.left source.old) (S.faults source.old) (K.written sink.old) (K.faults sink.old))
+        (ends (S.left source.new) (S.faults source.new) (K.written sink.new) (K.faults sink.new))
+        result }
     ensures read_fault { result ≡ Status.ReadFault
         → Rose (S.faults source.old) (S.faults source.new) }
     ensures write_fault { result ≡ Status.WriteFault
@@ -174,6 +198,10 @@ pub fn run_link_over<S: Source, K: Sink, E: Ear>(
         (ends (S.left source.old) (S.faults source.old) (K.written sink.old) (K.faults sink.old))
         (ends (S.left source.new) (S.faults source.new) (K.written sink.new) (K.faults sink.new))
         result }
+    ensures complete { IsComplete (task_of link_work) (K.reach sink.old)
+        (ends (S.left source.old) (S.faults source.old) (K.written sink.old) (K.faults sink.old))
+        (ends (S.left source.new) (S.faults source.new) (K.written sink.new) (K.faults sink.new))
+        result }
     ensures read_fault { result ≡ Status.ReadFault
         → Rose (S.faults source.old) (S.faults source.new) }
     ensures write_fault { result ≡ Status.WriteFault
@@ -197,6 +225,10 @@ pub fn run_ground<S: Source, K: Sink>(alloc: Global, source: &mut S, sink: &mut 
         (ends (S.left source.new) (S.faults source.new) (K.written sink.new) (K.faults sink.new))
         result }
     ensures decided { IsDecided (task_of ground_work)
+        (ends (S.left source.old) (S.faults source.old) (K.written sink.old) (K.faults sink.old))
+        (ends (S.left source.new) (S.faults source.new) (K.written sink.new) (K.faults sink.new))
+        result }
+    ensures complete { IsComplete (task_of ground_work) (K.reach sink.old)
         (ends (S.left source.old) (S.faults source.old) (K.written sink.old) (K.faults sink.old))
         (ends (S.left source.new) (S.faults source.new) (K.written sink.new) (K.faults sink.new))
         result }
@@ -227,6 +259,10 @@ pub fn run_receive<S: Source, K: Sink>(alloc: Global, source: &mut S, sink: &mut
         (ends (S.left source.old) (S.faults source.old) (K.written sink.old) (K.faults sink.old))
         (ends (S.left source.new) (S.faults source.new) (K.written sink.new) (K.faults sink.new))
         result }
+    ensures complete { IsComplete (task_of receive_work) (K.reach sink.old)
+        (ends (S.left source.old) (S.faults source.old) (K.written sink.old) (K.faults sink.old))
+        (ends (S.left source.new) (S.faults source.new) (K.written sink.new) (K.faults sink.new))
+        result }
     ensures read_fault { result ≡ Status.ReadFault
         → Rose (S.faults source.old) (S.faults source.new) }
     ensures write_fault { result ≡ Status.WriteFault
@@ -250,6 +286,10 @@ pub fn run_gdl<S: Source, K: Sink>(alloc: Global, source: &mut S, sink: &mut K) 
         (ends (S.left source.new) (S.faults source.new) (K.written sink.new) (K.faults sink.new))
         result }
     ensures decided { IsDecided (task_of gdl_work)
+        (ends (S.left source.old) (S.faults source.old) (K.written sink.old) (K.faults sink.old))
+        (ends (S.left source.new) (S.faults source.new) (K.written sink.new) (K.faults sink.new))
+        result }
+    ensures complete { IsComplete (task_of gdl_work) (K.reach sink.old)
         (ends (S.left source.old) (S.faults source.old) (K.written sink.old) (K.faults sink.old))
         (ends (S.left source.new) (S.faults source.new) (K.written sink.new) (K.faults sink.new))
         result }

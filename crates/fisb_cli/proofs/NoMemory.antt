@@ -27,10 +27,10 @@ unbegun-run task e = (
   ),
 )
 
-judged-without-memory : (task : Task) (left : Option (List ℕ)) (reads writes : ℕ) → IfSome left (λ input.
-    (Rose reads reads → ⊥) → (Rose writes writes → ⊥) → IsJudged task input NoMemory)
-judged-without-memory task None reads writes = tt
-judged-without-memory task (Some input) reads writes = λ reading writing. inl refl
+judged-without-memory : (task : Task) (e : Ends) (left : Option (List ℕ)) → IfSome left (λ input.
+    (Rose e.reads e.reads → ⊥) → (Rose e.writes e.writes → ⊥) → IsJudged task e e input NoMemory)
+judged-without-memory task e None = tt
+judged-without-memory task e (Some input) = λ reading writing. inl refl
 
 pub decided-without-memory : (task : Task) (e : Ends) → IsDecided task e e NoMemory
-decided-without-memory task e = judged-without-memory task e.left e.reads e.writes
+decided-without-memory task e = judged-without-memory task e e.left

@@ -41,7 +41,8 @@ pub fn run_args<S: Source, K: Sink>(
         (sink_end (K.written sink.new) (K.faults sink.new)))) }
     ensures gdl { IfOk args (λ args. IsGdlAlone (map string_bytes (words_of (into_iter_items args)))
         → (source.new ≡ source.old) × (sink.new ≡ sink.old) × ((result ≡ 3) ⊎ (result ≡ 7))) }
-    ensures link { IfOk args (λ args. IsLinkAlone (map string_bytes (words_of (into_iter_items args)))
+    ensures link { IfOk args (λ args.
+        IsLinkAlone (map string_bytes (words_of (into_iter_items args)))
         → EndsAs result (λ status. HasRun (task_of promised_work)
         (ends (S.left source.old) (S.faults source.old) (K.written sink.old) (K.faults sink.old))
         (ends (S.left source.new) (S.faults source.new) (K.written sink.new) (K.faults sink.new))

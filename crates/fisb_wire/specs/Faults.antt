@@ -1,5 +1,5 @@
 -- Counts that a program keeps in 64 bits, and the count of the faults of a source or a sink.
-use Rattle.std.specs.Prelude.{ℕ, ◌+◌, ◌-◌, ◌^◌, ◌≤◌, min, Result, OnErr}
+use Rattle.std.specs.Prelude.{◌≡◌, ℕ, ◌+◌, ◌-◌, ◌^◌, ◌≤◌, min, Result, OnErr}
 use Rattle.std.proofs.Common.{arith}
 
 -- a count in 64 bits: it stands still at 2^64 − 1
@@ -14,11 +14,11 @@ counted-bound n = omega arith
 abbrev pub next_count : ℕ → ℕ
 next_count n = counted (n + 1)
 
--- the count rose in a call: it is greater after the call than before it, or stands at 2^64 − 1 after it
+-- the count rose: it is greater by one than before, or stands at 2^64 − 1
 abbrev pub Rose : ℕ → ℕ → Type 0
-Rose before after = next_count before ≤ after
+Rose before after = after ≡ next_count before
 
--- the count of faults never falls, and a call answers an error only where the count rose in it
+-- the count of faults never falls, and a call that answers an error counts one
 pub record HasCause {T E : Type 0} (before after : ℕ) (result : Result T E) : Type 0 where
   pub later : before ≤ after
   pub rose : OnErr result (Rose before after)

@@ -5,8 +5,8 @@ ghost use Rattle.std.specs.Io.KnownBytes.{ReadConsumes, WriteAppends};
 ghost use Rattle.fisb_wire.specs.Faults.{HasCause};
 ghost use Rattle.fisb_wire.specs.Ends.{TakesSome, FitsSpare, SpendsTaken, IsReached};
 
-/// A read or a write that failed. Nothing was then read or written, and the count of faults of the
-/// source or the sink rose.
+/// A read or a write that failed. Nothing was then read or written, and the source or the sink counts
+/// one fault more.
 #[derive(Clone, Copy, Debug, PartialEq, Eq)]
 pub struct Failed;
 
@@ -15,7 +15,7 @@ pub trait Source {
     // The bytes still to come, where the source tells them.
     ghost left: { Self → Option (List ℕ) };
 
-    // How many reads failed.
+    // How many reads failed: each counts one, and no other call counts.
     ghost faults: { Self → ℕ };
 
     /// Reads into the front of `room`, and answers how many bytes it read. 0 in a room that is not
@@ -36,7 +36,7 @@ pub trait Sink {
     // The bytes taken so far, where the sink tells them.
     ghost written: { Self → Option (List ℕ) };
 
-    // How many writes failed.
+    // How many writes failed: each counts one, and no other call counts.
     ghost faults: { Self → ℕ };
 
     // How many bytes the caller may still write, or none where the sink asks no room of its caller.

@@ -39,19 +39,22 @@ run-agrees one other old new WriteFault same h = (h.0, front one other old new s
 run-agrees one other old new TooLong same h = answered one other old new TooLong same h
 run-agrees one other old new NoMemory same h = (h.0, front one other old new same h.1)
 
-judged-agrees : (one other : Task) (input : List ℕ) (status : Status) → Agrees one other → IsJudged one input status
-    → IsJudged other input status
-judged-agrees one other input status same (inl none) = inl none
-judged-agrees one other input status same (inr verdict) =
-    inr (subst (λ f. IsVerdict (ending_of input) f status)
-    (same.fault (is_end (ending_of input)) (acted_part input)) verdict)
+judged-agrees : (one other : Task) (old new : Ends) (input : List ℕ) (status : Status) → Agrees one other
+    → IsJudged one old new input status → IsJudged other old new input status
+judged-agrees one other old new input status same (inl none) = inl none
+judged-agrees one other old new input status same (inr h) = inr (
+  subst (λ f. IsVerdict (ending_of input) f status)
+      (same.fault (is_end (ending_of input)) (acted_part input)) h.0,
+  subst (λ o. Appends old.written new.written o)
+      (same.output (is_end (ending_of input)) (acted_part input)) h.1,
+)
 
 decided-by : (one other : Task) (left : Option (List ℕ)) (old new : Ends) (status : Status) → old.left ≡ left
     → Agrees one other → IsDecided one old new status → IsDecided other old new status
 decided-by one other None old new status is same h = rw is tt
 decided-by one other (Some input) old new status is same h =
     let told = rw is at h in
-    rw is (λ reads writes. judged-agrees one other input status same (told reads writes))
+    rw is (λ reads writes. judged-agrees one other old new input status same (told reads writes))
 
 pub decided-agrees : DecidedAgrees
 decided-agrees one other old new status same h = decided-by one other old.left old new status refl same h

@@ -10,20 +10,21 @@ use Rattle.run_core.specs.Limits.{ring_limit}
 use Rattle.run_core.specs.Lines.{lines_in}
 use Rattle.run_core.specs.Opening.{opening_at}
 use Rattle.run_core.specs.Reading.{IsWithin, HasGrown, newline_in}
+use Rattle.run_core.specs.Run.{source_end}
 use Rattle.run_core.specs.Running.{IsSought}
-use Rattle.run_core.specs.Searched.{IsHeld, IsFound, IsLast, IsLooked, HasSearched, is_end_here}
+use Rattle.run_core.specs.Searched.{IsHeld, IsTable, IsLast, IsLooked, HasSearched, is_end_here}
 use Rattle.run_core.proofs.Turns.{IsSearch, clear-more, found-from, none-from, sought-more, sought-line, sought-found, sought-long, sought-none, sought-last, sought-missing}
 
 module _ (lb : Option (List ℕ)) (rb : ℕ) where
   pub search-moved : (la : Option (List ℕ)) (ra : ℕ) (input after : Input) (place number : ℕ) (may : Bool)
-      → after ≡ input → IsSearch lb la rb ra input place number may → IsSearch lb la rb ra after place number may
-  search-moved la ra input after place number may same s = subst (λ i. IsSearch lb la rb ra i place number may) (sym same) s
+      → after ≡ input → IsSearch (source_end lb rb) (source_end la ra) input place number may → IsSearch (source_end lb rb) (source_end la ra) after place number may
+  search-moved la ra input after place number may same s = subst (λ i. IsSearch (source_end lb rb) (source_end la ra) i place number may) (sym same) s
 
   -- bytes were read
   pub search-read : (mid la : Option (List ℕ)) (rm ra : ℕ) (input now after : Input) (place number : ℕ)
-      (may may' : Bool) (piece : List ℕ) → now ≡ input → IsSearch lb mid rb rm input place number may
-      → HasGrown now after mid la rm ra piece → IsWithin after
-      → (may' ≡ false → newline_in (drop place after.ring.items) ≡ None) → IsSearch lb la rb ra after place number may'
+      (may may' : Bool) (piece : List ℕ) → now ≡ input → IsSearch (source_end lb rb) (source_end mid rm) input place number may
+      → HasGrown now after (source_end mid rm) (source_end la ra) piece → IsWithin after
+      → (may' ≡ false → newline_in (drop place after.ring.items) ≡ None) → IsSearch (source_end lb rb) (source_end la ra) after place number may'
   search-read mid la rm ra input now after place number may may' piece same before g within clear =
       let s = search-moved mid rm input now place number may same before in
       let size = ap length g.items ∙ length-append now.ring.items piece in
@@ -41,8 +42,8 @@ module _ (lb : Option (List ℕ)) (rb : ℕ) where
       }
 
   module _ (la : Option (List ℕ)) (ra : ℕ) (input now : Input) (place number : ℕ) (may : Bool) (same : now ≡ input)
-      (before : IsSearch lb la rb ra input place number may) where
-    here : IsSearch lb la rb ra now place number may
+      (before : IsSearch (source_end lb rb) (source_end la ra) input place number may) where
+    here : IsSearch (source_end lb rb) (source_end la ra) now place number may
     here = search-moved la ra input now place number may same before
 
     told : (found : Option ℕ) → found ≡ option_map (λ end. place + end) (newline_in (drop place input.ring.items))
@@ -57,13 +58,13 @@ module _ (lb : Option (List ℕ)) (rb : ℕ) where
     pub search-found : (after : Input) (e : ℕ) → after ≡ now
         → Some e ≡ option_map (λ end. place + end) (newline_in (drop place input.ring.items))
         → is_end_here now.ring.items place (e - place) ≡ true
-        → IsHeld lb la after × IsFound after.ring.items place number × (ra ≡ rb)
+        → IsHeld (source_end lb rb) (source_end la ra) after × IsTable after.ring.items place number × (ra ≡ rb)
     search-found after e moved is matched =
         let k = found-from place e (newline_in (drop place now.ring.items)) (told (Some e) is) in
         let test = subst (λ n. is_end_here now.ring.items place n ≡ true) (size-of e k.0 k.2) matched in
         let found = sought-found now.ring.items place number k.0 here.sought k.1 test in (
-          subst (IsHeld lb la) (sym moved) here.held,
-          subst (λ (i : Input). IsFound i.ring.items place number)
+          subst (IsHeld (source_end lb rb) (source_end la ra)) (sym moved) here.held,
+          subst (λ (i : Input). IsTable i.ring.items place number)
               (sym moved) found,
           here.unfailed,
         )
@@ -72,7 +73,7 @@ module _ (lb : Option (List ℕ)) (rb : ℕ) where
     pub search-line : (after : Input) (e : ℕ) → after ≡ now
         → Some e ≡ option_map (λ end. place + end) (newline_in (drop place input.ring.items))
         → is_end_here now.ring.items place (e - place) ≡ false
-        → IsSearch lb la rb ra after (e + 1) (number + 1) true
+        → IsSearch (source_end lb rb) (source_end la ra) after (e + 1) (number + 1) true
     search-line after e moved is other =
         let k = found-from place e (newline_in (drop place now.ring.items)) (told (Some e) is) in
         let test = subst (λ n. is_end_here now.ring.items place n ≡ false) (size-of e k.0 k.2) other in
@@ -93,7 +94,7 @@ module _ (lb : Option (List ℕ)) (rb : ℕ) where
 
     -- so many bytes have none that none can come
     pub search-long : None ≡ option_map (λ end. place + end) (newline_in (drop place input.ring.items))
-        → ring_limit ≤ length now.ring.items → HasSearched lb la rb ra now ways.Long
+        → ring_limit ≤ length now.ring.items → HasSearched (source_end lb rb) (source_end la ra) now ways.Long
     search-long none long =
         let fits = here.within.items in (
           here.held,
@@ -103,8 +104,9 @@ module _ (lb : Option (List ℕ)) (rb : ℕ) where
           here.unfailed,
         )
 
-    pub held-after : (left : Option (List ℕ)) (after : Input) → after ≡ now → Consumes la left [] → IsHeld lb left after
-    held-after left after moved none = subst (IsHeld lb left) (sym moved) (record {
+    pub held-after : (left : Option (List ℕ)) (reads : ℕ) (after : Input) → after ≡ now → Consumes la left []
+        → IsHeld (source_end lb rb) (source_end left reads) after
+    held-after left reads after moved none = subst (IsHeld (source_end lb rb) (source_end left reads)) (sym moved) (record {
       taken = here.held.taken;
       consumed = subst (Consumes lb left) (append-nil now.ring.items) (Consumes-trans _ _ _ _ _ here.held.consumed none);
     })
@@ -113,9 +115,9 @@ module _ (lb : Option (List ℕ)) (rb : ℕ) where
     pub search-failed : (left : Option (List ℕ)) (reads : ℕ) (after : Input) → after ≡ now
         → None ≡ option_map (λ end. place + end) (newline_in (drop place input.ring.items))
         → length now.ring.items < ring_limit
-        → Consumes la left [] → Rose ra reads → HasSearched lb left rb reads after ways.Failed
+        → Consumes la left [] → Rose ra reads → HasSearched (source_end lb rb) (source_end left reads) after ways.Failed
     search-failed left reads after moved none short taken rose = (
-      held-after left after moved taken,
+      held-after left reads after moved taken,
       subst (λ (i : Input). opening_at 0 1 (lines_in false i.ring.items) ≡ None) (sym moved)
           (sought-none now.ring.items place number here.sought (none-here none)),
       subst (λ (i : Input). length i.ring.items < ring_limit) (sym moved) short,
@@ -125,10 +127,10 @@ module _ (lb : Option (List ℕ)) (rb : ℕ) where
     -- the input ended
     ended : (left : Option (List ℕ)) (reads : ℕ) (result : TableEnd) → newline_in (drop place now.ring.items) ≡ None
         → length now.ring.items < ring_limit → Consumes la left [] → IsAtEnd left → reads ≡ ra
-        → IsLooked now.ring.items place number result → HasSearched lb left rb reads now result
+        → IsLooked now.ring.items place number result → HasSearched (source_end lb rb) (source_end left reads) now result
     ended left reads (ways.Found size line) none short taken end unfailed looked = absurd looked
     ended left reads (ways.Last size line) none short taken end unfailed looked = (
-      held-after left now refl taken,
+      held-after left reads now refl taken,
       subst (λ n. IsLast now.ring.items size n) (sym looked.1)
           (subst (λ n. IsLast now.ring.items n number) (sym looked.0)
           (sought-last now.ring.items place number here.sought none looked.2)),
@@ -136,21 +138,21 @@ module _ (lb : Option (List ℕ)) (rb : ℕ) where
       unfailed ∙ here.unfailed,
     )
     ended left reads ways.Missing none short taken end unfailed looked =
-        (held-after left now refl taken, sought-missing now.ring.items place number here.sought none looked, short, end, unfailed ∙ here.unfailed)
+        (held-after left reads now refl taken, sought-missing now.ring.items place number here.sought none looked, short, end, unfailed ∙ here.unfailed)
     ended left reads ways.Long none short taken end unfailed looked = absurd looked
     ended left reads ways.Failed none short taken end unfailed looked = absurd looked
 
     pub search-ended : (left : Option (List ℕ)) (reads : ℕ) (after final : Input) (result : TableEnd) → after ≡ now
         → final ≡ after → None ≡ option_map (λ end. place + end) (newline_in (drop place input.ring.items))
         → length now.ring.items < ring_limit → Consumes la left [] → IsAtEnd left → reads ≡ ra
-        → IsLooked after.ring.items place number result → HasSearched lb left rb reads final result
+        → IsLooked after.ring.items place number result → HasSearched (source_end lb rb) (source_end left reads) final result
     search-ended left reads after final result moved last none short taken end unfailed looked =
         let seen = subst (λ (i : Input). IsLooked i.ring.items place number result) moved looked in
-        subst (λ i. HasSearched lb left rb reads i result) (sym (last ∙ moved))
+        subst (λ i. HasSearched (source_end lb rb) (source_end left reads) i result) (sym (last ∙ moved))
         (ended left reads result (none-here none) short taken end unfailed seen)
 
     pub search-clear : (left : Option (List ℕ)) (reads : ℕ) (after : Input) (piece : List ℕ)
-        → HasGrown now after la left ra reads piece
+        → HasGrown now after (source_end la ra) (source_end left reads) piece
         → None ≡ option_map (λ end. place + end) (newline_in (drop place input.ring.items))
         → newline_in piece ≡ None → newline_in (drop place after.ring.items) ≡ None
     search-clear left reads after piece g none clean =

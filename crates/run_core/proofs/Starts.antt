@@ -13,16 +13,16 @@ use Rattle.run_core.specs.Limits.{input_limit, ring_limit}
 use Rattle.run_core.specs.Work.{Work}
 use Rattle.run_core.specs.Lines.{lines_in, part_line}
 use Rattle.run_core.specs.Opening.{Opening, opening_at}
-use Rattle.run_core.specs.Acted.{first_fault, given, fault_of, given_of, table_fault, table_given, opened_fault, opened_given}
-use Rattle.run_core.specs.Run.{Ends, ends, at_end, failed, stopped, HasRun, task_of}
+use Rattle.run_core.specs.Acted.{first_fault, given_text, fault_of, given_of, table_fault, table_given, opened_fault, opened_given}
+use Rattle.run_core.specs.Run.{Ends, ends, source_end, at_end, failed, stopped, HasRun, task_of}
 use Rattle.run_core.specs.Running.{IsAt, IsFilled}
-use Rattle.run_core.specs.Searched.{IsFound, IsHeld, IsLast}
+use Rattle.run_core.specs.Searched.{IsTable, IsHeld, IsLast}
 use Rattle.run_core.proofs.Parts.{part-within}
 use Rattle.run_core.proofs.Ends.{IsStop, done-answer, no-memory-run}
 
 -- the ring holds what was taken
 pub filled-as : (lb la : Option (List ℕ)) (rb ra : ℕ) (written : Option (List ℕ)) (writes : ℕ) (input : Input)
-    → IsHeld lb la input → ra ≡ rb → IsFilled (ends lb rb written writes) (ends la ra written writes) input
+    → IsHeld (source_end lb rb) (source_end la ra) input → ra ≡ rb → IsFilled (ends lb rb written writes) (ends la ra written writes) input
 filled-as lb la rb ra written writes input held unfailed = record
     { taken = held.taken; consumed = held.consumed; written = refl; reads = unfailed; writes = refl }
 
@@ -33,8 +33,8 @@ unfolding first_fault
 fault-of-opening work ended text opening is = ap (opened_fault work ended text) is
 
 given-of-opening : (work : Work) (ended : Bool) (text : List ℕ) (opening : Option Opening)
-    → opening_at 0 1 (lines_in ended text) ≡ opening → given work ended text ≡ opened_given work text opening
-unfolding given
+    → opening_at 0 1 (lines_in ended text) ≡ opening → given_text work ended text ≡ opened_given work text opening
+unfolding given_text
 given-of-opening work ended text opening is = ap (opened_given work text) is
 
 nothing-written : (before now : Option (List ℕ)) → now ≡ before → Appends before now []
@@ -42,11 +42,11 @@ nothing-written before now same = subst (λ w. Appends before w []) (sym same) (
 
 module _ (work : Work) (old now : Ends) (input : Input) (size number : ℕ) (filled : IsFilled old now input) where
   -- the fault and the text of all that may come, by what the table is
-  table-is : (more : List ℕ) → IsFound input.ring.items size number
+  table-is : (more : List ℕ) → IsTable input.ring.items size number
       → take size (input.ring.items ++ more) ≡ take size input.ring.items
   table-is more found = take-append-le size input.ring.items more (let w = found.within in omega (arith, w))
 
-  found-fault : (ended : Bool) (more : List ℕ) (opened : Option Reason) → IsFound input.ring.items size number
+  found-fault : (ended : Bool) (more : List ℕ) (opened : Option Reason) → IsTable input.ring.items size number
       → work.opened (take size input.ring.items) ≡ opened
       → first_fault work ended (input.ring.items ++ more) ≡ table_fault number opened
       (fault_of (work.told (take size input.ring.items)) [] (number + 1) (size + 4)
@@ -63,9 +63,9 @@ module _ (work : Work) (old now : Ends) (input : Input) (size number : ℕ) (fil
       ∙ ap (λ p. table_fault number opened (fault_of (work.told (take size input.ring.items)) [] (number + 1)
       (size + 4) (lines_in ended (drop (size + 4) input.ring.items ++ more)) p)) (found.part ended more)
 
-  found-given : (ended : Bool) (more : List ℕ) (opened : Option Reason) → IsFound input.ring.items size number
+  found-given : (ended : Bool) (more : List ℕ) (opened : Option Reason) → IsTable input.ring.items size number
       → work.opened (take size input.ring.items) ≡ opened
-      → given work ended (input.ring.items ++ more) ≡ table_given opened
+      → given_text work ended (input.ring.items ++ more) ≡ table_given opened
       (given_of (work.told (take size input.ring.items)) [] (lines_in ended (drop (size + 4) input.ring.items ++ more)))
   found-given ended more opened found is =
       given-of-opening work ended (input.ring.items ++ more) _ (found.opened ended more)
@@ -75,7 +75,7 @@ module _ (work : Work) (old now : Ends) (input : Input) (size number : ℕ) (fil
       (lines_in ended (drop (size + 4) input.ring.items ++ more)))) is
 
   -- the actor was made: the run stands before the first line
-  pub start-at : (stands : List (List ℕ) → Type 0) (after : Input) → IsFound input.ring.items size number
+  pub start-at : (stands : List (List ℕ) → Type 0) (after : Input) → IsTable input.ring.items size number
       → work.opened (take size input.ring.items) ≡ None → stands []
       → after.ring.items ≡ drop (size + 4) input.ring.items → after.taken ≡ input.taken
       → IsAt work (take size input.ring.items) stands (number + 1) old now after
@@ -102,7 +102,7 @@ module _ (work : Work) (old now : Ends) (input : Input) (size number : ℕ) (fil
       }
 
   -- the table is at fault
-  pub table-stop : (why : Reason) → IsFound input.ring.items size number
+  pub table-stop : (why : Reason) → IsTable input.ring.items size number
       → work.opened (take size input.ring.items) ≡ Some why → length input.ring.items ≤ ring_limit
       → input.taken ≤ input_limit
       → IsStop work old now stopped number (Err why)
@@ -115,7 +115,7 @@ module _ (work : Work) (old now : Ends) (input : Input) (size number : ℕ) (fil
         later = None;
         more = [];
         fault = ap (first_fault work false) all ∙ found-fault false [] (Some why) found is;
-        gives = ap (given work false) all ∙ found-given false [] (Some why) found is;
+        gives = ap (given_text work false) all ∙ found-given false [] (Some why) found is;
         near = omega (arith, fits);
         within = short;
         consumed = filled.consumed;
@@ -158,7 +158,7 @@ module _ (work : Work) (old now : Ends) (input : Input) (size number : ℕ) (fil
       (ap (first_fault work true) part ∙ fault-of-opening work true input.ring.items _ last.opened
       ∙ ap (λ o. table_fault number o (fault_of (work.told (take size input.ring.items)) [] (number + 1)
       (size + 4) [] [])) is)
-      (ap (given work true) part ∙ given-of-opening work true input.ring.items _ last.opened
+      (ap (given_text work true) part ∙ given-of-opening work true input.ring.items _ last.opened
       ∙ ap (λ o. table_given o []) is)
       (nothing-written old.written now.written filled.written) filled.writes refl
 
@@ -223,7 +223,7 @@ failed-answer work old now input taken consumed written writes rose none short w
     let test : nat_le ring_limit (length input.ring.items) ≡ false = grind (arith, nat_tests) in
     done-answer work old now failed input.ring.items [] ReadFault (record { consumed = consumed; ended = (rose, fits) })
     (ap (first_fault work false) part ∙ fault-of-opening work false input.ring.items None none ∙ rw test refl)
-    (ap (given work false) part ∙ given-of-opening work false input.ring.items None none)
+    (ap (given_text work false) part ∙ given-of-opening work false input.ring.items None none)
     (nothing-written old.written now.written written) writes refl
 
 -- memory was not found before the first read

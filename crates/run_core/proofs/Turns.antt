@@ -9,9 +9,9 @@ use Rattle.run_core.specs.Work.{Work}
 use Rattle.run_core.specs.Lines.{lines_in, part_line}
 use Rattle.run_core.specs.Opening.{opening_at}
 use Rattle.run_core.specs.Reading.{IsWithin, HasGrown, newline_in}
-use Rattle.run_core.specs.Run.{Ends, ends}
+use Rattle.run_core.specs.Run.{Ends, SourceEnd, ends, source_end}
 use Rattle.run_core.specs.Running.{IsAt, IsSought}
-use Rattle.run_core.specs.Searched.{IsHeld, IsFound, IsLast, is_end_here}
+use Rattle.run_core.specs.Searched.{IsHeld, IsTable, IsLast, is_end_here}
 use Rattle.run_core.proofs.LineCuts.{lines-cut, part-cut, no-line, last-line, no-last}
 use Rattle.run_core.proofs.Newlines.{found-at, none-append}
 use Rattle.run_core.proofs.Openings.{opening-pass, opening-here, opening-long}
@@ -25,12 +25,12 @@ pub record IsTurn (input : Input) (number : ℕ) (may_end : Bool) (spare reach_b
   pub reach_is : reach_now ≡ reach_before
 
 -- what the search keeps
-pub record IsSearch (lb la : Option (List ℕ)) (rb ra : ℕ) (input : Input) (place number : ℕ) (may_end : Bool) : Type 0 where
+pub record IsSearch (old now : SourceEnd) (input : Input) (place number : ℕ) (may_end : Bool) : Type 0 where
   pub within : IsWithin input
-  pub held : IsHeld lb la input
+  pub held : IsHeld old now input
   pub sought : IsSought input.ring.items place number
   pub clear : may_end ≡ false → newline_in (drop place input.ring.items) ≡ None
-  pub unfailed : ra ≡ rb
+  pub unfailed : now.reads ≡ old.reads
 
 -- the first newline at or after a place, as the ring tells it
 pub found-from : (from e : ℕ) (found : Option ℕ) → Some e ≡ option_map (λ end. from + end) found
@@ -78,7 +78,7 @@ at-end-read work table stands number old lb la rb ra written writes input none s
 }
 
 pub count-more : (number limit : ℕ) (input now after : Input) (lb la : Option (List ℕ)) (rb ra : ℕ) (piece : List ℕ)
-    → now ≡ input → HasGrown now after lb la rb ra piece
+    → now ≡ input → HasGrown now after (source_end lb rb) (source_end la ra) piece
     → number + length input.ring.items ≤ input.taken + limit → number + length after.ring.items ≤ after.taken + limit
 count-more number limit input now after lb la rb ra piece same g count =
     let items = ap (λ (i : Input). length i.ring.items) same in
@@ -88,7 +88,7 @@ count-more number limit input now after lb la rb ra piece same g count =
     omega (arith, items, taken, size, all, count)
 
 pub clear-more : (place : ℕ) (input now after : Input) (lb la : Option (List ℕ)) (rb ra : ℕ) (piece : List ℕ)
-    → now ≡ input → HasGrown now after lb la rb ra piece → place ≤ length input.ring.items
+    → now ≡ input → HasGrown now after (source_end lb rb) (source_end la ra) piece → place ≤ length input.ring.items
     → newline_in (drop place input.ring.items) ≡ None → newline_in piece ≡ None
     → newline_in (drop place after.ring.items) ≡ None
 clear-more place input now after lb la rb ra piece same g within none piece_none =
@@ -180,7 +180,7 @@ sought-line text place number k s found other =
 
 -- at a line that ends it
 pub sought-found : (text : List ℕ) (place number k : ℕ) → IsSought text place number
-    → newline_in (drop place text) ≡ Some k → is_end_here text place k ≡ true → IsFound text place number
+    → newline_in (drop place text) ≡ Some k → is_end_here text place k ≡ true → IsTable text place number
 sought-found text place number k s found matched =
     let at = found-at k (drop place text) found in
     let size = length-drop place text in

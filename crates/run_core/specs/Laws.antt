@@ -1,11 +1,9 @@
 -- Laws of runs and of tasks.
-use Rattle.std.specs.Prelude.{◌≡◌, ℕ, ◌<◌, ◌≢◌, Bool, false, List, ◌++◌, length, Some}
-use Rattle.fisb_wire.specs.Faults.{Rose}
+use Rattle.std.specs.Prelude.{◌≡◌, ℕ, Bool, false, List, ◌++◌, Option, Some}
 use Rattle.fisb_wire.specs.Ends.{IsReached}
 use Rattle.run_core.specs.declared.status.Status.{Status}
-use Rattle.run_core.specs.declared.status.Status.TheVariants.{ReadFault, WriteFault}
 use Rattle.run_core.specs.Work.{Work, Fault}
-use Rattle.run_core.specs.Run.{Task, Ends, HasRun, IsDecided, ending_of, task_of, taken_output}
+use Rattle.run_core.specs.Run.{Task, Ends, HasRun, IsDecided, IsComplete, task_of}
 
 -- two tasks ask the same of all bytes
 pub record Agrees (one other : Task) : Type 0 where
@@ -45,12 +43,8 @@ abbrev pub RunsDecide : Type 0
 RunsDecide = (task : Task) (old new : Ends) (status : Status)
     → IsStable task → HasRun task old new status → IsDecided task old new status
 
--- Over a source and a sink that tell their bytes, of a source that never failed and a sink that
--- surely takes more bytes than were written before and than the whole input gives, there is no
--- fault of theirs.
+-- a run of a stable task is complete, for a sink whose reach is told by its bytes and its faults
 abbrev pub RunsComplete : Type 0
-RunsComplete = (task : Task) (old new : Ends) (status : Status) (input before : List ℕ) (room : ℕ)
-    → IsStable task → HasRun task old new status → old.left ≡ Some input → old.written ≡ Some before
-    → (Rose old.reads new.reads → ⊥) → IsReached (Some room) new.written new.writes
-    → length (before ++ taken_output task input (ending_of input)) < room
-    → (status ≢ ReadFault) × (status ≢ WriteFault)
+RunsComplete = (task : Task) (reach : Option ℕ) (old new : Ends) (status : Status)
+    → IsStable task → HasRun task old new status → IsReached reach new.written new.writes
+    → IsComplete task reach old new status

@@ -7,6 +7,7 @@ use Rattle.run_core.specs.declared.input.Input.{Input}
 use Rattle.run_core.specs.declared.input.Read.{Read}
 use Rattle.run_core.specs.declared.input.Read.TheVariants.{Line, More, End, Failed, Full}
 use Rattle.run_core.specs.Limits.{input_limit, ring_limit}
+use Rattle.run_core.specs.Run.{SourceEnd}
 
 -- the first newline
 abbrev pub newline_in : List ℕ → Option ℕ
@@ -20,29 +21,30 @@ pub record IsWithin (input : Input) : Type 0 where
   pub taken : input.taken ≤ input_limit
 
 -- these bytes were read, at least one, and put after those in the ring
-pub record HasGrown (before after : Input) (left_before left_after : Option (List ℕ))
-    (reads_before reads_after : ℕ) (piece : List ℕ) : Type 0 where
+pub record HasGrown (before after : Input) (old new : SourceEnd) (piece : List ℕ) : Type 0 where
   pub some : 0 < length piece
   pub items : after.ring.items ≡ before.ring.items ++ piece
   pub taken : after.taken ≡ before.taken + length piece
-  pub consumed : Consumes left_before left_after piece
-  pub unfailed : reads_after ≡ reads_before
+  pub consumed : Consumes old.left new.left piece
+  pub unfailed : new.reads ≡ old.reads
 
-abbrev pub HasRead : Input → Input → Option (List ℕ) → Option (List ℕ) → ℕ → ℕ → Read → Type 0
-HasRead before after lb la rb ra Line =
-    (piece : List ℕ) × HasGrown before after lb la rb ra piece
-HasRead before after lb la rb ra More =
-    (piece : List ℕ) × HasGrown before after lb la rb ra piece × (newline_in piece ≡ None)
-HasRead before after lb la rb ra End =
-    (after ≡ before) × Consumes lb la [] × IsAtEnd la × (ra ≡ rb)
-HasRead before after lb la rb ra Failed = (after ≡ before) × Consumes lb la [] × Rose rb ra
-HasRead before after lb la rb ra Full = (after ≡ before) × (before.taken ≡ input_limit)
-    × ((byte : ℕ) × Consumes lb la (byte ∷ [])) × (ra ≡ rb)
+abbrev pub HasReadOn : Input → Input → SourceEnd → SourceEnd → Read → Type 0
+HasReadOn before after old new Line = (piece : List ℕ) × HasGrown before after old new piece
+HasReadOn before after old new More =
+    (piece : List ℕ) × HasGrown before after old new piece × (newline_in piece ≡ None)
+HasReadOn before after old new End = (after ≡ before) × Consumes old.left new.left []
+    × IsAtEnd new.left × (new.reads ≡ old.reads)
+HasReadOn before after old new Failed =
+    (after ≡ before) × Consumes old.left new.left [] × Rose old.reads new.reads
+HasReadOn before after old new Full = (after ≡ before) × (before.taken ≡ input_limit)
+    × ((byte : ℕ) × Consumes old.left new.left (byte ∷ [])) × (new.reads ≡ old.reads)
 
 -- a byte past the limit of the input was asked for
-abbrev pub HasReadPast : Option (List ℕ) → Option (List ℕ) → ℕ → ℕ → Read → Type 0
-HasReadPast lb la rb ra Line = ⊥
-HasReadPast lb la rb ra More = ⊥
-HasReadPast lb la rb ra End = Consumes lb la [] × IsAtEnd la × (ra ≡ rb)
-HasReadPast lb la rb ra Failed = Consumes lb la [] × Rose rb ra
-HasReadPast lb la rb ra Full = ((byte : ℕ) × Consumes lb la (byte ∷ [])) × (ra ≡ rb)
+abbrev pub HasReadPast : SourceEnd → SourceEnd → Read → Type 0
+HasReadPast old new Line = ⊥
+HasReadPast old new More = ⊥
+HasReadPast old new End =
+    Consumes old.left new.left [] × IsAtEnd new.left × (new.reads ≡ old.reads)
+HasReadPast old new Failed = Consumes old.left new.left [] × Rose old.reads new.reads
+HasReadPast old new Full =
+    ((byte : ℕ) × Consumes old.left new.left (byte ∷ [])) × (new.reads ≡ old.reads)

@@ -1,6 +1,6 @@
 -- What a run answers and writes, by the bytes that it took from its source.
-use Rattle.std.specs.Prelude.{◌≡◌, ℕ, ◌+◌, ◌≤◌, Bool, true, false, ◌⊎◌, nat_le, if◌then◌else◌, List}
-use Rattle.std.specs.Prelude.{length, take, Option, Some, None, IfSome}
+use Rattle.std.specs.Prelude.{◌≡◌, ◌≢◌, ℕ, ◌+◌, ◌<◌, ◌≤◌, Bool, true, false, ◌⊎◌, nat_le}
+use Rattle.std.specs.Prelude.{if◌then◌else◌, List, ◌++◌, length, take, Option, Some, None, IfSome}
 use Rattle.std.specs.Io.KnownBytes.{Consumes, Appends, IsAtEnd}
 use Rattle.fisb_wire.specs.Faults.{Rose}
 use Rattle.run_core.specs.declared.status.Status.{Status}
@@ -29,6 +29,14 @@ pub record Ends : Type 0 where
 abbrev pub ends : Option (List ℕ) → ℕ → Option (List ℕ) → ℕ → Ends
 ends left reads written writes =
     record { left = left; reads = reads; written = written; writes = writes }
+
+-- what a source alone has left, where it tells it, and how many of its reads failed
+pub record SourceEnd : Type 0 where
+  pub left : Option (List ℕ)
+  pub reads : ℕ
+
+abbrev pub source_end : Option (List ℕ) → ℕ → SourceEnd
+source_end left reads = record { left = left; reads = reads }
 
 -- what a sink alone holds, where it tells it, and how many of its writes failed
 pub record SinkEnd : Type 0 where
@@ -145,13 +153,25 @@ HasRun task old new NoMemory = (new.writes ≡ old.writes) × HasWrittenFront ta
 abbrev pub ending_of : List ℕ → Ending
 ending_of input = if nat_le (length input) input_limit then at_end else full
 
--- the verdict on a whole input; memory that is not found may stand in its place
-abbrev pub IsJudged : Task → List ℕ → Status → Type 0
-IsJudged task input status = (status ≡ NoMemory)
-    ⊎ IsVerdict (ending_of input) (taken_fault task input (ending_of input)) status
+-- the verdict on a whole input, and exactly its output was written; memory that is not found may
+-- stand in its place
+abbrev pub IsJudged : Task → Ends → Ends → List ℕ → Status → Type 0
+IsJudged task old new input status = (status ≡ NoMemory)
+    ⊎ (IsVerdict (ending_of input) (taken_fault task input (ending_of input)) status
+    × Appends old.written new.written (taken_output task input (ending_of input)))
 
 -- where the source tells its input and neither count of faults rose, the answer is the verdict on
 -- the whole input
 abbrev pub IsDecided : Task → Ends → Ends → Status → Type 0
-IsDecided task old new status = IfSome old.left (λ input.
-    (Rose old.reads new.reads → ⊥) → (Rose old.writes new.writes → ⊥) → IsJudged task input status)
+IsDecided task old new status = IfSome old.left (λ input. (Rose old.reads new.reads → ⊥)
+    → (Rose old.writes new.writes → ⊥) → IsJudged task old new input status)
+
+-- Where the source tells its input and no read failed, and the sink tells what it holds and surely
+-- takes more bytes than these and the output of the whole input, no end failed, and the answer is
+-- the verdict on the whole input.
+abbrev pub IsComplete : Task → Option ℕ → Ends → Ends → Status → Type 0
+IsComplete task reach old new status = (input before : List ℕ) (room : ℕ)
+    → old.left ≡ Some input → old.written ≡ Some before → reach ≡ Some room
+    → (Rose old.reads new.reads → ⊥)
+    → length (before ++ taken_output task input (ending_of input)) < room
+    → (status ≢ ReadFault) × (status ≢ WriteFault) × IsJudged task old new input status

@@ -9,6 +9,7 @@ use Rattle.run_core.specs.declared.search.TableEnd.TheVariants.{Found, Last, Mis
 use Rattle.run_core.specs.Limits.{table_limit, ring_limit}
 use Rattle.run_core.specs.Lines.{lines_in, part_line}
 use Rattle.run_core.specs.Opening.{opening_at, is_table_end}
+use Rattle.run_core.specs.Run.{SourceEnd}
 
 -- the line that begins at a place and has so many bytes ends the table
 abbrev pub is_end_here : List ℕ → ℕ → ℕ → Bool
@@ -16,12 +17,12 @@ is_end_here bytes place size =
     nat_le place table_limit && is_table_end (take size (drop place bytes))
 
 -- all that was taken is in the ring
-pub record IsHeld (lb la : Option (List ℕ)) (input : Input) : Type 0 where
+pub record IsHeld (old new : SourceEnd) (input : Input) : Type 0 where
   pub taken : input.taken ≡ length input.ring.items
-  pub consumed : Consumes lb la input.ring.items
+  pub consumed : Consumes old.left new.left input.ring.items
 
 -- the table has so many bytes, whatever comes after the bytes taken
-pub record IsFound (text : List ℕ) (size number : ℕ) : Type 0 where
+pub record IsTable (text : List ℕ) (size number : ℕ) : Type 0 where
   pub opened : (ended : Bool) (more : List ℕ) → opening_at 0 1 (lines_in ended (text ++ more))
       ≡ Some (record {
         size = size;
@@ -40,21 +41,21 @@ pub record IsLast (text : List ℕ) (size number : ℕ) : Type 0 where
   pub within : size ≤ length text
   pub count : number ≤ size + 1
 
-abbrev pub HasSearched : Option (List ℕ) → Option (List ℕ) → ℕ → ℕ → Input → TableEnd → Type 0
-HasSearched lb la rb ra input (Found size number) =
-    IsHeld lb la input × IsFound input.ring.items size number × (ra ≡ rb)
-HasSearched lb la rb ra input (Last size number) =
-    IsHeld lb la input × IsLast input.ring.items size number × IsAtEnd la × (ra ≡ rb)
-HasSearched lb la rb ra input Missing = IsHeld lb la input
+abbrev pub HasSearched : SourceEnd → SourceEnd → Input → TableEnd → Type 0
+HasSearched old new input (Found size number) = IsHeld old new input
+    × IsTable input.ring.items size number × (new.reads ≡ old.reads)
+HasSearched old new input (Last size number) = IsHeld old new input
+    × IsLast input.ring.items size number × IsAtEnd new.left × (new.reads ≡ old.reads)
+HasSearched old new input Missing = IsHeld old new input
     × (opening_at 0 1 (lines_in true input.ring.items) ≡ None)
-    × (length input.ring.items < ring_limit) × IsAtEnd la × (ra ≡ rb)
-HasSearched lb la rb ra input Long = IsHeld lb la input
+    × (length input.ring.items < ring_limit) × IsAtEnd new.left × (new.reads ≡ old.reads)
+HasSearched old new input Long = IsHeld old new input
     × ((ended : Bool) (more : List ℕ)
     → opening_at 0 1 (lines_in ended (input.ring.items ++ more)) ≡ None)
-    × (length input.ring.items ≡ ring_limit) × (ra ≡ rb)
-HasSearched lb la rb ra input Failed = IsHeld lb la input
+    × (length input.ring.items ≡ ring_limit) × (new.reads ≡ old.reads)
+HasSearched old new input Failed = IsHeld old new input
     × (opening_at 0 1 (lines_in false input.ring.items) ≡ None)
-    × (length input.ring.items < ring_limit) × Rose rb ra
+    × (length input.ring.items < ring_limit) × Rose old.reads new.reads
 
 -- at the end of the input the bytes from a place on, which has the number, are its last line
 abbrev pub IsLooked : List ℕ → ℕ → ℕ → TableEnd → Type 0

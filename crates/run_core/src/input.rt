@@ -2,7 +2,8 @@
 ghost use Rattle.std.specs.Prelude.{◌≡◌, ◌+◌, ◌<◌, ◌≤◌, ◌==◌, [], length, drop, OnOk, IfOk, IfSome, IfNone, IsTrue, ◌↔◌, Some, None, option_map, true, false};
 ghost use Rattle.circular_buffer.specs.Buffer.{buffer};
 ghost use Rattle.run_core.specs.Limits.{input_limit, ring_limit, table_limit};
-ghost use Rattle.run_core.specs.Reading.{HasRead, HasReadPast, IsWithin, newline_in};
+ghost use Rattle.run_core.specs.Reading.{HasReadOn, HasReadPast, IsWithin, newline_in};
+ghost use Rattle.run_core.specs.Run.{source_end};
 
 use circular_buffer::HeapCircularBuffer;
 use fisb_wire::Source;
@@ -55,8 +56,9 @@ impl Input {
     pub(crate) fn read_on<S: Source>(&mut self, source: &mut S) -> Read
         requires within { IsWithin self.old }
         requires room { length self.old.ring.items < ring_limit }
-        ensures read { HasRead self.old self.new (S.left source.old) (S.left source.new)
-            (S.faults source.old) (S.faults source.new) result }
+        ensures read { HasReadOn self.old self.new
+            (source_end (S.left source.old) (S.faults source.old))
+            (source_end (S.left source.new) (S.faults source.new)) result }
         ensures within { IsWithin self.new }
     {
         if self.taken >= INPUT_LIMIT {
@@ -110,8 +112,8 @@ impl Input {
 
 // Reads one byte past the limit of the input, if there is one.
 fn past_limit<S: Source>(source: &mut S) -> Read
-    ensures { HasReadPast (S.left source.old) (S.left source.new) (S.faults source.old)
-        (S.faults source.new) result }
+    ensures { HasReadPast (source_end (S.left source.old) (S.faults source.old))
+        (source_end (S.left source.new) (S.faults source.new)) result }
 {
     let mut byte = [0u8; 1];
     match source.read(&mut byte) {

@@ -17,14 +17,15 @@ pub fn stable_tasks()
     ensures { TasksAreStable }
 {}
 
-/// Where neither end failed, the answer of a run is the verdict on the whole input.
+/// Where neither end failed, the answer of a run is the verdict on the whole input, and exactly its
+/// output was written.
 #[inline]
 pub fn runs_decide()
     ensures { RunsDecide }
 {}
 
-/// Over a source that never fails and a sink with room for the whole output a run has no fault of
-/// theirs.
+/// Where no read failed and the sink has room for the whole output, a run has no fault of its ends,
+/// and its answer is the verdict on the whole input.
 #[inline]
 pub fn runs_complete()
     ensures { RunsComplete }

@@ -2,6 +2,7 @@
 ghost use Rattle.std.specs.Prelude.{◌≡◌, ◌-◌, ◌≤◌, [], length, None};
 ghost use Rattle.std.specs.Io.KnownBytes.{IsAtEnd};
 ghost use Rattle.run_core.specs.Reading.{IsWithin, newline_in};
+ghost use Rattle.run_core.specs.Run.{source_end};
 ghost use Rattle.run_core.specs.Running.{IsSought};
 ghost use Rattle.run_core.specs.Searched.{HasSearched, IsLooked, is_end_here};
 
@@ -32,8 +33,8 @@ pub(crate) fn search<S: Source>(source: &mut S, input: &mut Input) -> TableEnd
     requires within { IsWithin input.old }
     requires empty { input.old.ring.items ≡ [] }
     requires first { input.old.taken ≡ 0 }
-    ensures searched { HasSearched (S.left source.old) (S.left source.new) (S.faults source.old)
-        (S.faults source.new) input.new result }
+    ensures searched { HasSearched (source_end (S.left source.old) (S.faults source.old))
+        (source_end (S.left source.new) (S.faults source.new)) input.new result }
     ensures within { IsWithin input.new }
 {
     let mut place = 0;

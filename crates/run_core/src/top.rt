@@ -4,14 +4,14 @@ ghost use Rattle.std.specs.Io.KnownBytes.{IsAtEnd};
 ghost use Rattle.fisb_wire.specs.Faults.{Rose};
 ghost use Rattle.run_core.specs.Actor.{HasOpened};
 ghost use Rattle.run_core.specs.Reading.{IsWithin};
-ghost use Rattle.run_core.specs.Run.{Ends, HasRun, IsDecided, ends, task_of};
+ghost use Rattle.run_core.specs.Run.{Ends, HasRun, IsComplete, IsDecided, ends, task_of};
 ghost use Rattle.run_core.specs.Running.{IsFilled};
-ghost use Rattle.run_core.specs.Searched.{IsFound, IsLast};
+ghost use Rattle.run_core.specs.Searched.{IsTable, IsLast};
 
 use crate::acting::refuse;
 use crate::actor::Actor;
 use crate::input::Input;
-use crate::laws::{runs_decide, stable_tasks};
+use crate::laws::{runs_complete, runs_decide, stable_tasks};
 use crate::lines::act_on_lines;
 use crate::search::{TableEnd, search};
 use crate::status::Status;
@@ -31,6 +31,10 @@ pub fn run<A: Actor, S: Source, K: Sink>(alloc: Global, source: &mut S, sink: &m
         (ends (S.left source.old) (S.faults source.old) (K.written sink.old) (K.faults sink.old))
         (ends (S.left source.new) (S.faults source.new) (K.written sink.new) (K.faults sink.new))
         result }
+    ensures complete { IsComplete (task_of A.work) (K.reach sink.old)
+        (ends (S.left source.old) (S.faults source.old) (K.written sink.old) (K.faults sink.old))
+        (ends (S.left source.new) (S.faults source.new) (K.written sink.new) (K.faults sink.new))
+        result }
     ensures read_fault { result ≡ Status.ReadFault
         → Rose (S.faults source.old) (S.faults source.new) }
     ensures write_fault { result ≡ Status.WriteFault
@@ -42,6 +46,7 @@ pub fn run<A: Actor, S: Source, K: Sink>(alloc: Global, source: &mut S, sink: &m
 {
     stable_tasks();
     runs_decide();
+    runs_complete();
     run_through::<A, S, K>(alloc, source, sink)
 }
 
@@ -86,7 +91,7 @@ fn start<A: Actor, S: Source, K: Sink>(
     ensures ran { (old : Ends) → IsFilled old
         (ends (S.left source.old) (S.faults source.old) (K.written sink.old) (K.faults sink.old))
         input
-        → IsFound input.ring.items size number
+        → IsTable input.ring.items size number
         → HasRun (task_of A.work) old
         (ends (S.left source.new) (S.faults source.new) (K.written sink.new) (K.faults sink.new))
         result }

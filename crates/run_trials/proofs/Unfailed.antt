@@ -1,12 +1,13 @@
 -- A run over a source that never fails and a new sink with room.
-use Rattle.std.proofs.Common.{◌≡◌, ◌≢◌, ℕ, ◌<◌, List, [], Option, Some, length, refl, subst, ap, ◌∙◌, arith}
+use Rattle.std.proofs.Common.{◌≡◌, ◌≢◌, ℕ, ◌<◌, ◌≤◌, ◌++◌, true, nat_le, if◌then◌else◌, List, [], Option, Some, None, length, refl, sym, subst, ap, ◌∙◌, inl, inr, arith}
+use Rattle.std.proofs.lemmas.Bool.Decides.{nat_tests}
 use Rattle.fisb_wire.specs.Faults.{Rose, counted}
-use Rattle.fisb_wire.specs.Ends.{IsReached}
-use Rattle.fisb_wire.specs.Memory.{Store, store_reach, store-reached}
+use Rattle.fisb_wire.specs.Memory.{Store, store_reach}
 use Rattle.run_core.specs.declared.status.Status.{Status}
-use Rattle.run_core.specs.declared.status.Status.TheVariants.{Done, Usage, Refused, ReadFault, WriteFault, TooLong, NoMemory}
-use Rattle.run_core.specs.Run.{Task, Ends, ends, HasRun, IsDecided, IsJudged, ending_of, taken_output}
-use Rattle.run_core.specs.Laws.{IsStable, RunsComplete}
+use Rattle.run_core.specs.declared.status.Status.TheVariants.{Done, ReadFault, WriteFault, NoMemory}
+use Rattle.run_core.specs.Limits.{input_limit}
+use Rattle.run_core.specs.Run.{Task, Ending, Ends, at_end, full, ends, IsComplete, IsJudged, IsVerdict, ending_of, taken_fault, taken_output}
+use Rattle.run_trials.specs.Whole.{IsWhole}
 
 -- a new sink with so much room
 abbrev pub fresh : ℕ → List ℕ → Store
@@ -18,44 +19,46 @@ fresh-reach room fails none = rw none refl
 still : Rose (counted 0) (counted 0) → ⊥
 still rose = omega (arith, rose)
 
-stays : (before after : ℕ) → before ≡ 0 → after ≡ before → Rose before after → ⊥
-stays before after none same rose = omega (arith, none, same, rose)
-
-reached : (new : Store) (room : ℕ) → store_reach new ≡ Some room
-    → IsReached (Some room) (Some new.taken) (counted new.faults)
-reached new room is = subst (λ r. IsReached r (Some new.taken) (counted new.faults)) is (store-reached new)
-
--- no write failed where the answer is no write fault
-unfailed : (task : Task) (old new : Ends) (status : Status) → HasRun task old new status → status ≢ WriteFault
-    → new.writes ≡ old.writes
-unfailed task old new Done h other = h.2.unfailed
-unfailed task old new Usage h other = absurd h
-unfailed task old new (Refused line why) h other = h.2.unfailed
-unfailed task old new ReadFault h other = h.2.unfailed
-unfailed task old new WriteFault h other = absurd (other refl)
-unfailed task old new TooLong h other = h.2.unfailed
-unfailed task old new NoMemory h other = h.0
-
 module _ (task : Task) (input source : List ℕ) (room : ℕ) (fails : List ℕ) (left : Option (List ℕ)) (old new : Store)
     (status : Status) where
-  abbrev pub Ran : Type 0
-  Ran = HasRun task (ends (Some source) (counted 0) (Some old.taken) (counted old.faults))
-      (ends left (counted 0) (Some new.taken) (counted new.faults)) status
+  abbrev pub before : Ends
+  before = ends (Some source) (counted 0) (Some old.taken) (counted old.faults)
 
-  pub without-faults : RunsComplete → IsStable task → source ≡ input → fails ≡ [] → old ≡ fresh room fails
-      → store_reach new ≡ store_reach old → Ran
+  abbrev pub after : Ends
+  after = ends left (counted 0) (Some new.taken) (counted new.faults)
+
+  whole-by : old.taken ≡ [] → IsJudged task before after input status
+      → IsWhole task (ending_of input) input status new.taken
+  whole-by empty (inl none) = inl none
+  whole-by empty (inr h) = inr (h.0, h.1 ∙ ap (λ xs. xs ++ taken_output task input (ending_of input)) empty)
+
+  -- no end failed, and the answer is that of the whole input
+  pub unfailed : source ≡ input → fails ≡ [] → old ≡ fresh room fails
+      → IsComplete task (store_reach old) before after status
       → length (taken_output task input (ending_of input)) < room
-      → (status ≢ ReadFault) × (status ≢ WriteFault)
-  without-faults complete stable given none is reach ran small =
-      let far : store_reach new ≡ Some room = reach ∙ ap store_reach is ∙ fresh-reach room fails none in
-      complete task _ _ status input [] room stable ran (ap Some given) (ap (λ (s : Store). Some s.taken) is) still
-      (reached new room far) small
+      → (status ≢ ReadFault) × (status ≢ WriteFault) × IsWhole task (ending_of input) input status new.taken
+  unfailed given none is complete small =
+      let empty : old.taken ≡ [] = ap (λ (s : Store). s.taken) is in
+      let all = complete input [] room (ap Some given) (ap Some empty)
+      (ap store_reach is ∙ fresh-reach room fails none) still small in
+      (all.0, all.1, whole-by empty all.2)
 
-  pub judged : source ≡ input → old ≡ fresh room fails → Ran → status ≢ WriteFault
-      → IsDecided task (ends (Some source) (counted 0) (Some old.taken) (counted old.faults))
-      (ends left (counted 0) (Some new.taken) (counted new.faults)) status
-      → IsJudged task input status
-  judged given is ran other decided =
-      let none : counted old.faults ≡ 0 = ap (λ (s : Store). counted s.faults) is in
-      subst (λ bytes. IsJudged task bytes status) given
-      (decided still (stays (counted old.faults) (counted new.faults) none (unfailed task _ _ status ran other)))
+within : (size limit : ℕ) (one other : Ending) → size ≤ limit → (if nat_le size limit then one else other) ≡ one
+within size limit one other fits = let test : nat_le size limit ≡ true = grind (arith, nat_tests) in rw test refl
+
+done-by : (task : Task) (input taken : List ℕ) (status : Status) → taken_fault task input at_end ≡ None
+    → status ≢ NoMemory → IsWhole task at_end input status taken
+    → (status ≡ Done) × (taken ≡ taken_output task input at_end)
+done-by task input taken status clean found (inl none) = absurd (found none)
+done-by task input taken status clean found (inr h) = (subst (λ f. IsVerdict at_end f status) clean h.0, h.1)
+
+-- where no line has a fault and the input is not too long, it is done
+pub done : (task : Task) (input taken : List ℕ) (status : Status) (room : ℕ) → length input ≤ input_limit
+    → taken_fault task input at_end ≡ None → length (taken_output task input at_end) < room
+    → (length (taken_output task input (ending_of input)) < room → IsWhole task (ending_of input) input status taken)
+    → status ≢ NoMemory → (status ≡ Done) × (taken ≡ taken_output task input at_end)
+done task input taken status room fits clean small whole found =
+    let is : ending_of input ≡ at_end = within (length input) input_limit at_end full fits in
+    done-by task input taken status clean found
+    (subst (λ e. IsWhole task e input status taken) is
+    (whole (subst (λ e. length (taken_output task input e) < room) (sym is) small)))

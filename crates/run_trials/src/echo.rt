@@ -22,10 +22,9 @@ impl Actor for Echo {
     }
 
     fn act(&mut self, alloc: Global, line: &[u8]) -> Result<Bytes, Stop> {
-        match echo_line(alloc, line) {
-            Ok(Some(text)) => Ok(text),
-            Ok(None) => Err(Stop::Refused(Reason::Syntax)),
-            Err(AllocError) => Err(Stop::NoMemory),
+        match echo_line(alloc, line)? {
+            Some(text) => Ok(text),
+            None => Err(Stop::Refused(Reason::Syntax)),
         }
     }
 

@@ -366,17 +366,11 @@ fn an_input_has_at_most_67108864_bytes(rt: HostRuntime) -> Result<(), Fail> {
     Ok(())
 }
 
-// The number of the status of the small command's run in memory.
-fn code_in_memory(alloc: Global, room: usize) -> Result<u8, AllocError> {
-    let input = bytes(alloc, SCRIPT)?;
-    match run_in_memory::<Echo>(alloc, input, room) {
-        Ok(status) => Ok(status.code()),
-        Err(AllocError) => Err(AllocError),
-    }
-}
-
 #[test]
 fn a_run_in_memory_is_done(rt: HostRuntime) -> Result<(), Fail> {
-    assert_eq!(rt; code_in_memory(rt.alloc(), 100)?, Status::Done.code());
+    let input = bytes(rt.alloc(), SCRIPT)?;
+    let (status, sink) = run_in_memory::<Echo>(rt.alloc(), input, 100)?;
+    assert_eq!(rt; status, Status::Done);
+    assert_eq!(rt; sink.taken(), OUTPUT);
     Ok(())
 }
