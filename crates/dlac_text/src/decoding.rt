@@ -29,7 +29,8 @@ pub fn reports(alloc: Global, payload: &[u8]) -> Result<Vec<Report>, AllocError>
     reader.finish()
 }
 
-/// The room with which a text begins: that of all codes of the payload, or what many a report needs.
+/// The room with which a text begins: that of all codes of the payload, or what many a report
+/// needs.
 fn first_room(payload: &[u8]) -> usize {
     (payload.len() / 3 * 4 + 2).min(MOST_FIRST_ROOM)
 }

@@ -20,8 +20,8 @@ const FRONT_LENGTH: usize = 8;
 #[derive(Debug, Drop)]
 pub struct Word {
     text: String,
-    /// The number that the first eight bytes write to the base 256. It mostly tells two words apart,
-    /// and in their order.
+    /// The number that the first eight bytes write to the base 256. It mostly tells two words
+    /// apart, and in their order.
     front: u64,
 }
 
