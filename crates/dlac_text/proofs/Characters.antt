@@ -5,7 +5,7 @@ use Rattle.std.proofs.lemmas.Bool.Decides.{nat_tests}
 use Rattle.std.proofs.lemmas.List.Folds.{list_all_at}
 use Rattle.std.proofs.lemmas.List.Quantifiers.{position-Some}
 use Rattle.std.proofs.lemmas.List.Sums.{list_all-from_AllPass, AllPass-from_list_all, fails_before_first}
-use Rattle.std.proofs.lemmas.Str.{encodes-chars, length-le-encodes, encodes-IsAscii}
+use Rattle.std.proofs.lemmas.Str.{IsUtf8-from_ascii, encodes-chars, length-le-encodes, encodes-IsAscii}
 use Rattle.std.proofs.lemmas.Str.Ascii.{IsAscii-from_all}
 use Rattle.std.proofs.lemmas.List.Elements.{All-weaker}
 use Rattle.std.specs.List.{list_all, position_or_len}
@@ -41,6 +41,10 @@ ascii_character c h = grind (arith, nat_tests)
 pub IsDlac-IsAscii : (text : List ℕ) → IsDlac text → IsAscii text
 IsDlac-IsAscii text h =
     IsAscii-from_all text (All-weaker (λ c. is_in_alphabet c ≡ true) (λ c. c < 128) ascii_character text (AllPass-from_list_all is_in_alphabet text h))
+
+-- bytes of the alphabet are UTF-8
+pub utf8_of_dlac : (text : List ℕ) → IsDlac text → IsUtf8 text
+utf8_of_dlac text h = IsUtf8-from_ascii text (IsDlac-IsAscii text h)
 
 -- a text whose characters are of the alphabet has them as its bytes
 pub IsDlac-chars : (text : List ℕ) → IsUtf8 text → IsDlac (chars text) → chars text ≡ text

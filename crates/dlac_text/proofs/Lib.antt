@@ -2,7 +2,9 @@ pub mod Cuts
 pub mod SixBitsLemmas
 pub mod Characters
 pub mod PieceLemmas
+pub mod CharacterRows
 pub mod Joining
+pub mod ReadingSteps
 pub mod RoundTrip
 pub mod PlainLemmas
 pub mod ShownTexts

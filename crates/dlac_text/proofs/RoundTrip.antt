@@ -10,7 +10,8 @@ use Rattle.dlac_text.specs.Payload.{text_payload}
 use Rattle.dlac_text.specs.Reports.{reports_of, has_characters}
 use Rattle.dlac_text.proofs.Cuts.{IsDlac-tail}
 use Rattle.dlac_text.proofs.SixBitsLemmas.{IsSixBits}
-use Rattle.dlac_text.proofs.Joining.{reports_from, from_start, from_character, from_end_code}
+use Rattle.dlac_text.proofs.Joining.{from_start, from_character, from_end_code}
+use Rattle.dlac_text.specs.Reading.{reports_from}
 
 -- one group of four codes goes through three bytes unharmed
 first_back : (a b : ℕ) → b < 64 → (a * 4 + b / 16) / 4 ≡ a

@@ -27,3 +27,7 @@ character_of code =
     if nat_lt code 27
     then code + 64
     else if code == 27 then 26 else if code == 30 then 10 else if code == 31 then 124 else code
+
+-- the character of a code, or 0 of a code that has none
+abbrev pub character_or_zero : ℕ → ℕ
+character_or_zero code = if code == 0 || code == 28 || code == 29 then 0 else character_of code

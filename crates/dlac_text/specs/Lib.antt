@@ -4,5 +4,6 @@ pub mod SixBitFields
 pub mod Payload
 pub mod Pieces
 pub mod Reports
+pub mod Reading
 pub mod Plain
 pub mod Refusal

@@ -1,19 +1,10 @@
 //! From the bytes of a payload to its reports.
-ghost use Rattle.std.specs.Prelude.{◌≡◌, IfOk, filter, [], ◌∷◌, ◌++◌};
-ghost use Rattle.dlac_text.specs.Reports.{reports_of, has_characters};
+ghost use Rattle.std.specs.Prelude.{◌≡◌, IfOk};
+ghost use Rattle.dlac_text.specs.Reports.{reports_of};
 
-use crate::alphabet::character_of;
+use crate::reader::Reader;
 use crate::report_text::Report;
-use crate::six_bits::six_bit_groups;
 use std::alloc::{AllocError, Global};
-use std::mem;
-
-// The codes that end a report, and the one whose next code is a number of spaces.
-const END: u8 = 0;
-
-const TAB: u8 = 28;
-
-const OTHER_END: u8 = 29;
 
 // The most room with which a text begins; a longer one grows.
 const MOST_FIRST_ROOM: usize = 64;
@@ -28,51 +19,18 @@ const MOST_FIRST_ROOM: usize = 64;
 pub fn reports(alloc: Global, payload: &[u8]) -> Result<Vec<Report>, AllocError>
     ensures { IfOk result (λ found. found.items ≡ reports_of payload.now) }
 {
-    let codes = six_bit_groups(alloc, payload)?;
-    let mut found = Vec::new(alloc);
-    let mut rest = codes.as_slice();
-    let mut text = Report::with_room(alloc, first_room(rest))?;
-    while let [code, more @ ..] = rest {
+    let mut reader = Reader::new(alloc, first_room(payload));
+    let mut rest = payload;
+    while let [x, y, z, more @ ..] = rest {
+        reader.take_three(*x, *y, *z)?;
         rest = more;
-        match *code {
-            END | OTHER_END => end_report(alloc, &mut found, &mut text, first_room(more))?,
-            TAB => {
-                if let [spaces, behind @ ..] = more {
-                    text.push_spaces(*spaces)?;
-                    rest = behind;
-                }
-            }
-            symbol => text.push(character_of(symbol))?,
-        }
     }
-    end_report(alloc, &mut found, &mut text, 0)?;
-    Ok(found)
+    reader.take_last(rest)?;
+    reader.finish()
 }
 
-/// The room with which the text of a report begins, where these codes are left: none where they
-/// begin with its end, and no more than many a report needs.
-fn first_room(codes: &[u8]) -> usize {
-    match codes.first() {
-        None | Some(&END) | Some(&OTHER_END) => 0,
-        Some(_) => codes.len().min(MOST_FIRST_ROOM),
-    }
-}
-
-/// Ends a report: puts the text so far behind the reports, unless it is empty, and begins an empty
-/// one with room for a number of characters.
-fn end_report(
-    alloc: Global,
-    found: &mut Vec<Report>,
-    text: &mut Report,
-    room: usize,
-) -> Result<(), AllocError>
-    ensures found { IfOk result
-        (λ _. found.new.items ≡ found.old.items ++ filter has_characters (text.old ∷ [])) }
-    ensures begun { IfOk result (λ _. text.new ≡ []) }
-{
-    if !text.is_empty() {
-        let next = Report::with_room(alloc, room)?;
-        found.push(mem::replace(text, next))?;
-    }
-    Ok(())
+/// The room with which a text begins: that of all codes of the payload, or what many a report
+/// needs.
+fn first_room(payload: &[u8]) -> usize {
+    (payload.len() / 3 * 4 + 2).min(MOST_FIRST_ROOM)
 }

@@ -4,9 +4,11 @@
 
 mod alphabet;
 mod decoding;
+mod draft;
 mod encoding;
 mod laws;
 mod printing;
+mod reader;
 mod report_text;
 mod six_bits;
 mod text_fault;

@@ -1,11 +1,11 @@
 //! The text of a report.
-ghost use Rattle.std.specs.Prelude.{◌≡◌, ◌<◌, [], ◌∷◌, ◌++◌, length, slice_index, IfOk, IsTrue};
-ghost use Rattle.std.specs.Prelude.{replicate, nat_eq};
+ghost use Rattle.std.specs.Prelude.{◌≡◌, ◌<◌, length, slice_index, IfOk, nat_eq};
 ghost use Rattle.std.specs.Cmp.Lexicographic.{pointwise};
 ghost use Rattle.std.proofs.Common.{rules};
 ghost use Rattle.std.specs.Cmp.Rules.{comparing};
-ghost use Rattle.dlac_text.specs.Alphabet.{is_in_alphabet, IsDlac};
+ghost use Rattle.dlac_text.specs.Alphabet.{IsDlac};
 
+use crate::draft::Draft;
 use std::alloc::{AllocError, Global};
 use std::marker::Model;
 
@@ -67,41 +67,13 @@ impl Report {
         })
     }
 
-    /// A report without characters.
-    pub(crate) fn empty(alloc: Global) -> Report
-        ensures { result ≡ [] }
+    /// The report that was read.
+    pub(crate) fn of(draft: Draft) -> Report
+        ensures { result ≡ draft }
     {
         Report {
-            text: String::new(alloc),
+            text: draft.into_text(),
         }
-    }
-
-    /// A report without characters, with room for a number of them.
-    pub(crate) fn with_room(alloc: Global, room: usize) -> Result<Report, AllocError>
-        ensures { IfOk result (λ report. report ≡ []) }
-    {
-        Ok(Report {
-            text: String::with_capacity(alloc, room)?,
-        })
-    }
-
-    /// Puts a character at the end.
-    pub(crate) fn push(&mut self, character: char) -> Result<(), AllocError>
-        requires { IsTrue (is_in_alphabet character) }
-        ensures { IfOk result (λ _. self.new ≡ self.old ++ character ∷ []) }
-    {
-        self.text.push(character)?;
-        Ok(())
-    }
-
-    /// Puts a number of spaces at the end.
-    pub(crate) fn push_spaces(&mut self, number: u8) -> Result<(), AllocError>
-        ensures { IfOk result (λ _. self.new ≡ self.old ++ replicate number 32) }
-    {
-        for _ in 0..number {
-            self.push(' ')?;
-        }
-        Ok(())
     }
 }
 

@@ -64,18 +64,18 @@ in-others s n there =
     (within.0, omega arith, eqb-false n s.number (not-true _ both.1))
 
 -- the test by which a segment completes its file
-abbrev completing : List FileSegment → StationId → File → ℕ → Bool
-completing before station f number = not (has station f number before)
+abbrev is_last_missing : List FileSegment → StationId → File → ℕ → Bool
+is_last_missing before station f number = not (has station f number before)
     && list_all (λ (n : ℕ). has station f n before) (other_numbers (fields_of f number))
 
 -- what an arrival of segments makes whole
-abbrev made : List FileSegment → StationId → File → ℕ → Whole
-made before station f number = whole_with (arrival_of (segment station f number))
+abbrev joined_whole : List FileSegment → StationId → File → ℕ → Whole
+joined_whole before station f number = whole_with (arrival_of (segment station f number))
     (joined_payload (map arrival_of before ++ arrival_of (segment station f number) ∷ []) (arrival_of (segment station f 1))
     (fields_of f 1))
 
 all_cut : (before : List FileSegment) (station : StationId) (f : File) (number : ℕ) (all : List FileSegment) → IsOfSent all station f
-    → AreAmong before all → completing before station f number ≡ true
+    → AreAmong before all → is_last_missing before station f number ≡ true
     → HasAll (before ++ segment station f number ∷ []) station f
 all_cut before station f number all of_sent among test n least most = elim (cases_eq n number) [
   | inl e ↦ IsIn-after _ before (segment station f number ∷ []) (inl (ap (segment station f) e))
@@ -85,10 +85,10 @@ all_cut before station f number all of_sent among test n least most = elim (case
       (and_parts _ _ test).1 (others-in (fields_of f number) n least most other)))
 ]
 
-made-is : (before : List FileSegment) (station : StationId) (f : File) (number : ℕ) (all : List FileSegment) → IsOfSent all station f
+joined_whole-is : (before : List FileSegment) (station : StationId) (f : File) (number : ℕ) (all : List FileSegment) → IsOfSent all station f
     → AreAmong (before ++ segment station f number ∷ []) all → HasAll (before ++ segment station f number ∷ []) station f
-    → made before station f number ≡ whole_of f
-made-is before station f number all of_sent among has_all =
+    → joined_whole before station f number ≡ whole_of f
+joined_whole-is before station f number all of_sent among has_all =
     let moved : map arrival_of (before ++ segment station f number ∷ [])
     ≡ map arrival_of before ++ arrival_of (segment station f number) ∷ [] =
     map-append arrival_of before (segment station f number ∷ []) in
@@ -97,23 +97,23 @@ made-is before station f number all of_sent among has_all =
     ∙ joined-is all station f (before ++ segment station f number ∷ []) of_sent among has_all)
 
 -- what a segment of a file that is cut completes: that file, where it has all
-made_only : (before : List FileSegment) (station : StationId) (f : File) (number : ℕ) (all : List FileSegment) (w : Whole)
+joined_whole_only : (before : List FileSegment) (station : StationId) (f : File) (number : ℕ) (all : List FileSegment) (w : Whole)
     → IsOfSent all station f
     → AreAmong (before ++ segment station f number ∷ []) all
     → completes (map arrival_of before) (arrival_of (segment station f number)) (Some (fields_of f number)) ≡ Some w
     → (w ≡ whole_of f) × HasAll (before ++ segment station f number ∷ []) station f
-made_only before station f number all w of_sent among is = elim (cases_Bool (completing before station f number)) [
+joined_whole_only before station f number all w of_sent among is = elim (cases_Bool (is_last_missing before station f number)) [
   | inl test ↦
       let has_all : HasAll (before ++ segment station f number ∷ []) station f =
       all_cut before station f number all of_sent (λ s there. among s (IsIn-before s before (segment station f number ∷ [])
       there)) test in
-      let some : Some (made before station f number) ≡ Some w =
-      sym (cond-true (completing before station f number) (Some (made before station f number)) None test) ∙ is in
-      let e : made before station f number ≡ w = cc in
-      (sym e ∙ made-is before station f number all of_sent among has_all, has_all)
+      let some : Some (joined_whole before station f number) ≡ Some w =
+      sym (cond-true (is_last_missing before station f number) (Some (joined_whole before station f number)) None test) ∙ is in
+      let e : joined_whole before station f number ≡ w = cc in
+      (sym e ∙ joined_whole-is before station f number all of_sent among has_all, has_all)
   | inr fails ↦
       let none : None ≡ Some w =
-      sym (cond-false (completing before station f number) (Some (made before station f number)) None fails) ∙ is in
+      sym (cond-false (is_last_missing before station f number) (Some (joined_whole before station f number)) None fails) ∙ is in
       absurd (cc)
 ]
 
@@ -131,9 +131,9 @@ made_whole before station f number all of_sent among has_all new =
       | inl old ↦ old
       | inr now ↦ absurd (o.2 (ap (λ (s : FileSegment). s.number) (in_one _ _ now)))
     ])) in
-    let test : completing before station f number ≡ true = and_from _ _ (not_from_false _ new) others in
-    cond-true (completing before station f number) (Some (made before station f number)) None test
-    ∙ ap Some (made-is before station f number all of_sent among has_all)
+    let test : is_last_missing before station f number ≡ true = and_from _ _ (not_from_false _ new) others in
+    cond-true (is_last_missing before station f number) (Some (joined_whole before station f number)) None test
+    ∙ ap Some (joined_whole-is before station f number all of_sent among has_all)
 
 one_part : (f : File) (number : ℕ) → is_segmented f.form f.payload ≡ false → 1 ≤ number → number ≤ length (parts_of f)
     → (number ≡ 1) × (part_of f number ≡ f.payload)
@@ -166,7 +166,7 @@ completes_file before s all w told sent among is =
                 s.number;
             sent = s_in;
           } in
-          let both = made_only before s.station s.file s.number all w of_sent among
+          let both = joined_whole_only before s.station s.file s.number all w of_sent among
           (ap (completes (map arrival_of before) (arrival_of s)) (sym (segmentation-cut s.file s.number cut)) ∙ is) in
           record { whole_is = both.0; has_all = both.1 }
       | inr whole ↦

@@ -83,5 +83,5 @@ WholeFilesComplete =
 
 -- what further arrivals complete stands after what was complete before
 abbrev pub CompletedGrows : Type 0
-CompletedGrows = (before now : List Arrival) → whole_payloads (before ++ now) ≡ whole_payloads before
-    ++ completed_after before now
+CompletedGrows = (before now : List Arrival)
+    → whole_payloads (before ++ now) ≡ whole_payloads before ++ completed_after before now

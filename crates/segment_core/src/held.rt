@@ -5,6 +5,7 @@ ghost use Rattle.undo_map.specs.Ends.{HasLeft, KeepsPlaces, due_places};
 ghost use Rattle.std.specs.List.{range_with_len};
 ghost use Rattle.std.specs.Option.{option_copied};
 ghost use Rattle.segment_core.specs.Bound.{AreNamedOnce};
+ghost use Rattle.segment_core.specs.File.{most_segments};
 ghost use Rattle.segment_core.specs.HeldPieces.{arrival_answer, bytes_at, held_after, held_answer};
 ghost use Rattle.segment_core.specs.HeldPieces.{held_bytes, held_with};
 ghost use Rattle.segment_core.specs.HeldPieces.{joined_held, others_held};
@@ -19,6 +20,7 @@ use crate::arrived::{Arrived, Longest, Taken};
 use crate::piece_name::PieceName;
 use fisb_time::Moment;
 use fisb_wire::Bytes;
+use life_table::{CONUS_RADAR, REGIONAL_RADAR};
 use std::alloc::{AllocError, Global};
 use undo_map::laws::{none_is_over, others_have_places};
 use undo_map::{EndQueue, UndoMap};
@@ -67,7 +69,7 @@ fn take_piece(
     payload: &[u8],
 ) -> Result<Taken, AllocError>
     requires numbered { IsNumbered name }
-    requires few { name.count ≤ 64 }
+    requires few { name.count ≤ most_segments }
     ensures answer { IfOk result (λ taken. taken
         ≡ held_answer pieces.old.entries name payload.now) }
     ensures pieces { IfOk result (λ _. (other : PieceName) →
@@ -197,8 +199,8 @@ fn longest_of(longest: &Longest, product: u16) -> u64
     ensures { result ≡ longest_of longest.now product }
 {
     match product {
-        63 => longest.regional,
-        64 => longest.conus,
+        REGIONAL_RADAR => longest.regional,
+        CONUS_RADAR => longest.conus,
         _ => longest.text,
     }
 }

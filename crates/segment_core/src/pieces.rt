@@ -1,8 +1,10 @@
 //! A payload, cut into the pieces of which each is sent in an APDU of its own.
 ghost use Rattle.std.specs.Prelude.{◌≡◌, ◌<◌, ◌≤◌, IsTrue, length};
+ghost use Rattle.apdu_core.specs.Apdu.{file_numbers};
 ghost use Rattle.apdu_core.specs.Views.{apdu_view};
 ghost use Rattle.fisb_time.specs.TimeForm.{shows};
-ghost use Rattle.segment_core.specs.File.{File, apdu_of_segment, parts, parts_of, segmentation_of};
+ghost use Rattle.segment_core.specs.File.{File, apdu_of_segment, most_segments, parts, parts_of};
+ghost use Rattle.segment_core.specs.File.{segmentation_of};
 
 use crate::cutting::{is_segmented, part_at, part_count};
 use apdu_core::{Apdu, Seg};
@@ -22,7 +24,7 @@ pub struct Pieces<'a> {
 impl<'a> Model for Pieces<'a> {
     ghost use Rattle.std.specs.Prelude.{◌≤◌, IsTrue, length};
     ghost use Rattle.fisb_time.specs.TimeForm.{shows};
-    ghost use Rattle.segment_core.specs.File.{File, parts};
+    ghost use Rattle.segment_core.specs.File.{File, most_segments, parts};
 
     ghost Value = { File };
 
@@ -35,7 +37,7 @@ impl<'a> Model for Pieces<'a> {
     } };
 
     ghost invariant = { λ pieces. IsTrue (shows pieces.form pieces.version)
-        × (length (parts pieces.form pieces.payload.now) ≤ 64) };
+        × (length (parts pieces.form pieces.payload.now) ≤ most_segments) };
 }
 
 /// Cuts a payload of a product and a version, which is sent under a file number where it takes
@@ -49,8 +51,8 @@ pub fn split<'a>(
 ) -> Pieces<'a>
     requires product { product < 2048 }
     requires shown { IsTrue (shows form version) }
-    requires number { file < 1024 }
-    requires few { length (parts form payload.now) ≤ 64 }
+    requires number { file < file_numbers }
+    requires few { length (parts form payload.now) ≤ most_segments }
     ensures { result ≡ record {
       product = product;
       form = form;
@@ -72,7 +74,7 @@ impl<'a> Pieces<'a> {
     /// How many pieces there are, 1 to 64.
     pub fn count(&self) -> u16
         ensures value { result ≡ length (parts_of self.now) }
-        ensures few { result ≤ 64 }
+        ensures few { result ≤ most_segments }
     {
         part_count(self.form, self.payload.len())
     }
@@ -95,7 +97,7 @@ impl<'a> Pieces<'a> {
 
 /// The fields that tell which piece of several this one is.
 fn seg_of(form: TimeForm, file: u16, payload: &[u8], number: u16) -> Option<Seg>
-    requires { length (parts form payload.now) ≤ 64 }
+    requires { length (parts form payload.now) ≤ most_segments }
     ensures { (f : File) → f.form ≡ form → f.number ≡ file → f.payload ≡ payload.now
         → result ≡ segmentation_of f number }
 {

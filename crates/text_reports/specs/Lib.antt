@@ -1,2 +1,3 @@
 pub mod TextKey
+pub mod Front
 pub mod Views

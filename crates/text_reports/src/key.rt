@@ -4,7 +4,7 @@ ghost use Rattle.text_reports.specs.TextKey.{IsWord, text_key, text_key_cmp, wor
 ghost use Rattle.text_reports.specs.Views.{key_view, IsFault, third_of, IsThirdFault};
 
 use crate::word::Word;
-use crate::words::first_word;
+use crate::cut::first_word;
 use life_table::LifeTable;
 use std::alloc::{AllocError, Global};
 use std::cmp::Ordering;

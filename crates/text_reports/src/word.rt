@@ -1,10 +1,11 @@
 //! A word of a report.
-ghost use Rattle.std.specs.Prelude.{◌≡◌, ◌<◌, length, slice_index, IfOk, nat_eq};
+ghost use Rattle.std.specs.Prelude.{◌≡◌, ◌<◌, length, slice_index, IfOk, IfSome, nat_eq};
 ghost use Rattle.std.specs.Cmp.Lexicographic.{pointwise, slice_cmp};
 ghost use Rattle.std.specs.Cmp.{partial_order_from_own_ties};
 ghost use Rattle.std.specs.Ordering.{nat_cmp, as_partial_cmp};
 ghost use Rattle.std.specs.Str.{chars};
 ghost use Rattle.std.proofs.Common.{rules};
+ghost use Rattle.text_reports.specs.Front.{front_number};
 ghost use Rattle.text_reports.specs.TextKey.{IsWord};
 ghost use Rattle.std.specs.Cmp.Rules.{comparing};
 
@@ -12,22 +13,31 @@ use std::alloc::{AllocError, Global};
 use std::cmp::Ordering;
 use std::marker::Model;
 
+/// How many bytes of a word its front has.
+const FRONT_LENGTH: usize = 8;
+
 /// A word of a report: at least one character, and none of them a space or a newline.
 #[derive(Debug, Drop)]
 pub struct Word {
     text: String,
+    /// The number that the first eight bytes write to the base 256. It mostly tells two words
+    /// apart, and in their order.
+    front: u64,
 }
 
 impl Model for Word {
-    ghost use Rattle.std.specs.Prelude.{List, ℕ};
+    ghost use Rattle.std.specs.Prelude.{◌≡◌, List, ℕ};
     ghost use Rattle.std.specs.String.{string_bytes};
     ghost use Rattle.text_reports.specs.TextKey.{IsWord};
 
     ghost Value = { List ℕ };
 
+    ghost use Rattle.text_reports.specs.Front.{front_number};
+
     ghost view = { λ w. string_bytes w.text };
 
-    ghost invariant = { λ w. IsWord (string_bytes w.text) };
+    ghost invariant = { λ w. IsWord (string_bytes w.text)
+        × (w.front ≡ front_number 8 (string_bytes w.text)) };
 }
 
 impl Word {
@@ -68,7 +78,46 @@ impl Word {
     {
         Ok(Word {
             text: String::from_str(alloc, text)?,
+            front: front_number(text.as_bytes()),
         })
+    }
+}
+
+/// The number that the first eight bytes write to the base 256; zeros stand for those that are
+/// missing.
+fn front_number(word: &[u8]) -> u64
+    ensures { result ≡ front_number 8 word.now }
+{
+    let mut number = 0u64;
+    for place in 0..FRONT_LENGTH {
+        number = number * 256 + byte_at(word, place);
+    }
+    number
+}
+
+/// The order of two words with these fronts, where the fronts or the lengths tell it.
+fn order_by_fronts(one: &[u8], front: u64, other: &[u8], other_front: u64) -> Option<Ordering>
+    requires front { front ≡ front_number 8 one.now }
+    requires other_front { other_front ≡ front_number 8 other.now }
+    ensures { IfSome result (λ order. order ≡ slice_cmp nat_cmp one.now other.now) }
+{
+    if front != other_front {
+        return Some(front.cmp(&other_front));
+    }
+    if one.len() <= FRONT_LENGTH && other.len() <= FRONT_LENGTH {
+        return Some(one.len().cmp(&other.len()));
+    }
+    None
+}
+
+/// A byte of a word, or 0 behind its end.
+fn byte_at(word: &[u8], place: usize) -> u64
+    ensures byte { result ≡ slice_index word.now place }
+    ensures fits { result < 256 }
+{
+    match word.get(place) {
+        Some(byte) => u64::from(*byte),
+        None => 0,
     }
 }
 
@@ -96,7 +145,12 @@ impl Ord for Word {
     ghost matches_eq = { Prim.search (comparing, rules) };
 
     fn cmp(&self, other: &Word) -> Ordering {
-        self.text.as_str().cmp(other.text.as_str())
+        let (one, another) = (self.text.as_str(), other.text.as_str());
+        let told = order_by_fronts(one.as_bytes(), self.front, another.as_bytes(), other.front);
+        match told {
+            Some(order) => order,
+            None => one.cmp(another),
+        }
     }
 }
 

@@ -1,5 +1,7 @@
--- Keys in a queue by the second at which they are to be looked at, and the entries that have a place in it.
-use Rattle.std.specs.Prelude.{◌≡◌, ℕ, ◌<◌, Bool, true, false, ◌&&◌, nat_le, nat_lt, List, All, filter, Option, Some, None}
+-- Keys in a queue by the second at which they are to be looked at, and the entries that have a place
+-- in it.
+use Rattle.std.specs.Prelude.{◌≡◌, ℕ, ◌<◌, Bool, true, false, ◌&&◌, nat_le, nat_lt, List, All}
+use Rattle.std.specs.Prelude.{filter, Option, Some, None}
 use Rattle.std.specs.Prelude.{if◌then◌else◌}
 use Rattle.std.specs.BTreeMap.{insert_entry, is_at}
 use Rattle.std.specs.List.{AllByRecursion, list_any, sum_by}
@@ -21,7 +23,8 @@ is_newer version_of (Some kept) version = nat_lt (version_of kept) version
 
 -- a test that holds of one of the places still holds of one
 abbrev pub KeepsPlaces : {K : Type 0} → List (ℕ × K) → List (ℕ × K) → Type 0
-KeepsPlaces {K} old new = (test : ℕ × K → Bool) → list_any test old ≡ true → list_any test new ≡ true
+KeepsPlaces {K} old new = (test : ℕ × K → Bool) → list_any test old ≡ true
+    → list_any test new ≡ true
 
 -- a test that holds of the added place holds of one
 abbrev pub HasAdded : {K : Type 0} → ℕ × K → List (ℕ × K) → Type 0
@@ -34,7 +37,8 @@ HasLeft {K} place old new = (test : ℕ × K → Bool) → test place ≡ false 
 
 -- the key has a place at a second that is no later than this one
 abbrev pub has_place_by : {K : Type 0} → (K → K → Ordering) → List (ℕ × K) → K → ℕ → Bool
-has_place_by cmp places key second = list_any (λ place. is_eq (cmp place.1 key) && nat_le place.0 second) places
+has_place_by cmp places key second =
+    list_any (λ place. is_eq (cmp place.1 key) && nat_le place.0 second) places
 
 -- how many places have come by a second
 abbrev pub due_places : {K : Type 0} → ℕ → List (ℕ × K) → ℕ
@@ -61,11 +65,13 @@ module _ {K V : Type 0} where
   HavePlaces cmp end places entries = HavePlacesBy cmp (λ entry. end entry.1) places entries
 
   abbrev pub HaveMarkedPlaces : (K → K → Ordering) → (V → ℕ) → List (ℕ × K) → Marked K V → Type 0
-  HaveMarkedPlaces cmp end places marked = HaveMarkedPlacesBy cmp (λ entry. end entry.1) places marked
+  HaveMarkedPlaces cmp end places marked =
+      HaveMarkedPlacesBy cmp (λ entry. end entry.1) places marked
 
   -- entries with a value under its key, where none stands there that is at least as new
   abbrev pub with_newer : (K → K → Ordering) → (V → ℕ) → List (K × V) → K → V → List (K × V)
-  with_newer cmp version_of entries key value = if is_newer version_of (lookup (is_at (cmp key)) entries) (version_of value)
+  with_newer cmp version_of entries key value =
+      if is_newer version_of (lookup (is_at (cmp key)) entries) (version_of value)
       then insert_entry cmp entries key value else entries
 
 -- where no place has come by a second, no entry that has a place by its end is over

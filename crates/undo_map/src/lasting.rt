@@ -174,7 +174,8 @@ fn drop_key<K: Duplicate, V: Lasting>(
     ensures entries { map.new.entries
         ≡ filter (λ e. not (is_eq (K.cmp key e.0) && nat_le (V.end e.1) now)) map.old.entries }
     ensures mark { map.new.mark ≡ None }
-    ensures placed { (end : ℕ) → HavePlaces K.cmp V.end ((end, key) ∷ ends.old.places) map.old.entries
+    ensures placed { (end : ℕ)
+        → HavePlaces K.cmp V.end ((end, key) ∷ ends.old.places) map.old.entries
         → HavePlaces K.cmp V.end ends.new.places map.new.entries }
     ensures due { due_places now ends.new.places ≡ due_places now ends.old.places }
 {

@@ -3,7 +3,6 @@ ghost use Rattle.std.specs.Prelude.{◌≡◌, IsSome, IfOk, OnOk, OnErr, Some, 
 ghost use Rattle.std.specs.BTreeMap.{insert_entry, is_at};
 ghost use Rattle.std.specs.List.Sorted.{IsStrictlySortedBy};
 ghost use Rattle.std.specs.Map.{keys_of, lookup, remove_entry};
-ghost use Rattle.std.specs.Map.Calls.{CallableOnEachPair, CalledAtPair, RetainsPairs, TakesPair};
 ghost use Rattle.std.specs.Map.Iter.{ShowsInOrder, deref_pair};
 ghost use Rattle.std.specs.Option.{option_copied};
 ghost use Rattle.undo_map.specs.Ends.{HaveMarkedPlaces, with_newer};
@@ -23,14 +22,15 @@ use std::marker::Model;
 pub struct UndoMap<K: Duplicate, V> {
     alloc: Global,
     entries: BTreeMap<K, V>,
-    steps: Option<Vec<Step<K, V>>>,
+    is_marked: bool,
+    /// The steps since the mark. Their room is kept from one mark to the next.
+    steps: Vec<Step<K, V>>,
 }
 
 impl<K: Duplicate, V> Model for UndoMap<K, V> {
     ghost use Rattle.std.specs.BTreeMap.{IsOrdered};
-    ghost use Rattle.std.specs.Option.{option_map};
+    ghost use Rattle.std.specs.Prelude.{◌≡◌, if◌then◌else◌, false, Some, None, []};
     ghost use Rattle.undo_map.specs.Marked.{Marked};
-    ghost use Rattle.undo_map.specs.declared.step.Step.{Step};
 
     ghost Value = { Marked K V };
 
@@ -38,10 +38,11 @@ impl<K: Duplicate, V> Model for UndoMap<K, V> {
 
     ghost view = { λ m. record {
       entries = m.entries.entries;
-      mark = option_map (λ steps. before_all K.cmp steps.items m.entries.entries) m.steps;
+      mark = if m.is_marked then Some (before_all K.cmp m.steps.items m.entries.entries) else None;
     } };
 
-    ghost invariant = { λ m. IsOrdered K.cmp m.entries };
+    ghost invariant = { λ m. IsOrdered K.cmp m.entries
+        × (m.is_marked ≡ false → m.steps.items ≡ []) };
 }
 
 impl<K: Duplicate, V: Drop> UndoMap<K, V> {
@@ -52,7 +53,8 @@ impl<K: Duplicate, V: Drop> UndoMap<K, V> {
         UndoMap {
             alloc,
             entries: BTreeMap::new(alloc),
-            steps: None,
+            is_marked: false,
+            steps: Vec::new(alloc),
         }
     }
 
@@ -85,13 +87,11 @@ impl<K: Duplicate, V: Drop> UndoMap<K, V> {
         ensures err { OnErr result (self.new ≡ self.old) }
         ensures ordered { IsStrictlySortedBy K.cmp (keys_of self.new.entries) }
     {
-        match &mut self.steps {
-            Some(steps) => write_step(self.alloc, &mut self.entries, steps, key, value),
-            None => {
-                self.entries.insert(key, value)?;
-                Ok(())
-            }
+        if self.is_marked {
+            return write_step(self.alloc, &mut self.entries, &mut self.steps, key, value);
         }
+        self.entries.insert(key, value)?;
+        Ok(())
     }
 
     /// Writes values under keys in turn, all of them or none.
@@ -106,26 +106,11 @@ impl<K: Duplicate, V: Drop> UndoMap<K, V> {
         ensures err { OnErr result (self.new ≡ self.old) }
         ensures ordered { IsStrictlySortedBy K.cmp (keys_of self.new.entries) }
     {
-        match &mut self.steps {
-            Some(steps) => write_all_steps(self.alloc, &mut self.entries, steps, pairs),
-            None => {
-                let mut steps = Vec::new(self.alloc);
-                write_all_steps(self.alloc, &mut self.entries, &mut steps, pairs)
-            },
+        if self.is_marked {
+            return write_all_steps(self.alloc, &mut self.entries, &mut self.steps, pairs);
         }
-    }
-
-    /// Keeps the entries for which the test holds.
-    pub fn retain<F: FnMut(&K, &mut V) -> bool>(&mut self, test: F)
-        requires unmarked { self.old.mark ≡ None }
-        requires callable { CallableOnEachPair (CalledAtPair F.FnMut) (TakesPair F.FnMut)
-            test self.old.entries }
-        ensures filtered { RetainsPairs (CalledAtPair F.FnMut)
-            test self.old.entries self.new.entries }
-        ensures mark { self.new.mark ≡ None }
-        ensures ordered { IsStrictlySortedBy K.cmp (keys_of self.new.entries) }
-    {
-        self.entries.retain(test);
+        let mut steps = Vec::new(self.alloc);
+        write_all_steps(self.alloc, &mut self.entries, &mut steps, pairs)
     }
 
     /// Removes what stands under a key.
@@ -154,7 +139,7 @@ impl<K: Duplicate, V: Drop> UndoMap<K, V> {
         requires { self.old.mark ≡ None }
         ensures { self.new ≡ record self.old { mark = Some self.old.entries } }
     {
-        self.steps = Some(Vec::new(self.alloc));
+        self.is_marked = true;
     }
 
     /// Takes the entries back to the mark, which goes.
@@ -164,9 +149,8 @@ impl<K: Duplicate, V: Drop> UndoMap<K, V> {
         ensures mark { self.new.mark ≡ None }
         ensures ordered { IsStrictlySortedBy K.cmp (keys_of self.new.entries) }
     {
-        if let Some(steps) = self.steps.take() {
-            take_all_back(&mut self.entries, steps);
-        }
+        take_all_back(&mut self.entries, &mut self.steps);
+        self.is_marked = false;
     }
 
     /// Lets the mark go and keeps the entries.
@@ -174,7 +158,8 @@ impl<K: Duplicate, V: Drop> UndoMap<K, V> {
         requires { IsSome self.old.mark }
         ensures { self.new ≡ record self.old { mark = None } }
     {
-        self.steps = None;
+        self.steps.clear();
+        self.is_marked = false;
     }
 }
 
@@ -190,12 +175,10 @@ impl<K: Duplicate, V: Lasting> UndoMap<K, V> {
         ensures placed { HaveMarkedPlaces K.cmp V.end ends.old.places self.old
             → HaveMarkedPlaces K.cmp V.end ends.new.places self.new }
     {
-        match &mut self.steps {
-            Some(steps) => put_step(self.alloc, &mut self.entries, steps, ends, key, value),
-            None => {
-                let mut steps = Vec::new(self.alloc);
-                put_step(self.alloc, &mut self.entries, &mut steps, ends, key, value)
-            }
+        if self.is_marked {
+            return put_step(self.alloc, &mut self.entries, &mut self.steps, ends, key, value);
         }
+        let mut steps = Vec::new(self.alloc);
+        put_step(self.alloc, &mut self.entries, &mut steps, ends, key, value)
     }
 }

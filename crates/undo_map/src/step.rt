@@ -1,5 +1,5 @@
 //! What a write changed, so that it can be taken back.
-ghost use Rattle.std.specs.Prelude.{◌≡◌, OnOk, OnErr};
+ghost use Rattle.std.specs.Prelude.{◌≡◌, OnOk, OnErr, []};
 ghost use Rattle.std.specs.BTreeMap.{IsOrdered, insert_entry, is_at};
 ghost use Rattle.std.specs.Map.{set_value};
 ghost use Rattle.undo_map.specs.Marked.{with_all};
@@ -72,10 +72,11 @@ fn put_back<K: Duplicate, V: Drop>(entries: &mut BTreeMap<K, V>, key: &K, value:
 /// Takes all steps back, the last one first.
 pub(crate) fn take_all_back<K: Duplicate, V: Drop>(
     entries: &mut BTreeMap<K, V>,
-    mut steps: Vec<Step<K, V>>,
+    steps: &mut Vec<Step<K, V>>,
 )
     requires { IsOrdered K.cmp entries.old }
-    ensures back { entries.new.entries ≡ before_all K.cmp steps.items entries.old.entries }
+    ensures back { entries.new.entries ≡ before_all K.cmp steps.old.items entries.old.entries }
+    ensures none { steps.new.items ≡ [] }
     ensures ordered { IsOrdered K.cmp entries.new }
 {
     while let Some(step) = steps.pop() {
@@ -147,7 +148,7 @@ pub(crate) fn write_all_steps<K: Duplicate, V: Drop>(
     match write_apart(alloc, entries, steps, &mut own, pairs) {
         Ok(()) => Ok(()),
         Err(fault) => {
-            take_all_back(entries, own);
+            take_all_back(entries, &mut own);
             Err(fault)
         }
     }

@@ -3,7 +3,7 @@ use Rattle.std.proofs.lemmas.Bool.{eqb-false, false≢true}
 use Rattle.text_reports.specs.TextKey.{is_blank}
 use Rattle.text_reports.proofs.Cutting.{words_of_cut}
 use Rattle.text_reports.proofs.Spelling.{front_word}
-use Rattle.text_reports.proofs.words.first_word.Goals as goal
+use Rattle.text_reports.proofs.cut.first_word.Goals as goal
 
 -- a front that ends before a blank, in a text that begins with none, is not empty
 not_at_once : (n size : ℕ) (blank : ℕ → Bool) → 0 < size → (0 < size → blank 0 ≡ false) → (n < size → blank n ≡ true) → 0 < n

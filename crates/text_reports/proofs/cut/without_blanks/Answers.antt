@@ -1,5 +1,5 @@
 use Rattle.text_reports.proofs.Cutting.{words_behind_blanks, cut_behind_blanks}
-use Rattle.text_reports.proofs.words.without_blanks.Goals as goal
+use Rattle.text_reports.proofs.cut.without_blanks.Goals as goal
 
 pub split_at-requires : goal.split_at-requires
 split_at-requires c =

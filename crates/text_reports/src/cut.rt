@@ -1,4 +1,4 @@
-//! The words of a text, one after another.
+//! The cutting of a text into its words.
 ghost use Rattle.std.specs.Prelude.{◌≡◌, ℕ, ◌<◌, ◌≤◌, false, not, [], ◌∷◌, length, slice_index};
 ghost use Rattle.std.specs.Prelude.{MatchOption, IfSome};
 ghost use Rattle.text_reports.specs.TextKey.{IsWord, is_blank, words_of};

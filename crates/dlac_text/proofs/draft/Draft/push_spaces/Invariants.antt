@@ -1,5 +1,5 @@
 use Rattle.std.proofs.Common.{◌≡◌, ◌++◌, replicate}
-use Rattle.dlac_text.proofs.report_text.Report.push_spaces.Given as goal
+use Rattle.dlac_text.proofs.draft.Draft.push_spaces.Given as goal
 
 abbrev pub invariant-loop : goal.invariant-loop
 invariant-loop l = l.self ≡ l.initial.self ++ replicate l.counter 32
