@@ -16,6 +16,9 @@ pub mod State
 pub mod OnAir
 pub mod ItemOfText
 pub mod Given
+pub mod Rising
+pub mod GivenRadar
+pub mod AllGiven
 pub mod Items
 pub mod Stations
 pub mod Aired
