@@ -147,16 +147,20 @@ not_empty : (table : LifeTable) (key : TextKey) (chars : List ℕ) → text_key 
 not_empty table key [] e = absurd (cc (no_key_of_nothing table))
 not_empty table key (c ∷ more) e = omega arith
 
-report_entries-key : (table : LifeTable) (version : ℕ) (chars : List ℕ) (key : TextKey) (row : TextRow)
+pub report_entries-key : (table : LifeTable) (version : ℕ) (chars : List ℕ) (key : TextKey) (row : TextRow)
     → text_key table chars ≡ Ok key → text_row table key.kind ≡ Some row → report_entries table version chars ≡ entry_of key version row.life chars ∷ []
 report_entries-key table version chars key row key_is row_is = ap (entry_by_key table version chars) key_is ∙ ap (entry_by_row key version chars) row_is
 
-weather-key : (table : LifeTable) (version : ℕ) (chars : List ℕ) (key : TextKey) (row : TextRow)
+pub by_row_is : (table : LifeTable) (version : ℕ) (chars : List ℕ) (key : TextKey) (row : TextRow) → text_key table chars ≡ Ok key → text_row table key.kind ≡ Some row
+    → weather_by_row version chars (report_entries table version chars) (text_row table key.kind) ≡ text_weather key version row chars ∷ []
+by_row_is table version chars key row key_is row_is =
+    ap (weather_by_row version chars (report_entries table version chars)) row_is
+    ∙ ap (λ entries. weather_by_row version chars entries (Some row)) (report_entries-key table version chars key row key_is row_is)
+
+pub weather-key : (table : LifeTable) (version : ℕ) (chars : List ℕ) (key : TextKey) (row : TextRow)
     → text_key table chars ≡ Ok key → text_row table key.kind ≡ Some row → weather_of table (text version chars) ≡ text_weather key version row chars ∷ []
 weather-key table version chars key row key_is row_is =
-    ap (weather_by_key table version chars) key_is
-    ∙ ap (weather_by_row version chars (report_entries table version chars)) row_is
-    ∙ ap (λ entries. weather_by_row version chars entries (Some row)) (report_entries-key table version chars key row key_is row_is)
+    ap (weather_by_key table version chars) key_is ∙ by_row_is table version chars key row key_is row_is
 
 -- a text has few segments
 payload-few : TextLayers → (chars : List ℕ) → IsSendable chars → length (text_payload chars) ≤ longest_text_payload

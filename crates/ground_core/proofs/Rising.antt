@@ -1,5 +1,5 @@
 -- Numbers that rise strictly: one is below all that stand behind it.
-use Rattle.std.proofs.Common.{◌≡◌, ℕ, zero, suc, ◌+◌, ◌<◌, Bool, true, ◌&&◌, nat_lt, List, [], ◌∷◌, ◌++◌, length, refl, inl, inr, arith}
+use Rattle.std.proofs.Common.{◌≡◌, ℕ, zero, suc, ◌+◌, ◌<◌, Bool, true, ◌&&◌, nat_lt, nat_le, List, [], ◌∷◌, ◌++◌, length, refl, inl, inr, arith}
 use Rattle.std.specs.List.Sorted.{IsStrictlyIncreasing}
 use Rattle.std.proofs.lemmas.Bool.{and_parts, ltb-true}
 use Rattle.list_members.specs.Membership.{IsIn}
@@ -48,3 +48,8 @@ below_behind (k ∷ front) back m n h i j = elim i [
       omega arith)
   | inr more ↦ below_behind front back m n h.1 more j
 ]
+
+-- the same from a number on
+abbrev pub rise_from : ℕ → List ℕ → Bool
+rise_from least [] = true
+rise_from least (n ∷ more) = nat_le least n && rise_above n more

@@ -8,20 +8,19 @@ use Rattle.life_table.specs.LifeTable.{LifeTable}
 use Rattle.uplink_frame.specs.declared.station.StationId.{StationId}
 use Rattle.uplink_frame.specs.Laws.{StationsAreTold}
 use Rattle.segment_core.specs.Cutting.{PartsFitFrames}
-use Rattle.ground_core.specs.Item.{Weather, Item, Segment, room_of, segments_of, file_of, end_of}
-use Rattle.ground_core.specs.Update.{Update, text, weather_of}
+use Rattle.ground_core.specs.Item.{Item, Segment, room_of, segments_of, file_of, end_of}
+use Rattle.ground_core.specs.Update.{Update}
 use Rattle.ground_core.specs.Piece.{piece_of}
-use Rattle.ground_core.specs.History.{Event, accepted, fill, moment_of, items, items_made, new_items, item_of}
+use Rattle.ground_core.specs.History.{Event, accepted, fill, moment_of, items}
 use Rattle.ground_core.specs.Airing.{log, longest_fitting, is_live}
 use Rattle.ground_core.specs.Broadcast.{IsHistory, IsNotBefore}
 use Rattle.ground_core.specs.Starving.{bytes_of, waiting_after, fills, WaitsStill, AreFrom, NoStarvation}
 use Rattle.ground_core.proofs.KeyLemmas.{KeyLaws}
 use Rattle.ground_core.proofs.ListLemmas.{Each, Each-weaker, Each-all, Each-at, filter_less}
 use Rattle.ground_core.proofs.Order.{last_places, segments_in, waiting_is}
-use Rattle.ground_core.proofs.Serials.{Numbered, numbered_items, serial_in, IsLogged, logged, logged_more, log_given, Each-waiting, live_same}
-use Rattle.ground_core.proofs.Accepted.{clear, text_weather, weather_is}
+use Rattle.ground_core.proofs.Serials.{Numbered, numbered_items, serial_in, IsLogged, logged, logged_more, Each-waiting, live_same}
 use Rattle.ground_core.proofs.Segments.{is_segment_of}
-use Rattle.ground_core.proofs.Queue.{left, fitting_left, waiting_filled, places_given, older_lives, logged_places}
+use Rattle.ground_core.proofs.Queue.{left, fitting_left, waiting_filled, older_lives_all, logged_places, made_items, numbered_new, order_given}
 
 abbrev head_bytes : List Segment → ℕ
 head_bytes [] = 0
@@ -198,43 +197,33 @@ waiting_later table station history clock moment le =
     (Each-all _ (λ s h. live_earlier all clock moment s.item le h) _))
     ∙ ap (filter (λ s. is_live all moment s.item)) (sym (waiting_is all (log table station history) clock))
 
--- an older item is live behind a new one only where it was live before
-live_before : KeyLaws → (all : List Item) (item : Item) (moment : ℕ) (s : Segment) → item.serial ≡ length all → Numbered 0 all → Numbered 0 (all ++ item ∷ []) → IsLogged all s
-    → is_live (all ++ item ∷ []) moment s.item ≡ true → is_live all moment s.item ≡ true
-live_before keys all item moment s e n m h t =
+-- an older item is live behind new ones only where it was live before
+live_before : KeyLaws → (all new : List Item) (moment : ℕ) (s : Segment) → Numbered 0 all → Numbered (length all) new → Numbered 0 (all ++ new) → IsLogged all s
+    → is_live (all ++ new) moment s.item ≡ true → is_live all moment s.item ≡ true
+live_before keys all new moment s n k m h t =
     let b = serial_in 0 all s.item n h.item in
     sym (live_same keys all moment s n h.item)
-    ∙ older_lives all item moment moment (piece_of s) e (omega arith) (omega (arith, b.1)) (live_same keys (all ++ item ∷ []) moment s m (IsIn-before s.item all (item ∷ []) h.item) ∙ t)
+    ∙ older_lives_all all new moment moment (piece_of s) k (omega arith) (omega (arith, b.1)) (live_same keys (all ++ new) moment s m (IsIn-before s.item all new h.item) ∙ t)
 
--- behind an update that gives one item
-waiting_given : KeyLaws → (table : LifeTable) (station : StationId) (history : List Event) (given moment : ℕ) (update : Update) (w : Weather)
-    → weather_of table update ≡ w ∷ []
+-- behind an update
+waiting_given : KeyLaws → (table : LifeTable) (station : StationId) (history : List Event) (given moment : ℕ) (update : Update)
     → (more : List Segment) × (waiting_after table station (accepted given update ∷ history) moment
     ≡ filter (λ s. is_live (items table station (accepted given update ∷ history)) moment s.item) (waiting_after table station history moment) ++ more)
-waiting_given keys table station history given moment update w we =
+waiting_given keys table station history given moment update =
     let all : List Item = items table station history in
-    let item : Item = item_of table station given all w in
     let after : List Event = accepted given update ∷ history in
     let before : List Segment = segments_in (log table station history) in
-    let segments : List Segment = segments_of item in
-    let made : new_items table station all (accepted given update) ≡ item ∷ [] = ap (items_made table station given all) we in
-    let items_are : items table station after ≡ all ++ item ∷ [] = ap (λ l. all ++ l) made in
-    let logs : segments_in (log table station after) ≡ before ++ segments
-    = log_given table station history given update ∙ ap (λ l. before ++ flat_map segments_of l) made ∙ ap (λ l. before ++ l) (append-nil segments) in
+    let segments : List Segment = flat_map segments_of (made_items table station given history update) in
     let numbered = numbered_items table station history in
-    let all_numbered : Numbered 0 (all ++ item ∷ []) = subst (Numbered 0) items_are (numbered_items table station after) in
-    let order : last_places (segments_in (log table station after)) ≡ last_places before ++ segments
-    = ap last_places logs ∙ places_given all before item refl numbered (logged table station history) in
-    let live : Segment → Bool = λ s. is_live (all ++ item ∷ []) moment s.item in
+    let live : Segment → Bool = λ s. is_live (items table station after) moment s.item in
     let less : filter live (filter (λ s. is_live all moment s.item) (last_places before)) ≡ filter live (last_places before)
     = filter_less (λ s. is_live all moment s.item) live (last_places before)
-    (Each-weaker _ _ (λ s h. live_before keys all item moment s refl numbered all_numbered h) (last_places before) (logged_places table station history)) in (
+    (Each-weaker _ _ (λ s h. live_before keys all (made_items table station given history update) moment s numbered
+    (numbered_new table station given history update) (numbered_items table station after) h) (last_places before) (logged_places table station history)) in (
       filter live segments,
       waiting_is (items table station after) (log table station after) moment
-          ∙ ap (λ is. filter (λ s. is_live is moment s.item) (last_places (segments_in (log table station after)))) items_are
-          ∙ ap (filter live) order ∙ filter-append live (last_places before) segments
-          ∙ ap (λ l. l ++ filter live segments) (sym less ∙ ap (filter live) (sym (waiting_is all (log table station history) moment)))
-          ∙ ap (λ is. filter (λ s. is_live is moment s.item) (waiting_after table station history moment) ++ filter live segments) (sym items_are),
+          ∙ ap (filter live) (order_given table station given history update) ∙ filter-append live (last_places before) segments
+          ∙ ap (λ l. l ++ filter live segments) (sym less ∙ ap (filter live) (sym (waiting_is all (log table station history) moment))),
     )
 
 abbrev IsLater : ℕ → ℕ → List Event → Type 0
@@ -261,19 +250,14 @@ placed : StationsAreTold → KeyLaws → PartsFitFrames → (table : LifeTable) 
 placed told keys fit table station past [] at s before after h f l e w moment le t =
     subst (IsPlaced 0 (bytes_of before) s) (sym (waiting_later table station past at moment le))
     (placed-filter 0 (bytes_of before) s _ (waiting_after table station past at) t (record { before = before; after = after; line_is = e; near = inl (omega arith) }))
-placed told keys fit table station past (accepted given (text version chars) ∷ later) at s before after h f l e w moment le t =
+placed told keys fit table station past (accepted given update ∷ later) at s before after h f l e w moment le t =
     let history : List Event = later ++ past in
     let all : List Item = items table station history in
-    let c = clear table all given version chars h.0.is_accepted.1 in
-    let we = weather_is table version chars c.key c.row c.key_is c.row_is in
-    let item : Item = item_of table station given all (text_weather c.key c.row version chars) in
-    let items_are : items table station (accepted given (text version chars) ∷ history) ≡ all ++ item ∷ [] = ap (λ ws. all ++ items_made table station given all ws) we in
-    let m = subst (Numbered 0) items_are (numbered_items table station (accepted given (text version chars) ∷ history)) in
     let lived : is_live all moment s.item ≡ true
-    = live_before keys all item moment s refl (numbered_items table station history) m (logged_later table station past later s l)
-    (ap (λ is. is_live is moment s.item) (sym items_are) ∙ t) in
-    let g = waiting_given keys table station history given moment (text version chars) (text_weather c.key c.row version chars) we in
-    let old = placed told keys fit table station past later at s before after h.1 f.1 l e w moment (later_more at given moment past later (accepted given (text version chars)) le h.0.not_before f.0) lived in
+    = live_before keys all (made_items table station given history update) moment s (numbered_items table station history)
+    (numbered_new table station given history update) (numbered_items table station (accepted given update ∷ history)) (logged_later table station past later s l) t in
+    let g = waiting_given keys table station history given moment update in
+    let old = placed told keys fit table station past later at s before after h.1 f.1 l e w moment (later_more at given moment past later (accepted given update) le h.0.not_before f.0) lived in
     subst (IsPlaced (fills later) (bytes_of before) s) (sym g.1) (placed-more (fills later) (bytes_of before) s _ g.0 (placed-filter (fills later) (bytes_of before) s _ _ t old))
 placed told keys fit table station past (fill now slot ∷ later) at s before after h f l e w moment le t =
     let history : List Event = later ++ past in
