@@ -5,7 +5,7 @@ use Rattle.std.proofs.lemmas.Bool.{cases_Bool}
 use Rattle.std.proofs.lemmas.List.Elements.{All-weaker, All-map, All-filter, recursion_from_All}
 use Rattle.fisb_time.specs.declared.form.TimeForm.{TimeForm}
 use Rattle.fisb_time.specs.declared.form.TimeForm.TheVariants.{Minute, Second, DayMinute, DaySecond}
-use Rattle.life_table.specs.LifeTable.{LifeTable, TextRow, RadarRow, text_row, row, greatest_of, longest, thirty_days}
+use Rattle.life_table.specs.LifeTable.{LifeTable, TextRow, RadarRow, text_row, radar_row, row, radar, greatest_of, longest, thirty_days}
 use Rattle.life_table.specs.Rules.{IsTable, IsTextRow, IsRadarRow, IsWithinForm}
 
 pub fold_above : (xs : List ℕ) (a : ℕ) → a ≤ fold max a xs
@@ -69,6 +69,11 @@ pub lent_short : (t : LifeTable) (word kind : List ℕ) (words life : ℕ) (form
     → IsShort life
 lent_short t word kind words life form rules is =
     short_by_form t.late form life (rules.texts word (row word kind words life form) (sym is)).within
+
+pub lent_radar_short : (t : LifeTable) (product life : ℕ) (form : TimeForm) → IsTable t → Some (radar product life form) ≡ radar_row t product
+    → IsShort life
+lent_radar_short t product life form rules is =
+    short_by_form t.late form life (rules.radars product (radar product life form) (sym is)).within
 
 fold_short : (xs : List ℕ) (a : ℕ) → IsShort a → AllByRecursion IsShort xs → IsShort (fold max a xs)
 fold_short [] a here all = here

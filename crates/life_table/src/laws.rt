@@ -1,9 +1,7 @@
 //! Laws of the definitions, for the crates above: each is the contract of a function that does nothing.
-ghost use Rattle.std.specs.Prelude.{◌≡◌, ℕ, ◌≤◌, ◌↔◌, List, Some, None, Ok};
-ghost use Rattle.life_table.specs.LifeTable.{LifeTable, TextRow, RadarRow, text_row, radar_row};
-ghost use Rattle.life_table.specs.LifeTable.{longest, default_table};
-ghost use Rattle.life_table.specs.Products.{text_product};
-ghost use Rattle.life_table.specs.Longest.{IsLifeOf, IsLongest};
+ghost use Rattle.std.specs.Prelude.{◌≡◌, ℕ, ◌↔◌, List, Some, None, Ok};
+ghost use Rattle.life_table.specs.LifeTable.{LifeTable, longest, default_table};
+ghost use Rattle.life_table.specs.Longest.{IsLifeOf, IsLongest, RadarsAreWithin, TextsAreWithin};
 ghost use Rattle.life_table.specs.Rules.{IsTable};
 ghost use Rattle.life_table.specs.DefaultDocument.{default_document};
 ghost use Rattle.life_table.specs.TableIn.{table_in};
@@ -15,12 +13,8 @@ pub fn longest_is_greatest()
         (longest table product ≡ Some life) ↔ IsLongest table product life }
     ensures none { (table : LifeTable) (product : ℕ) → IsTable table →
         (longest table product ≡ None) ↔ ((life : ℕ) → ¬ IsLifeOf table product life) }
-    ensures texts { (table : LifeTable) (word : List ℕ) (row : TextRow) →
-        text_row table word ≡ Some row →
-        (life : ℕ) × (longest table text_product ≡ Some life) × (row.life ≤ life) }
-    ensures radars { (table : LifeTable) (product : ℕ) (row : RadarRow) → IsTable table →
-        radar_row table product ≡ Some row →
-        (life : ℕ) × (longest table product ≡ Some life) × (row.life ≤ life) }
+    ensures texts { TextsAreWithin }
+    ensures radars { RadarsAreWithin }
 {}
 
 /// The default table and every table that a text writes keep the rules; and the default table is

@@ -4,6 +4,7 @@ ghost use Rattle.life_table.specs.LifeTable as spec;
 ghost use Rattle.life_table.specs.Rules.{IsTable};
 ghost use Rattle.life_table.specs.Views.{text_view, radar_view, table_of};
 
+use crate::products::{CONUS_RADAR, REGIONAL_RADAR, TEXT_PRODUCT};
 use crate::rows::{
     KeptRadar, KeptText, RadarRow, TextRow, greatest_radar_life, greatest_text_life, radar_of,
     text_of,
@@ -12,9 +13,6 @@ use fisb_time::TimeForm;
 use std::alloc::{AllocError, Global};
 use std::marker::Model;
 use std::rc::Rc;
-
-// The product of reports.
-const REPORTS: u16 = 413;
 
 /// How long weather lives, and in which form its time is sent, by type of report and by radar product. Every table keeps
 /// the rules of the format. Copies share their rows.
@@ -70,6 +68,7 @@ impl LifeTable {
     pub fn radar_row(&self, product: u16) -> Option<RadarRow>
         ensures row { option_map (λ r. spec.radar product r.life r.form) result
             ≡ spec.radar_row self.now product }
+        ensures bounded { IfSome result (λ row. row.life ≤ spec.thirty_days) }
         ensures rules { IsTable self.now }
     {
         let Some(row) = radar_of(self.radars.as_slice(), product) else {
@@ -85,8 +84,9 @@ impl LifeTable {
     pub fn longest(&self, product: u16) -> Option<u64>
         ensures life { result ≡ spec.longest self.now product }
         ensures bounded { IfSome result (λ life. life ≤ spec.thirty_days) }
+        ensures rules { IsTable self.now }
     {
-        if product == REPORTS {
+        if product == TEXT_PRODUCT {
             greatest_text_life(self.texts.as_slice())
         } else {
             greatest_radar_life(self.radars.as_slice(), product)
@@ -155,12 +155,12 @@ fn default_radars(alloc: Global) -> Result<Vec<KeptRadar>, AllocError>
     let form = TimeForm::Minute;
     let rows = [
         KeptRadar {
-            product: 63,
+            product: REGIONAL_RADAR,
             life: 1_200,
             form,
         },
         KeptRadar {
-            product: 64,
+            product: CONUS_RADAR,
             life: 2_700,
             form,
         },

@@ -4,6 +4,7 @@ pub mod PicturesFound
 pub mod PicturesShown
 pub mod PicturesStep
 pub mod Pictures
+mod RadarLife
 pub mod PicturesLife
 pub mod PicturesForgotten
 pub mod KeptPairs

@@ -12,6 +12,7 @@ use Rattle.picture_core.specs.Contents.{entry_by_row, entry_by_key, report_entri
 use Rattle.life_table.specs.Products.{text_product}
 use Rattle.picture_core.specs.Kept.{HaveLife}
 use Rattle.list_members.proofs.Members.{IsIn-either}
+use Rattle.picture_core.proofs.RadarLife.{radar-HaveLife}
 
 HaveLife-flat_map :
     {X : Type 0} (life : Key → ℕ) (f : X → List Entry) (xs : List X) → ((x : X) → HaveLife life (f x))
@@ -51,5 +52,5 @@ pub payload-HaveLife :
 payload-HaveLife table product version payload = elim (cases_Bool (product == text_product)) [
   | inl t ↦
       rw t (HaveLife-flat_map (life_of table) (report_entries table version) (reports_of payload) (report-HaveLife table version))
-  | inr f ↦ rw f (λ e here. absurd here)
+  | inr f ↦ rw f (radar-HaveLife table product version payload)
 ]

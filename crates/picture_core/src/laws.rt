@@ -5,11 +5,12 @@ ghost use Rattle.std.specs.Prelude.{Some};
 ghost use Rattle.std.specs.Bool.{Decides};
 ghost use Rattle.std.specs.Cmp.{IsTotalOrder};
 ghost use Rattle.std.specs.Ordering.{is_eq};
-ghost use Rattle.life_table.specs.LifeTable.{LifeTable};
+ghost use Rattle.life_table.specs.LifeTable.{LifeTable, radar_row};
 ghost use Rattle.list_members.specs.Membership.{IsIn};
 ghost use Rattle.picture_core.specs.Changes.{Change, PutMonotone};
 ghost use Rattle.picture_core.specs.Changes.{entries_put, kept_after, last_purge};
-ghost use Rattle.picture_core.specs.Contents.{life_of, payload_entries, report_entries};
+ghost use Rattle.picture_core.specs.Contents.{block_entries, life_of, payload_entries};
+ghost use Rattle.picture_core.specs.Contents.{report_entries};
 ghost use Rattle.picture_core.specs.Entry.{Entry};
 ghost use Rattle.picture_core.specs.Kept.{AreMonotone, HasLife, HaveLife, IsMonotone};
 ghost use Rattle.picture_core.specs.Kept.{IsRising, IsStore, kept_at, keys, live_entries};
@@ -17,6 +18,7 @@ ghost use Rattle.picture_core.specs.Kept.{put, put_all};
 ghost use Rattle.picture_core.specs.Key.{Key, key_cmp, same_key};
 ghost use Rattle.picture_core.specs.Picture.{keys_of, picture, shown_at};
 ghost use Rattle.picture_core.specs.Shown.{AddsSame, IsShown, shown_with};
+ghost use Rattle.radar_core.specs.Radar.{Block};
 
 /// The order of keys is strict and total, and finds equal exactly the keys that are one, as
 /// their test does.
@@ -127,6 +129,9 @@ pub fn life_of_entries()
         → HaveLife life contents → HaveLife life more → AreMonotone contents more }
     ensures report { (table : LifeTable) (version : ℕ) (text : List ℕ)
         → HaveLife (life_of table) (report_entries table version text) }
+    ensures blocks { (table : LifeTable) (product version : ℕ) (blocks : List Block)
+        → ((block : Block) → IsIn block blocks → block.0.product ≡ product)
+        → HaveLife (life_of table) (block_entries version (radar_row table product) blocks) }
     ensures payload { (table : LifeTable) (product version : ℕ) (payload : List ℕ)
         → HaveLife (life_of table) (payload_entries table product version payload) }
 {}

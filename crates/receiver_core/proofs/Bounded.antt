@@ -4,6 +4,8 @@ use Rattle.std.specs.List.{sum_by}
 use Rattle.std.specs.Option.{unwrap_or}
 use Rattle.uplink_frame.specs.Laws.{StationsAreTold}
 use Rattle.life_table.specs.LifeTable.{LifeTable}
+use Rattle.life_table.specs.Longest.{RadarsAreWithin, TextsAreWithin}
+use Rattle.life_table.specs.Rules.{IsTable}
 use Rattle.segment_core.specs.Arrival.{Arrival, whole_payloads}
 use Rattle.segment_core.specs.Bound.{StoresAreBounded, live_arrivals, pieces_size}
 use Rattle.segment_core.specs.Store.{is_live}
@@ -13,9 +15,9 @@ use Rattle.receiver_core.specs.Bound.{IsBounded, IsFewFor, IsPurgedAt, number_al
 use Rattle.receiver_core.specs.Reception.{Reception, arrivals, contents}
 use Rattle.receiver_core.specs.StandsFor.{Held, StandsFor, moment_now, longest_lives}
 use Rattle.receiver_core.proofs.Completing.{completed_weight}
-use Rattle.receiver_core.proofs.FewEntries.{RowsAreWithin, live_contents}
+use Rattle.receiver_core.proofs.FewEntries.{live_contents}
 use Rattle.receiver_core.proofs.FrameArrivals.{NamesNear}
-use Rattle.receiver_core.proofs.ReceptionSums.{are_numbered, bytes_sum, lives_now, segments_sum}
+use Rattle.receiver_core.proofs.ReceptionSums.{are_numbered, bytes_sum, lives_now, room_sum, segments_sum}
 use Rattle.receiver_core.proofs.Segmented.{is_segment, length_of_both, stands_for_segments}
 use Rattle.receiver_core.proofs.Weights.{sum_of_filter}
 
@@ -27,7 +29,8 @@ EntriesAreBounded = (now : ℕ) (contents kept : List Entry) → IsStore now con
 -- the laws of the crates below that this rests on
 pub record HasLaws : Type 0 where
   pub names : NamesNear
-  pub rows : RowsAreWithin
+  pub texts : TextsAreWithin
+  pub radars : RadarsAreWithin
   pub told : StationsAreTold
   pub stores : StoresAreBounded
   pub entries : EntriesAreBounded
@@ -36,6 +39,9 @@ module _ (laws : HasLaws) (table : LifeTable) (heard : List Reception) (held : H
     (stands : StandsFor table held heard) (purged : IsPurgedAt held moment) where
   lives : held.joiner.store.longest ≡ longest_lives table
   lives = purged.settled.longest ∙ ap longest_lives stands.reads_by
+
+  rules : IsTable table
+  rules = subst IsTable stands.reads_by purged.settled.rules
 
   abbrev alive : ℕ
   alive = number_alive table moment heard
@@ -69,10 +75,10 @@ module _ (laws : HasLaws) (table : LifeTable) (heard : List Reception) (held : H
       subst (λ now. IsStore now (contents table heard) held.picture.entries) last_is stands.shows in
       let bound = laws.entries moment (contents table heard) held.picture.entries shows in
       let kept = ap length purged.entries in
-      let whole = live_contents laws.rows table moment (whole_payloads (arrivals table heard)) in
+      let whole = live_contents laws.texts laws.radars table rules moment (whole_payloads (arrivals table heard)) in
       let once = completed_weight laws.told (lives_now laws.names table moment) (arrivals table heard)
       (are_numbered laws.names table heard) in
-      let most = bytes_sum laws.names table moment heard stands.receptions in
+      let most = room_sum laws.names table moment heard stands.receptions in
       omega (arith, bound, kept, whole, once, most)
 
   pub bounded : IsBounded table heard held

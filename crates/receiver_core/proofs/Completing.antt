@@ -1,5 +1,5 @@
--- The payloads that arrivals complete have no more bytes together than the arrivals: each file is completed once, and only
--- by its own arrivals.
+-- The payloads that arrivals complete take no more room together than the arrivals: each file is completed once, and only
+-- by its own arrivals. The room of a payload is its bytes, and the six at least that stand before one in a frame.
 use Rattle.std.proofs.Common.{◌≡◌, ℕ, ◌+◌, ◌≤◌, Bool, true, false, cond, ◌==◌, List, [], ◌∷◌, ◌++◌, length, filter_map, Option, Some, None, refl, sym, ap, ◌∙◌, inl, inr, arith}
 use Rattle.std.specs.List.{list_all, sum_by, range_with_len}
 use Rattle.std.proofs.lemmas.Bool.{cases_Bool, and_parts, and_from, or_left, or_right, eqb-true, eq-eqb, false_from_ne_true, cond-true, cond-false}
@@ -121,13 +121,13 @@ not_done came a s last = false_from_ne_true (has_all came a s) (λ all.
     let has = all_in (has_piece came a s) s.number (range_with_len 1 s.count) all there in
     let lacks = last.new in absurd (cc))
 
--- the bytes that are weighed are those of versions that live
+-- the room that is weighed is that of versions that live
 module _ (told : StationsAreTold) (live : ℕ → ℕ → Bool) where
   abbrev pub weight : Arrival → ℕ
-  weight a = cond (live a.product a.version) (length a.payload) 0
+  weight a = cond (live a.product a.version) (6 + length a.payload) 0
 
   abbrev pub whole_weight : Whole → ℕ
-  whole_weight whole = cond (live whole.product whole.version) (length whole.payload) 0
+  whole_weight whole = cond (live whole.product whole.version) (6 + length whole.payload) 0
 
   abbrev done_weight : List Arrival → Arrival → ℕ
   done_weight came b = cond (is_done came b b.segmentation) (weight b) 0
@@ -186,17 +186,25 @@ module _ (told : StationsAreTold) (live : ℕ → ℕ → Bool) where
     | inr other ↦ rw other (omega arith)
   ]
 
-  joined_weight : (came : List Arrival) (a : Arrival) (s : Seg)
-      → whole_weight (whole_with a (joined_payload came a s)) ≤ sum_by (file_weight a s) came
-  joined_weight came a s = elim (cases_Bool (live a.product a.version)) [
+  -- the arrival that completes its file is one of it, and has its own six bytes before its payload
+  joined_weight : (came : List Arrival) (a : Arrival) (s : Seg) → a.segmentation ≡ Some s
+      → whole_weight (whole_with a (joined_payload (came ++ a ∷ []) a s)) ≤ sum_by (file_weight a s) (came ++ a ∷ [])
+  joined_weight came a s is = elim (cases_Bool (live a.product a.version)) [
     | inl alive ↦
-        let size = joined_size a s came in
-        let weighs = sum_above (λ b. cond (is_of_file a s b b.segmentation) (length b.payload) 0) (file_weight a s) came
-        (λ b. live_file a s alive b b.segmentation) in
-        let own = cond-true (live a.product a.version) (length (joined_payload came a s)) 0 alive in
-        omega (arith, size, weighs, own)
+        let all = came ++ a ∷ [] in
+        let size_in : Arrival → ℕ = λ b. cond (is_of_file a s b b.segmentation) (length b.payload) 0 in
+        let size = joined_size a s all in
+        let weighs = sum_above size_in (file_weight a s) came (λ b. live_file a s alive b b.segmentation) in
+        let of : is_of_file a s a a.segmentation ≡ true = ap (is_of_file a s a) is ∙ own_file told a s in
+        let own_size = cond-true (is_of_file a s a a.segmentation) (length a.payload) 0 of in
+        let own_weight = cond-true (is_of_file a s a a.segmentation) (weight a) 0 of in
+        let weight_is = cond-true (live a.product a.version) (6 + length a.payload) 0 alive in
+        let joined_is = cond-true (live a.product a.version) (6 + length (joined_payload all a s)) 0 alive in
+        let sizes = sum_by_push size_in came a in
+        let weights = sum_by_push (file_weight a s) came a in
+        omega (arith, size, weighs, own_size, own_weight, weight_is, joined_is, sizes, weights)
     | inr dead ↦
-        let own = cond-false (live a.product a.version) (length (joined_payload came a s)) 0 dead in
+        let own = cond-false (live a.product a.version) (6 + length (joined_payload (came ++ a ∷ []) a s)) 0 dead in
         omega (arith, own)
   ]
 
@@ -215,7 +223,7 @@ module _ (told : StationsAreTold) (live : ℕ → ℕ → Bool) where
           | inl others ↦
               let last : IsLast came a s = record { segmentation_is = is; numbered = numbered; new = new; others = others } in
               let sum = file_sum came a s last in
-              let weighs = joined_weight (came ++ a ∷ []) a s in
+              let weighs = joined_weight came a s is in
               rw (new, others) (omega (arith, sum, weighs))
           | inr waits ↦ rw (new, waits) (omega (arith, kept, sum_with came a))
         ]

@@ -1,4 +1,5 @@
--- A payload says no more than five entries for each of its bytes, and none that outlives its version.
+-- A payload says no more than five entries for each of its bytes and of the six at least that stand before them, and none
+-- that outlives its version.
 use Rattle.std.proofs.Common.{◌≡◌, ℕ, ◌+◌, ◌*◌, ◌≤◌, Bool, true, false, cond, List, [], ◌∷◌, length, flat_map, Option, Some, None, Result, Ok, Err, refl, ap, inl, inr, arith}
 use Rattle.std.specs.Prelude.{◌==◌, nat_lt}
 use Rattle.std.specs.List.{slice_split, sum_by}
@@ -11,15 +12,18 @@ use Rattle.dlac_text.specs.Pieces.{Piece, pieces_of}
 use Rattle.dlac_text.specs.Reports.{has_characters, is_end, reports_among, reports_of, text_of, texts_between}
 use Rattle.dlac_text.specs.SixBits.{six_bit_groups}
 use Rattle.life_table.specs.LifeTable.{LifeTable, TextRow, longest, text_row}
+use Rattle.life_table.specs.Longest.{RadarsAreWithin, TextsAreWithin}
+use Rattle.life_table.specs.Rules.{IsTable}
 use Rattle.text_reports.specs.TextKey.{KeyFault, TextKey, text_key}
 use Rattle.segment_core.specs.Arrival.{Whole}
 use Rattle.segment_core.specs.Store.{is_live}
-use Rattle.picture_core.specs.Contents.{entry_by_key, entry_by_row, report_entries}
+use Rattle.picture_core.specs.Contents.{entry_by_key, entry_by_row, radar_entries, report_entries}
 use Rattle.life_table.specs.Products.{text_product}
 use Rattle.picture_core.specs.Entry.{Entry}
 use Rattle.picture_core.specs.Kept.{live_entries}
 use Rattle.receiver_core.specs.Reception.{whole_entries}
 use Rattle.receiver_core.specs.StandsFor.{longest_lives}
+use Rattle.receiver_core.proofs.FewBlocks.{live_radar}
 use Rattle.receiver_core.proofs.Segmented.{length_ones}
 use Rattle.receiver_core.proofs.Weights.{few_pass}
 
@@ -61,12 +65,7 @@ payload_reports (byte ∷ more) =
     let codes = groups_few (byte ∷ more) in
     omega (arith, reports, pieces, codes)
 
--- the row of a type lives no longer than the longest life of text
-abbrev pub RowsAreWithin : Type 0
-RowsAreWithin = (table : LifeTable) (word : List ℕ) (row : TextRow) → text_row table word ≡ Some row
-    → (life : ℕ) × (longest table 413 ≡ Some life) × (row.life ≤ life)
-
-module _ (rows : RowsAreWithin) (table : LifeTable) (moment : ℕ) where
+module _ (rows : TextsAreWithin) (radars : RadarsAreWithin) (table : LifeTable) (rules : IsTable table) (moment : ℕ) where
   abbrev text_lives : ℕ → Bool
   text_lives version = is_live (longest_lives table) moment 413 version
 
@@ -109,22 +108,29 @@ module _ (rows : RowsAreWithin) (table : LifeTable) (moment : ℕ) where
       omega (arith, few, count, most)
 
   abbrev pub weight_of_whole : Whole → ℕ
-  weight_of_whole whole = cond (is_live (longest_lives table) moment whole.product whole.version) (length whole.payload) 0
+  weight_of_whole whole = cond (is_live (longest_lives table) moment whole.product whole.version) (6 + length whole.payload) 0
+
+  heavier : (lives : Bool) (size : ℕ) → cond lives size 0 ≤ cond lives (6 + size) 0
+  heavier true size = omega arith
+  heavier false size = omega arith
 
   live_whole : (whole : Whole) → length (live_entries moment (whole_entries table whole)) ≤ 5 * weight_of_whole whole
-  live_whole whole = elim (cases_Bool (whole.product == text_product)) [
-    | inl is_text ↦
-        let product : whole.product ≡ 413 = eqb-true whole.product 413 is_text in
-        let entries = cond-true (whole.product == text_product)
-        (flat_map (report_entries table whole.version) (reports_of whole.payload)) [] is_text in
-        let few = live_text whole.version whole.payload in
-        let same = ap (λ p. 5 * cond (is_live (longest_lives table) moment p whole.version) (length whole.payload) 0) product in
-        omega (arith, ap (λ es. length (live_entries moment es)) entries, few, same)
-    | inr other ↦
-        let none = cond-false (whole.product == text_product)
-        (flat_map (report_entries table whole.version) (reports_of whole.payload)) [] other in
-        omega (arith, ap (λ es. length (live_entries moment es)) none)
-  ]
+  live_whole whole =
+      let reports : List Entry = flat_map (report_entries table whole.version) (reports_of whole.payload) in
+      let blocks : List Entry = radar_entries table whole.product whole.version whole.payload in
+      elim (cases_Bool (whole.product == text_product)) [
+        | inl is_text ↦
+            let product : whole.product ≡ 413 = eqb-true whole.product 413 is_text in
+            let entries = cond-true (whole.product == text_product) reports blocks is_text in
+            let few = live_text whole.version whole.payload in
+            let more = heavier (text_lives whole.version) (length whole.payload) in
+            let same = ap (λ p. 5 * cond (is_live (longest_lives table) moment p whole.version) (6 + length whole.payload) 0) product in
+            omega (arith, ap (λ es. length (live_entries moment es)) entries, few, more, same)
+        | inr other ↦
+            let entries = cond-false (whole.product == text_product) reports blocks other in
+            let few = live_radar radars table rules moment whole.product whole.version whole.payload in
+            omega (arith, ap (λ es. length (live_entries moment es)) entries, few)
+      ]
 
   pub live_contents : (wholes : List Whole)
       → length (live_entries moment (flat_map (whole_entries table) wholes)) ≤ 5 * sum_by weight_of_whole wholes

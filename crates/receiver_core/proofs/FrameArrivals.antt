@@ -20,7 +20,7 @@ use Rattle.receiver_core.proofs.Completing.{IsNumbered}
 
 -- what a header leaves of a body
 record IsWithin (body : List ℕ) (segmentation : Option Seg) (payload : List ℕ) : Type 0 where
-  pub payload_fits : length payload ≤ length body
+  pub payload_fits : 4 + length payload ≤ length body
   pub header_fits : is_some segmentation ≡ true → 7 ≤ length body
   pub numbered : IsNumbered segmentation
 
@@ -37,6 +37,17 @@ long_header Minute = omega arith
 long_header Second = omega arith
 long_header DayMinute = omega arith
 long_header DaySecond = omega arith
+
+-- a header has four bytes at least
+least_header : (form : TimeForm) (segmented : Bool) → 4 ≤ header_length form segmented
+least_header Minute true = omega arith
+least_header Minute false = omega arith
+least_header Second true = omega arith
+least_header Second false = omega arith
+least_header DayMinute true = omega arith
+least_header DayMinute false = omega arith
+least_header DaySecond true = omega arith
+least_header DaySecond false = omega arith
 
 numbered_by : (b : Bool) (s : Seg) → (b && is_bad s) ≡ false → IsNumbered (cond b (Some s) None)
 numbered_by false s fine = tt
@@ -62,7 +73,9 @@ header_leaves form segmented body a fits is =
     let same_payload : drop bytes body ≡ a.payload = (let e = read.1 in cc) in
     let same : cond segmented (Some s) None ≡ a.segmentation = (let e = read.1 in cc) in
     record {
-      payload_fits = omega (arith, ap length same_payload, length-drop bytes body);
+      payload_fits =
+          let least = least_header form segmented in
+          omega (arith, least, fits, ap length same_payload, length-drop bytes body);
       header_fits = λ some.
           let own = segmented_by segmented s (ap is_some same ∙ some) in
           let long = long_header form in
@@ -86,7 +99,7 @@ NamesNear = (form : TimeForm) (fields : TimeFields) (received moment : ℕ) → 
 
 -- what an arrival is by its frame
 pub record IsOfFrame (received : ℕ) (frame : InformationFrame) (a : Arrival) : Type 0 where
-  pub payload_fits : length a.payload ≤ length frame.body
+  pub payload_fits : 4 + length a.payload ≤ length frame.body
   pub header_fits : is_some a.segmentation ≡ true → 7 ≤ length frame.body
   pub numbered : IsNumbered a.segmentation
   pub near : a.version ≤ received + 60
@@ -103,7 +116,7 @@ module _ (names : NamesNear) (station : StationId) (received : ℕ) (frame : Inf
       let same : apdu.segmentation ≡ a.segmentation = cc in
       let same_version : version ≡ a.version = cc in
       record {
-        payload_fits = subst (λ (p : List ℕ). length p ≤ length frame.body) same_payload within.payload_fits;
+        payload_fits = subst (λ (p : List ℕ). 4 + length p ≤ length frame.body) same_payload within.payload_fits;
         header_fits = λ some. within.header_fits (ap is_some same ∙ some);
         numbered = subst IsNumbered same within.numbered;
         near = omega (arith, near, same_version);

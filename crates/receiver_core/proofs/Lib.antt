@@ -10,5 +10,6 @@ mod FrameSizes
 mod FrameArrivals
 mod ReceptionSums
 mod Segmented
+mod FewBlocks
 mod FewEntries
 mod Bounded

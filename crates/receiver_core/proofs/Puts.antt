@@ -1,6 +1,7 @@
 -- Entries that are put one after another, and lists of which nothing is left.
-use Rattle.std.proofs.Common.{◌≡◌, List, [], ◌∷◌, ◌++◌, map, flat_map, refl, sym, ap, ◌∙◌}
-use Rattle.std.proofs.lemmas.List.{append_assoc, append-nil, map-append}
+use Rattle.std.proofs.Common.{◌≡◌, ℕ, ◌+◌, List, [], ◌∷◌, ◌++◌, drop, map, flat_map, slice_get, Some, refl, sym, ap, ◌∙◌}
+use Rattle.std.proofs.lemmas.List.{append_assoc, append-nil, drop_more, map-append}
+use Rattle.std.proofs.lemmas.Option.{get_or_from_slice_get, slice_get_within}
 use Rattle.picture_core.specs.Entry.{Entry}
 use Rattle.picture_core.specs.Kept.{put, put_all}
 
@@ -28,3 +29,8 @@ pub map_flat : {A B C : Type 0} (g : B → C) (f : A → List B) (xs : List A) �
     (flat_map f xs)
 map_flat g f [] = refl
 map_flat g f (x ∷ xs) = ap (λ ts. map g (f x) ++ ts) (map_flat g f xs) ∙ sym (map-append g (f x) (flat_map f xs))
+
+-- the elements from a place on are the one there and those after it
+pub drop_got : {A : Type 0} (xs : List A) (i : ℕ) (x : A) → slice_get xs i ≡ Some x → drop i xs ≡ x ∷ drop (i + 1) xs
+drop_got xs i x is =
+    drop_more xs i x (slice_get_within xs i x is) ∙ ap (λ y. y ∷ drop (i + 1) xs) (get_or_from_slice_get xs i x x is)

@@ -73,7 +73,7 @@ module _ (names : NamesNear) (table : LifeTable) (moment : ℕ) where
 
   -- a part of each frame that lives
   pub reception_sum : (heard : Reception) (k : ℕ) (w : Arrival → ℕ) → length heard.payload ≡ 432
-      → ((frame : InformationFrame) (a : Arrival) → length a.payload ≤ length frame.body
+      → ((frame : InformationFrame) (a : Arrival) → 4 + length a.payload ≤ length frame.body
       → (is_some a.segmentation ≡ true → 7 ≤ length frame.body) → k * w a ≤ frame_size frame)
       → k * sum_by (λ a. cond (lives_now a.product a.version) (w a) 0) (arrivals_in table heard)
       ≤ cond (may_live table moment heard) 424 0
@@ -115,9 +115,12 @@ module _ (names : NamesNear) (table : LifeTable) (moment : ℕ) where
       let split = sum_by-append w (arrivals table past) (arrivals_in table heard) in
       omega (arith, more, here, split, alive_more heard past most)
 
-  -- bytes, and arrivals with segment fields
+  -- bytes, the same with the six at least before a payload, and arrivals with segment fields
   abbrev pub byte_weight : Arrival → ℕ
   byte_weight a = cond (lives_now a.product a.version) (length a.payload) 0
+
+  abbrev pub room_weight : Arrival → ℕ
+  room_weight a = cond (lives_now a.product a.version) (6 + length a.payload) 0
 
   abbrev pub segment_weight : Arrival → ℕ
   segment_weight a = cond (lives_now a.product a.version) (cond (is_some a.segmentation) 1 0) 0
@@ -134,6 +137,12 @@ module _ (names : NamesNear) (table : LifeTable) (moment : ℕ) where
       ≤ 424 * number_alive table moment past
   bytes_sum = receptions_sum byte_weight 424 (λ heard size.
       let one = reception_sum heard 1 (λ a. length a.payload) size (λ frame a fits long. omega (arith, fits)) in
+      omega (arith, one))
+
+  pub room_sum : (past : List Reception) → AreReceptions past → sum_by room_weight (arrivals table past)
+      ≤ 424 * number_alive table moment past
+  room_sum = receptions_sum room_weight 424 (λ heard size.
+      let one = reception_sum heard 1 (λ a. 6 + length a.payload) size (λ frame a fits long. omega (arith, fits)) in
       omega (arith, one))
 
   pub segments_sum : (past : List Reception) → AreReceptions past → sum_by segment_weight (arrivals table past)

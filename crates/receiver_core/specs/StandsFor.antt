@@ -3,6 +3,7 @@ use Rattle.std.specs.Prelude.{◌≡◌, ℕ, List, None}
 use Rattle.std.specs.Option.{unwrap_or}
 use Rattle.life_table.specs.Products.{regional_radar, conus_radar, text_product}
 use Rattle.life_table.specs.LifeTable.{LifeTable, longest_life}
+use Rattle.life_table.specs.Rules.{IsTable}
 use Rattle.segment_core.specs.declared.arrived.Longest.{Longest}
 use Rattle.segment_core.specs.Store.{MarkedStore, StandsFor as StandsForArrivals}
 use Rattle.picture_core.specs.Kept.{IsStore}
@@ -24,8 +25,9 @@ longest_lives table = record {
   text = longest_life table text_product;
 }
 
--- between two calls no mark stands, and the joiner knows the lives of the table
+-- between two calls no mark stands, the table keeps the rules, and the joiner knows its lives
 pub record IsSettled (held : Held) : Type 0 where
+  pub rules : IsTable held.table
   pub longest : held.joiner.store.longest ≡ longest_lives held.table
   pub no_segments_marked : held.joiner.mark ≡ None
   pub no_entries_marked : held.picture.mark ≡ None

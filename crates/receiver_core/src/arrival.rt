@@ -10,7 +10,7 @@ ghost use Rattle.receiver_core.specs.Steps.{arrival_in_time};
 use crate::unread::UnreadReason;
 use apdu_core::{Apdu, ApduFault, Seg, read_apdu};
 use fisb_time::{Moment, resolve};
-use life_table::LifeTable;
+use life_table::{CONUS_RADAR, LifeTable, REGIONAL_RADAR, TEXT_PRODUCT};
 use segment_core::Arrived;
 use uplink_frame::{InfoFrame, StationId};
 
@@ -64,7 +64,7 @@ pub(crate) fn read_arrival<'a>(
 fn is_read_product(product: u16) -> bool
     ensures { result ≡ is_read_product product }
 {
-    product == 63 || product == 64 || product == 413
+    product == REGIONAL_RADAR || product == CONUS_RADAR || product == TEXT_PRODUCT
 }
 
 /// Whether the file has too many segments.

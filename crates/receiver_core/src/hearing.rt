@@ -17,8 +17,8 @@ ghost use Rattle.receiver_core.specs.UnreadParts.{frame_reasons, part_in, taken_
 ghost use Rattle.receiver_core.specs.UnreadParts.{unread_after};
 
 use crate::arrival::read_arrival;
-use crate::reports::take_whole;
 use crate::unread::{Unread, UnreadReason};
+use crate::whole::take_whole;
 use fisb_time::Moment;
 use life_table::LifeTable;
 use picture_core::Picture;

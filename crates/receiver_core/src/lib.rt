@@ -5,9 +5,11 @@ mod arrival;
 mod heard;
 mod hearing;
 mod laws;
+mod radar;
 mod receiver;
 mod reports;
 mod unread;
+mod whole;
 
 pub use heard::{HearFault, Heard, ShowFault};
 pub use receiver::Receiver;

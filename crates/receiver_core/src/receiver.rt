@@ -3,6 +3,7 @@ ghost use Rattle.std.specs.Prelude.{◌≡◌, ℕ, List, [], None, Some, IsSome
 ghost use Rattle.std.specs.Prelude.{replicate};
 ghost use Rattle.uplink_weave.specs.Functions.{counts_in, payload_in};
 ghost use Rattle.life_table.specs.LifeTable.{LifeTable};
+ghost use Rattle.life_table.specs.Rules.{IsTable};
 ghost use Rattle.segment_core.specs.Arrival.{Arrival};
 ghost use Rattle.segment_core.specs.Bound.{IsPurged};
 ghost use Rattle.segment_core.specs.Store.{IsNotBefore, StandsFor as StandsForArrivals, last_above};
@@ -19,7 +20,7 @@ use crate::hearing::take_frames;
 use crate::laws::{forgets_once, keeps_nothing, keeps_reception, receivers_are_bounded};
 use crate::unread::UnreadList;
 use fisb_time::Moment;
-use life_table::LifeTable;
+use life_table::{CONUS_RADAR, LifeTable, REGIONAL_RADAR, TEXT_PRODUCT};
 use picture_core::{Entries, Picture};
 use segment_core::{Joiner, Longest};
 use std::alloc::Global;
@@ -218,11 +219,12 @@ fn last_above(last: Option<Moment>, moment: Moment) -> Option<Moment>
 
 /// The longest life of each product that is read; 0 where the table has no row of it.
 fn longest_lives(table: &LifeTable) -> Longest
-    ensures { result ≡ longest_lives table.now }
+    ensures lives { result ≡ longest_lives table.now }
+    ensures rules { IsTable table.now }
 {
     Longest {
-        regional: table.longest(63).unwrap_or(0),
-        conus: table.longest(64).unwrap_or(0),
-        text: table.longest(413).unwrap_or(0),
+        regional: table.longest(REGIONAL_RADAR).unwrap_or(0),
+        conus: table.longest(CONUS_RADAR).unwrap_or(0),
+        text: table.longest(TEXT_PRODUCT).unwrap_or(0),
     }
 }

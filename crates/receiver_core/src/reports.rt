@@ -1,4 +1,4 @@
-//! The reports of a payload that is whole.
+//! The reports of a whole payload of text.
 ghost use Rattle.std.specs.Prelude.{◌≡◌, ◌≤◌, ◌++◌, IfOk, OnOk, Some, length, map};
 ghost use Rattle.std.specs.Prelude.{flat_map, option_to_list};
 ghost use Rattle.dlac_text.specs.Reports.{reports_of};
@@ -8,8 +8,7 @@ ghost use Rattle.picture_core.specs.Contents.{report_entries};
 ghost use Rattle.picture_core.specs.Kept.{put_all};
 ghost use Rattle.segment_core.specs.Arrival.{Whole};
 ghost use Rattle.receiver_core.specs.Hearing.{unread_view};
-ghost use Rattle.receiver_core.specs.Reception.{whole_entries};
-ghost use Rattle.receiver_core.specs.UnreadParts.{part_in, report_reasons, whole_reasons};
+ghost use Rattle.receiver_core.specs.UnreadParts.{part_in, report_reasons};
 
 use crate::unread::{Unread, UnreadReason};
 use dlac_text::{Report, reports};
@@ -20,39 +19,8 @@ use std::alloc::{AllocError, Global};
 use text_reports::{KeyFault, key_of};
 use uplink_frame::InfoFrame;
 
-/// The product of text.
-const TEXT: u16 = 413;
-
-/// Takes what a whole payload says into the picture, and lists what of it is passed on unread.
-pub(crate) fn take_whole(
-    alloc: Global,
-    table: &LifeTable,
-    frame: &InfoFrame<'_>,
-    product: u16,
-    version: Moment,
-    payload: &[u8],
-    picture: &mut Picture,
-    unread: &mut Vec<Unread>,
-) -> Result<(), AllocError>
-    requires { length frame.now.body.now ≤ 424 }
-    ensures entries { OnOk result (picture.new.entries ≡ put_all (whole_entries table.now
-        (record { product = product; version = version; payload = payload.now }))
-        picture.old.entries) }
-    ensures unread { OnOk result (map unread_view unread.new.items
-        ≡ map unread_view unread.old.items ++ map (part_in (frame_view frame.now))
-        (whole_reasons table.now
-        (Some (record { product = product; version = version; payload = payload.now })))) }
-    ensures mark { picture.new.mark ≡ picture.old.mark }
-{
-    if product != TEXT {
-        return Ok(());
-    }
-    take_reports(alloc, table, frame, version, payload, picture, unread)?;
-    Ok(())
-}
-
 /// Takes the reports of a payload of text.
-fn take_reports(
+pub(crate) fn take_reports(
     alloc: Global,
     table: &LifeTable,
     frame: &InfoFrame<'_>,

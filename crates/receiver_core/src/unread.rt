@@ -30,6 +30,16 @@ pub enum UnreadReason {
     Time,
     /// The longest life of the product has passed since the version.
     Stale,
+    /// A whole payload of radar has fewer than 4 bytes.
+    RadarShort,
+    /// The scale of a radar record is 3.
+    Scale,
+    /// The runs of a radar record are not 128 cells.
+    Runs,
+    /// The base of an empty radar record is 405,000 or more.
+    High,
+    /// The bitmap of an empty radar record is cut off.
+    Bitmap,
     /// A report has fewer words than its key.
     Words,
     /// The life table has no row of a report's type.

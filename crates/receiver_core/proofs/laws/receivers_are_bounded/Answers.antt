@@ -5,7 +5,8 @@ pub returns : goal.returns
 returns c = bounded record {
   names = λ form fields received moment is.
       ((c.named_is_greatest.ensures form fields received moment).0 is).candidate.not_ahead;
-  rows = c.longest_is_greatest.ensures.texts;
+  texts = c.longest_is_greatest.ensures.texts;
+  radars = c.longest_is_greatest.ensures.radars;
   told = c.stations_are_told.ensures;
   stores = c.stores_are_bounded.ensures;
   entries = c.store_is_bounded.ensures;
