@@ -64,7 +64,7 @@ sent_whole DayMinute payload le = whole_by (length payload) 417 le (omega arith)
 sent_whole DaySecond payload le = whole_by (length payload) 416 le (omega arith)
 
 -- the product of a row is one of two
-of_row : (table : LifeTable) (product : ℕ) (row : RadarRow) → IsTable table → radar_row table product ≡ Some row → (product ≡ 63) ⊎ (product ≡ 64)
+pub of_row : (table : LifeTable) (product : ℕ) (row : RadarRow) → IsTable table → radar_row table product ≡ Some row → (product ≡ 63) ⊎ (product ≡ 64)
 of_row table product row is_table found =
     let same : row.product ≡ product = eqb-true row.product product (find-passes (λ (r : RadarRow). r.product == product) table.radars row found) in
     elim (is_table.radars product row found).product [

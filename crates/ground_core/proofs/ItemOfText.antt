@@ -1,5 +1,5 @@
 -- What the tests on a text tell together.
-use Rattle.std.proofs.Common.{◌≡◌, ℕ, ◌+◌, ◌*◌, ◌/◌, ◌<◌, ◌≤◌, Bool, true, false, if◌then◌else◌, List, [], ◌∷◌, Option, Some, None, Ok, ap, ◌∙◌, arith}
+use Rattle.std.proofs.Common.{◌≡◌, ℕ, ◌+◌, ◌*◌, ◌/◌, ◌<◌, ◌≤◌, Bool, true, false, if◌then◌else◌, List, [], ◌∷◌, Option, Some, None, Ok, sym, ap, subst, ◌∙◌, arith}
 use Rattle.std.specs.Str.{chars}
 use Rattle.dlac_text.specs.Refusal.{TextRefusal, text_refusal, longest_text}
 use Rattle.life_table.specs.LifeTable.{LifeTable, TextRow, text_row}
@@ -8,7 +8,10 @@ use Rattle.picture_core.specs.Key.{Key, text_report}
 use Rattle.ground_core.specs.Update.{text}
 use Rattle.ground_core.specs.Refusal.{GiveRefusal, text_fault_refusal, timing, version_refusal}
 use Rattle.ground_core.specs.declared.fault.GiveFault.{GiveFault}
+use Rattle.ground_core.specs.Item.{Weather}
 use Rattle.ground_core.specs.Piece.{Latest}
+use Rattle.ground_core.specs.Putting.{IsItemOf, AreItemsOf}
+use Rattle.ground_core.specs.declared.item.SentItem.{SentItem}
 use Rattle.ground_core.specs.Told.{IsTold, refusal_by, key_refusal_by, weather_refusal_by, count_refusal, latest_versions}
 use Rattle.ground_core.proofs.Given.{text_weather, by_row_is}
 
@@ -35,3 +38,8 @@ few_bytes size count e h = omega arith
 pub count_below : (b : Bool) (count file : ℕ) → file ≡ (if b then count else 0) → file < 1024 → b ≡ true → count < 1024
 count_below true count file e h t = omega arith
 count_below false count file e h t = cc
+
+-- the one item of an update that says one thing
+pub one_item : (count : ℕ → ℕ → ℕ) (serial : ℕ) (ws : List Weather) (w : Weather) (item : SentItem) → ws ≡ w ∷ []
+    → IsItemOf w serial (count w.version w.product) item → AreItemsOf count serial ws (item ∷ [])
+one_item count serial ws w item e h = subst (λ l. AreItemsOf count serial l (item ∷ [])) (sym e) (h, tt)

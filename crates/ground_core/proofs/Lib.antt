@@ -13,6 +13,8 @@ pub mod LatestKeys
 pub mod Placed
 pub mod Turns
 pub mod Areas
+pub mod RoomLemmas
+pub mod GroupItems
 pub mod SentItems
 pub mod State
 pub mod Giving
@@ -21,6 +23,7 @@ pub mod ItemOfText
 pub mod Given
 pub mod Rising
 pub mod GivenRadar
+pub mod JudgedRadar
 pub mod AllGiven
 pub mod Items
 pub mod Stations

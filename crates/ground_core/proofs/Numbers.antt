@@ -18,8 +18,8 @@ use Rattle.ground_core.proofs.ListLemmas.{Each-all, list_any-map, filter_same}
 use Rattle.ground_core.specs.Sound.{IsGiven, AcceptedIsGiven}
 use Rattle.ground_core.proofs.Induction.{GoesOn, by_items}
 
-abbrev pub filed : ℕ → ℕ → List Item → List Item
-filed version product all = filter (is_filed version product) all
+abbrev pub filed_items : ℕ → ℕ → List Item → List Item
+filed_items version product all = filter (is_filed version product) all
 
 and_four : (a k p v : Bool) → (p ≡ true → v ≡ true → k ≡ true) → (a && k && p && v) ≡ (a && v && p)
 and_four false k p v f = refl
@@ -45,7 +45,7 @@ rival_is table moment w o lt =
 
 -- the numbers of a version and a product are 0, 1, 2 and so on
 abbrev pub AreCounted : List Item → Type 0
-AreCounted all = (version product : ℕ) → map (λ i. i.number) (filed version product all) ≡ map Some (range_with_len 0 (length (filed version product all)))
+AreCounted all = (version product : ℕ) → map (λ i. i.number) (filed_items version product all) ≡ map Some (range_with_len 0 (length (filed_items version product all)))
 
 number_below : (n at count : ℕ) → at ≤ n → list_any (has_number n) (map Some (range_with_len at count)) ≡ nat_lt n (at + count)
 number_below n at zero le = sym (le-ltb n (at + 0) (omega arith))
@@ -94,12 +94,12 @@ free_number_is rivals limit e = ap (λ n. free_below n rivals) (sym e)
 
 pub file_is_count : (table : LifeTable) (moment : ℕ) (before : List Item) (w : Weather) → moment < w.version + unwrap_or (longest table w.product) 0 → AreCounted before
     → number_for table moment before w
-    ≡ (if nat_lt (length (filed w.version w.product before)) file_numbers then Some (length (filed w.version w.product before)) else None)
+    ≡ (if nat_lt (length (filed_items w.version w.product before)) file_numbers then Some (length (filed_items w.version w.product before)) else None)
 file_is_count table moment before w lt h =
-    let rivals : filter (is_rival table moment w) before ≡ filed w.version w.product before
+    let rivals : filter (is_rival table moment w) before ≡ filed_items w.version w.product before
     = filter_same (is_rival table moment w) (is_filed w.version w.product) before (Each-all _ (λ o. rival_is table moment w o lt) before) in
-    ap free_number rivals ∙ free_number_is (filed w.version w.product before) file_numbers refl
-    ∙ free_is file_numbers (length (filed w.version w.product before)) (filed w.version w.product before) (h w.version w.product)
+    ap free_number rivals ∙ free_number_is (filed_items w.version w.product before) file_numbers refl
+    ∙ free_is file_numbers (length (filed_items w.version w.product before)) (filed_items w.version w.product before) (h w.version w.product)
 
 -- what is given is kept for as long as it may live
 pub kept_long : (table : LifeTable) (before : List Item) (moment : ℕ) (w : Weather) → IsGiven table before moment w
@@ -117,30 +117,30 @@ count_where false count n e = absurd (cc)
 
 pub number_of_given : (table : LifeTable) (before : List Item) (moment : ℕ) (w : Weather) → IsGiven table before moment w
     → AreCounted before → is_segmented w ≡ true
-    → number_for table moment before w ≡ Some (length (filed w.version w.product before))
+    → number_for table moment before w ≡ Some (length (filed_items w.version w.product before))
 number_of_given table before moment w g h s =
     let has = g.number s in
-    let count : ℕ = length (filed w.version w.product before) in
+    let count : ℕ = length (filed_items w.version w.product before) in
     has.1 ∙ count_where (nat_lt count file_numbers) count has.0 (sym (file_is_count table moment before w (kept_long table before moment w g) h) ∙ has.1)
 
 counted_push : (all : List Item) (item : Item) (version product : ℕ) → AreCounted all
-    → (is_filed version product item ≡ true → item.number ≡ Some (length (filed version product all)))
-    → map (λ i. i.number) (filed version product (all ++ item ∷ [])) ≡ map Some (range_with_len 0 (length (filed version product (all ++ item ∷ []))))
+    → (is_filed version product item ≡ true → item.number ≡ Some (length (filed_items version product all)))
+    → map (λ i. i.number) (filed_items version product (all ++ item ∷ [])) ≡ map Some (range_with_len 0 (length (filed_items version product (all ++ item ∷ []))))
 counted_push all item version product h f =
-    let count : ℕ = length (filed version product all) in
+    let count : ℕ = length (filed_items version product all) in
     elim (cases_Bool (is_filed version product item)) [
       | inl t ↦ (
-          let more : filed version product (all ++ item ∷ []) ≡ filed version product all ++ item ∷ []
-          = filter-append (is_filed version product) all (item ∷ []) ∙ ap (λ b. filed version product all ++ cond b (item ∷ []) []) t in
-          let size : length (filed version product all ++ item ∷ []) ≡ count + 1 = length-append (filed version product all) (item ∷ []) in
+          let more : filed_items version product (all ++ item ∷ []) ≡ filed_items version product all ++ item ∷ []
+          = filter-append (is_filed version product) all (item ∷ []) ∙ ap (λ b. filed_items version product all ++ cond b (item ∷ []) []) t in
+          let size : length (filed_items version product all ++ item ∷ []) ≡ count + 1 = length-append (filed_items version product all) (item ∷ []) in
           let zero_more : 0 + count ≡ count = omega arith in
-          ap (map (λ (i : Item). i.number)) more ∙ map-append (λ (i : Item). i.number) (filed version product all) (item ∷ [])
+          ap (map (λ (i : Item). i.number)) more ∙ map-append (λ (i : Item). i.number) (filed_items version product all) (item ∷ [])
           ∙ ap (λ l. l ++ item.number ∷ []) (h version product) ∙ ap (λ n. map Some (range_with_len 0 count) ++ n ∷ []) (f t)
           ∙ sym (map-range_with_len_more Some 0 count count zero_more)
           ∙ ap (λ n. map Some (range_with_len 0 n)) (sym size ∙ ap length (sym more)))
       | inr g ↦ (
-          let same : filed version product (all ++ item ∷ []) ≡ filed version product all
-          = filter-append (is_filed version product) all (item ∷ []) ∙ ap (λ b. filed version product all ++ cond b (item ∷ []) []) g ∙ append-nil (filed version product all) in
+          let same : filed_items version product (all ++ item ∷ []) ≡ filed_items version product all
+          = filter-append (is_filed version product) all (item ∷ []) ∙ ap (λ b. filed_items version product all ++ cond b (item ∷ []) []) g ∙ append-nil (filed_items version product all) in
           ap (map (λ (i : Item). i.number)) same ∙ h version product ∙ ap (λ l. map Some (range_with_len 0 (length l))) (sym same))
     ]
 
@@ -163,7 +163,7 @@ counted_more table station moment before w g h =
     let same_v : w.version ≡ v = same_number w.version v three.1 in
     let same_p : w.product ≡ p = same_number w.product p three.2 in
     number_is table station moment before w w.version w.product _ three.0 (number_of_given table before moment w g h three.0)
-    ∙ ap (λ n. Some (length (filed n w.product before))) same_v ∙ ap (λ n. Some (length (filed v n before))) same_p)
+    ∙ ap (λ n. Some (length (filed_items n w.product before))) same_v ∙ ap (λ n. Some (length (filed_items v n before))) same_p)
 
 pub counted : AcceptedIsGiven → (table : LifeTable) (station : StationId) → IsTable table → (history : List Event) → IsHistory table station history
     → AreCounted (items table station history)

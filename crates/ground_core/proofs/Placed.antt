@@ -13,7 +13,7 @@ use Rattle.ground_core.specs.Putting.{IsPut, is_among, latest_of_sent, latest_pu
 use Rattle.ground_core.specs.Views.{latest_at, keys_in, pieces_in, piece_at}
 use Rattle.ground_core.specs.declared.item.SentItem.{SentItem}
 use Rattle.ground_core.specs.declared.ground.Ground.{Ground}
-use Rattle.ground_core.proofs.KeyLemmas.{KeyLaws}
+use Rattle.ground_core.proofs.KeyLemmas.{KeyLaws, same_key_itself}
 
 pub placed_among : (latest : Key → Option Latest) (old new : List Piece) → ((p : Piece) → IsIn p old → IsIn p new) → ArePlaced latest old → ArePlaced latest new
 placed_among latest old new f h key kept e =
@@ -78,6 +78,9 @@ among_own : KeyLaws → (keys : List Key) (key : Key) → is_among keys key ≡ 
 among_own laws keys key t =
     let own = any_in (λ x. same_key x key) keys t in
     subst (λ x. IsIn x keys) ((laws.same own.0 key).0 own.2) own.1
+
+pub among_itself : KeyLaws → (keys : List Key) (key : Key) → IsIn key keys → is_among keys key ≡ true
+among_itself laws keys key i = in_any (λ x. same_key x key) key keys i (same_key_itself laws key)
 
 abbrev latest_with : (Key → Option Latest) → SentItem → Key → Option Latest
 latest_with latest item key = if is_among (keys_in item.keys) key then Some (latest_of_sent item) else latest key

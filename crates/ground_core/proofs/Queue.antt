@@ -79,18 +79,18 @@ fitting_pieces_are room (x ∷ xs) = elim (cases_Bool (nat_le (room_of x) room))
   | inr f ↦ rw f refl
 ]
 
-abbrev pub left : ℕ → List Segment → List Segment
-left room [] = []
-left room (s ∷ more) = if nat_le (room_of s) room then left (room - room_of s) more else s ∷ more
+abbrev pub segments_left : ℕ → List Segment → List Segment
+segments_left room [] = []
+segments_left room (s ∷ more) = if nat_le (room_of s) room then segments_left (room - room_of s) more else s ∷ more
 
-pub left_pieces_are : (room : ℕ) (xs : List Segment) → map piece_of (left room xs) ≡ left_pieces room (map piece_of xs)
+pub left_pieces_are : (room : ℕ) (xs : List Segment) → map piece_of (segments_left room xs) ≡ left_pieces room (map piece_of xs)
 left_pieces_are room [] = refl
 left_pieces_are room (x ∷ xs) = elim (cases_Bool (nat_le (room_of x) room)) [
   | inl t ↦ rw t (left_pieces_are (room - room_of x) xs)
   | inr f ↦ rw f refl
 ]
 
-pub fitting_left : (room : ℕ) (xs : List Segment) → xs ≡ longest_fitting room xs ++ left room xs
+pub fitting_left : (room : ℕ) (xs : List Segment) → xs ≡ longest_fitting room xs ++ segments_left room xs
 fitting_left room [] = refl
 fitting_left room (x ∷ xs) = elim (cases_Bool (nat_le (room_of x) room)) [
   | inl t ↦ rw t (ap (λ l. x ∷ l) (fitting_left (room - room_of x) xs))
@@ -107,7 +107,7 @@ pub record IsFilled (table : LifeTable) (station : StationId) (past : List Event
 -- what waits behind a fill: what was left, and then what was aired
 pub waiting_filled : StationsAreTold → (table : LifeTable) (station : StationId) (past : List Event) (moment slot : ℕ)
     → waiting_segments (items table station (fill moment slot ∷ past)) (log table station (fill moment slot ∷ past)) moment
-    ≡ left 424 (waiting_segments (items table station past) (log table station past) moment)
+    ≡ segments_left 424 (waiting_segments (items table station past) (log table station past) moment)
     ++ airing (items table station past) (log table station past) moment
 waiting_filled told table station past moment slot =
     let all : List Item = items table station past in
@@ -115,11 +115,11 @@ waiting_filled told table station past moment slot =
     let now : List Segment = waiting_segments all (log table station past) moment in
     let front : List Segment = longest_fitting 424 now in
     let live : Segment → Bool = λ s. is_live all moment s.item in
-    let cut : filter live (last_places before) ≡ front ++ left 424 now = sym (waiting_is all (log table station past) moment) ∙ fitting_left 424 now in
+    let cut : filter live (last_places before) ≡ front ++ segments_left 424 now = sym (waiting_is all (log table station past) moment) ∙ fitting_left 424 now in
     waiting_is (all ++ []) (log table station (fill moment slot ∷ past)) moment
     ∙ ap (λ is. filter (λ s. is_live is moment s.item) (last_places (segments_in (log table station (fill moment slot ∷ past))))) (append-nil all)
     ∙ ap (λ l. filter live (last_places l)) (log_filled table station past moment slot)
-    ∙ turned told live before front (left 424 now) cut
+    ∙ turned told live before front (segments_left 424 now) cut
 
 pub filled : StationsAreTold → KeyLaws → (table : LifeTable) (station : StationId) (past : List Event) (clock moment slot : ℕ) (old new : List Piece) → clock ≤ moment
     → filter (live_by (latest_of (items table station past)) clock) old ≡ map piece_of (waiting_segments (items table station past) (log table station past) clock)
@@ -135,8 +135,8 @@ filled told keys table station past clock moment slot old new le e n =
       aired = fitting_pieces_are 424 now ∙ ap (fitting_pieces 424) (sym live);
       line = n ∙ ap (λ l. left_pieces 424 l ++ fitting_pieces 424 l) live
           ∙ ap (λ l. l ++ fitting_pieces 424 (map piece_of now)) (sym (left_pieces_are 424 now))
-          ∙ ap (λ l. map piece_of (left 424 now) ++ l) (sym (fitting_pieces_are 424 now))
-          ∙ sym (map-append piece_of (left 424 now) (longest_fitting 424 now))
+          ∙ ap (λ l. map piece_of (segments_left 424 now) ++ l) (sym (fitting_pieces_are 424 now))
+          ∙ sym (map-append piece_of (segments_left 424 now) (longest_fitting 424 now))
           ∙ ap (map piece_of) (sym (waiting_filled told table station past moment slot));
     }
 

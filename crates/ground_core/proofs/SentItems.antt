@@ -23,7 +23,7 @@ use Rattle.ground_core.specs.Views.{keys_in, piece_at}
 use Rattle.ground_core.specs.declared.item.SentItem.{SentItem}
 use Rattle.ground_core.proofs.KeyLemmas.{KeyLaws, same_key_comm}
 use Rattle.ground_core.proofs.ListLemmas.{list_any-map}
-use Rattle.ground_core.proofs.Numbers.{AreCounted, filed, counted_more, kept_long, number_of_given}
+use Rattle.ground_core.proofs.Numbers.{AreCounted, filed_items, counted_more, kept_long, number_of_given}
 use Rattle.ground_core.proofs.Versions.{product_within}
 
 -- the piece of an item
@@ -48,7 +48,7 @@ map_map f (x ∷ xs) = ap (λ l. piece_of (f x) ∷ l) (map_map f xs)
 pub record IsSent (spec : Item) (item : SentItem) : Type 0 where
   pub keys : keys_in item.keys ≡ item_keys spec
   pub latest : latest_of_sent item ≡ latest_of_item spec
-  pub filed : (version product : ℕ) → is_counted version product item ≡ is_filed version product spec
+  pub files_same : (version product : ℕ) → is_counted version product item ≡ is_filed version product spec
   pub pieces : pieces_at item ≡ map piece_of (segments_of spec)
 
 abbrev pub AreSent : List Item → List SentItem → Type 0
@@ -62,7 +62,7 @@ latest_with version serial until = record { version = version; serial = serial; 
 
 is_sent : (table : LifeTable) (station : StationId) (moment : ℕ) (before : List Item) (w : Weather) (serial count : ℕ) (item : SentItem)
     → IsGiven table before moment w → AreCounted before → serial ≡ length before
-    → count ≡ length (filed w.version w.product before)
+    → count ≡ length (filed_items w.version w.product before)
     → IsItemOf w serial count item → IsSent (item_of table station moment before w) item
 is_sent table station moment before w serial count item g h s e i =
     let spec : Item = item_of table station moment before w in
@@ -71,7 +71,7 @@ is_sent table station moment before w serial count item g h s e i =
     = ap (λ f. of_file.is_segmented f item.payload) i.form ∙ ap (of_file.is_segmented w.form) i.payload in
     let number : item.file ≡ unwrap_or spec.number 0
     = i.file ∙ ap (λ n. if is_segmented w then n else 0) e
-    ∙ number_shown (is_segmented w) (number_for table moment before w) (length (filed w.version w.product before))
+    ∙ number_shown (is_segmented w) (number_for table moment before w) (length (filed_items w.version w.product before))
     (number_of_given table before moment w g h) in
     let one : (n : ℕ) → piece_at item n ≡ piece_of (segment_of spec n) = λ (n : ℕ).
     ap (λ x. piece_with x (keys_in item.keys) item.product item.form item.version item.file item.payload n) own
@@ -88,7 +88,7 @@ is_sent table station moment before w serial count item g h s e i =
       latest = ap (λ x. latest_with x item.serial item.until) i.version_is
           ∙ ap (λ x. latest_with w.version x item.until) own
           ∙ ap (λ x. latest_with w.version (length before) x) i.until;
-      filed = λ v p. ap (λ b. b && (item.version == v) && (item.product == p)) segmented
+      files_same = λ v p. ap (λ b. b && (item.version == v) && (item.product == p)) segmented
           ∙ ap (λ n. is_segmented w && (n == v) && (item.product == p)) i.version_is
           ∙ ap (λ n. is_segmented w && (w.version == v) && (n == p)) i.product;
       pieces = map_same (piece_at item) (λ n. piece_of (segment_of spec n)) (range_with_len 1 item.count) (λ n there. one n)
@@ -103,12 +103,12 @@ one_more false xs item = ap length (append-nil xs) ∙ zero_more (length xs) whe
   zero_more n = omega arith
 
 pub filed_more : (version product : ℕ) (all : List Item) (item : Item)
-    → length (filed version product (all ++ item ∷ [])) ≡ length (filed version product all) + (if is_filed version product item then 1 else 0)
+    → length (filed_items version product (all ++ item ∷ [])) ≡ length (filed_items version product all) + (if is_filed version product item then 1 else 0)
 filed_more version product all item =
-    ap length (filter-append (is_filed version product) all (item ∷ [])) ∙ one_more (is_filed version product item) (filed version product all) item
+    ap length (filter-append (is_filed version product) all (item ∷ [])) ∙ one_more (is_filed version product item) (filed_items version product all) item
 
 abbrev Counts : LifeTable → ℕ → List Item → (ℕ → ℕ → ℕ) → Type 0
-Counts table moment before count = (version product : ℕ) → moment < version + greatest_life table → count version product ≡ length (filed version product before)
+Counts table moment before count = (version product : ℕ) → moment < version + greatest_life table → count version product ≡ length (filed_items version product before)
 
 within : (table : LifeTable) (before : List Item) (moment : ℕ) (w : Weather) → IsGiven table before moment w → moment < w.version + greatest_life table
 within table before moment w g =
@@ -159,16 +159,16 @@ after_kept key moment (spec ∷ specs) last kept h =
     after_kept key moment specs _ _ (given_kept (has_key key spec) moment (latest_of_item spec) last kept h)
 
 pub count_same : (version product : ℕ) (all specs : List Item) (items : List SentItem) (before : ℕ) → AreSent specs items
-    → before ≡ length (filed version product all) → count_put version product items before ≡ length (filed version product (all ++ specs))
-count_same version product all [] [] before s e = e ∙ ap (λ is. length (filed version product is)) (sym (append-nil all))
+    → before ≡ length (filed_items version product all) → count_put version product items before ≡ length (filed_items version product (all ++ specs))
+count_same version product all [] [] before s e = e ∙ ap (λ is. length (filed_items version product is)) (sym (append-nil all))
 count_same version product all [] (item ∷ items) before s e = absurd s
 count_same version product all (spec ∷ specs) [] before s e = absurd s
 count_same version product all (spec ∷ specs) (item ∷ items) before s e =
     count_same version product (all ++ spec ∷ []) specs items (before + (if is_counted version product item then 1 else 0)) s.1
     (ap (λ n. n + (if is_counted version product item then 1 else 0)) e
-    ∙ ap (λ b. length (filed version product all) + (if b then 1 else 0)) (s.0.filed version product)
+    ∙ ap (λ b. length (filed_items version product all) + (if b then 1 else 0)) (s.0.files_same version product)
     ∙ sym (filed_more version product all spec))
-    ∙ ap (λ is. length (filed version product is)) (append_assoc all (spec ∷ []) specs)
+    ∙ ap (λ is. length (filed_items version product is)) (append_assoc all (spec ∷ []) specs)
 
 pub pieces_same : (specs : List Item) (items : List SentItem) → AreSent specs items → flat_map pieces_at items ≡ map piece_of (flat_map segments_of specs)
 pieces_same [] [] s = refl
@@ -222,3 +222,19 @@ items_behind serial (w ∷ ws) more (item ∷ items) further i j =
 pub whole_behind : (items further : List SentItem) → AreWhole items → AreWhole further → AreWhole (items ++ further)
 whole_behind [] further h k = k
 whole_behind (item ∷ items) further h k = (h.0, whole_behind items further h.1 k)
+
+-- no item that is sent whole is counted
+not_counted : (b v p : Bool) → b ≡ false → (b && v && p) ≡ false
+not_counted true v p e = absurd (cc)
+not_counted false v p e = refl
+
+pub whole_counts : (version product : ℕ) (items : List SentItem) (before : ℕ) → AreWhole items → before ≡ count_put version product items before
+whole_counts version product [] before h = refl
+whole_counts version product (item ∷ items) before h =
+    let none : is_counted version product item ≡ false =
+    not_counted (of_file.is_segmented item.form item.payload) (item.version == version) (item.product == product) h.0.whole
+    in
+    let same : before + (if is_counted version product item then 1 else 0) ≡ before = ap (λ b. before + (if b then 1 else 0)) none ∙ no_more before in
+    whole_counts version product items before h.1 ∙ ap (count_put version product items) (sym same) where
+      no_more : (n : ℕ) → n + 0 ≡ n
+      no_more n = omega arith

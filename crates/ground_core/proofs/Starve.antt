@@ -20,7 +20,7 @@ use Rattle.ground_core.proofs.ListLemmas.{Each, Each-weaker, Each-all, Each-at, 
 use Rattle.ground_core.proofs.Order.{last_places, segments_in, waiting_is}
 use Rattle.ground_core.proofs.Serials.{Numbered, numbered_items, serial_in, IsLogged, logged, logged_more, Each-waiting, live_same}
 use Rattle.ground_core.proofs.Segments.{is_segment_of}
-use Rattle.ground_core.proofs.Queue.{left, fitting_left, waiting_filled, older_lives_all, logged_places, made_items, numbered_new, order_given}
+use Rattle.ground_core.proofs.Queue.{segments_left, fitting_left, waiting_filled, older_lives_all, logged_places, made_items, numbered_new, order_given}
 
 abbrev head_bytes : List Segment → ℕ
 head_bytes [] = 0
@@ -102,15 +102,15 @@ front_before (x ∷ front) rest (b ∷ before) s after e absent =
     }
 
 -- what stands behind a front that fits does not fit with it
-left_over : (room : ℕ) (xs : List Segment) (y : Segment) (more : List Segment) → left room xs ≡ y ∷ more → room < bytes_of (longest_fitting room xs) + room_of y
+left_over : (room : ℕ) (xs : List Segment) (y : Segment) (more : List Segment) → segments_left room xs ≡ y ∷ more → room < bytes_of (longest_fitting room xs) + room_of y
 left_over room [] y more e = absurd (cc)
 left_over room (x ∷ xs) y more e = elim (cases_Bool (nat_le (room_of x) room)) [
   | inl t ↦ (
-      let rest = left_over (room - room_of x) xs y more (ap (λ b. if b then left (room - room_of x) xs else x ∷ xs) (sym t) ∙ e) in
+      let rest = left_over (room - room_of x) xs y more (ap (λ b. if b then segments_left (room - room_of x) xs else x ∷ xs) (sym t) ∙ e) in
       let within = leb-true (room_of x) room t in
       rw t (omega arith))
   | inr f ↦ (
-      let both = heads x y xs more (ap (λ b. if b then left (room - room_of x) xs else x ∷ xs) (sym f) ∙ e) in
+      let both = heads x y xs more (ap (λ b. if b then segments_left (room - room_of x) xs else x ∷ xs) (sym f) ∙ e) in
       let above = leb-false (room_of x) room f in
       let same : room_of x ≡ room_of y = ap room_of both.0 in
       rw f (omega arith))
@@ -120,7 +120,7 @@ head_fits : (room : ℕ) (x : Segment) (xs : List Segment) → room_of x ≤ roo
 head_fits room x xs le = ap (λ b. if b then x ∷ longest_fitting (room - room_of x) xs else []) (le-leb (room_of x) room le)
 
 step_near : (count bytes : ℕ) (s : Segment) (front between before : List Segment) (after rest line : List Segment)
-    → before ≡ front ++ between → rest ≡ between ++ s ∷ after → rest ≡ left 424 line → front ≡ longest_fitting 424 line
+    → before ≡ front ++ between → rest ≡ between ++ s ∷ after → rest ≡ segments_left 424 line → front ≡ longest_fitting 424 line
     → 425 * count + 2 * bytes_of before ≤ 2 * bytes + head_bytes before → head_bytes before ≤ bytes_of front
     → IsNear (count + 1) bytes between
 step_near count bytes s front [] before after rest line b r l f h k =
@@ -137,9 +137,9 @@ nothing b before h = cc
 
 -- a fill without the segment brings it nearer
 placed-filled : (count bytes : ℕ) (s : Segment) (line : List Segment) → Each (λ x. room_of x ≤ 424) line → (IsIn s (longest_fitting 424 line) → ⊥)
-    → IsPlaced count bytes s line → IsPlaced (count + 1) bytes s (left 424 line)
+    → IsPlaced count bytes s line → IsPlaced (count + 1) bytes s (segments_left 424 line)
 placed-filled count bytes s line fits absent h = go h.before refl where
-  go : (before : List Segment) → before ≡ h.before → IsPlaced (count + 1) bytes s (left 424 line)
+  go : (before : List Segment) → before ≡ h.before → IsPlaced (count + 1) bytes s (segments_left 424 line)
   go [] e =
       let line_is : line ≡ s ∷ h.after = h.line_is ∙ ap (λ b. b ++ s ∷ h.after) (sym e) in
       let first = (subst (Each (λ x. room_of x ≤ 424)) line_is fits).0 in
@@ -149,13 +149,13 @@ placed-filled count bytes s line fits absent h = go h.before refl where
       let first = (subst (Each (λ x. room_of x ≤ 424)) line_is fits).0 in
       let taken : longest_fitting 424 line ≡ b ∷ longest_fitting (424 - room_of b) (before ++ s ∷ h.after) = ap (longest_fitting 424) line_is ∙ head_fits 424 b (before ++ s ∷ h.after) first in
       let more : room_of b ≤ bytes_of (longest_fitting 424 line) = subst (λ l. room_of b ≤ bytes_of l) (sym taken) (omega arith) in
-      let f = front_before (longest_fitting 424 line) (left 424 line) (b ∷ before) s h.after (sym line_is ∙ fitting_left 424 line) absent in
+      let f = front_before (longest_fitting 424 line) (segments_left 424 line) (b ∷ before) s h.after (sym line_is ∙ fitting_left 424 line) absent in
       record {
         before = f.between;
         after = h.after;
         line_is = f.rest_is;
         near = elim (subst (IsNear count bytes) (sym e) h.near) [
-          | inl a ↦ step_near count bytes s (longest_fitting 424 line) f.between (b ∷ before) h.after (left 424 line) line f.before_is f.rest_is refl refl a more
+          | inl a ↦ step_near count bytes s (longest_fitting 424 line) f.between (b ∷ before) h.after (segments_left 424 line) line f.before_is f.rest_is refl refl a more
           | inr n ↦ absurd (nothing b before n.0)
         ];
       }
@@ -269,7 +269,7 @@ placed told keys fit table station past (fill now slot ∷ later) at s before af
     let new = placed-filled (fills later) (bytes_of before) s line (rooms_fit fit table station history now) w.1 old in
     subst (IsPlaced (fills later + 1) (bytes_of before) s) (sym (waiting_later table station (fill now slot ∷ history) now moment le))
     (placed-filter (fills later + 1) (bytes_of before) s _ _ t
-    (subst (IsPlaced (fills later + 1) (bytes_of before) s) (sym (waiting_filled told table station history now slot)) (placed-more (fills later + 1) (bytes_of before) s (left 424 line) _ new)))
+    (subst (IsPlaced (fills later + 1) (bytes_of before) s) (sym (waiting_filled told table station history now slot)) (placed-more (fills later + 1) (bytes_of before) s (segments_left 424 line) _ new)))
 
 few_left : (count bytes : ℕ) → 425 * count ≤ 2 * bytes → count + 1 < 2 * bytes / 425 + 2
 few_left count bytes h = omega arith

@@ -29,7 +29,7 @@ use Rattle.ground_core.proofs.ListLemmas.{Each-in, Each-at}
 use Rattle.ground_core.proofs.KeyLemmas.{KeyLaws}
 use Rattle.ground_core.proofs.Order.{segments_in}
 use Rattle.ground_core.proofs.Serials.{logged, log_given, log_filled, numbered_items, serial_in, latest_after-append}
-use Rattle.ground_core.proofs.Numbers.{filed, counted}
+use Rattle.ground_core.proofs.Numbers.{filed_items, counted}
 use Rattle.ground_core.proofs.Versions.{GroundLaws, LivesAreLongest, one_life, given_version_is, refusal_alike}
 use Rattle.ground_core.proofs.Placed.{placed_put}
 use Rattle.ground_core.proofs.Queue.{IsFilled, filled, given_line, made_items}
@@ -71,10 +71,10 @@ counts_later f clock moment bound kept all le e = elim (cases_Bool (nat_lt momen
 
 counts_now : (table : LifeTable) (station : StationId) (history : List Event) (moment version product : ℕ) (sender : Ground) → StandsFor table station sender history
     → moment_now history ≤ moment → moment < version + greatest_life table
-    → count_at sender.files version product ≡ length (filed version product (items table station history))
+    → count_at sender.files version product ≡ length (filed_items version product (items table station history))
 counts_now table station history moment version product sender s le lt =
     s.files_are version product
-    ∙ ap (λ b. if b then length (filed version product (items table station history)) else 0) (lt-ltb (moment_now history) (version + greatest_life table) (omega arith))
+    ∙ ap (λ b. if b then length (filed_items version product (items table station history)) else 0) (lt-ltb (moment_now history) (version + greatest_life table) (omega arith))
 
 pub line_of : (table : LifeTable) (station : StationId) (history : List Event) (sender : Ground) (s : StandsFor table station sender history)
     → filter (live_by (latest_of (items table station history)) (moment_now history)) (pieces_in sender.line)
@@ -145,8 +145,8 @@ fill_stands told keys table station history moment slot old new s e lt m t =
       newest_is = λ key. subst (λ is. IsLastOrEnded moment (latest_of is key) (latest_at new.newest key)) (sym same)
           (kept_then moment (latest_of all key) (latest_at old.newest key) (latest_at new.newest key) (kept_at table station history moment old s le key) (t.newest key));
       files_are = λ v p. t.files v p ∙ ap (λ n. if nat_lt moment (v + n) then count_at old.files v p else 0) life
-          ∙ counts_later (λ n. n) (moment_now history) moment (v + greatest_life table) (count_at old.files v p) (length (filed v p all)) le (s.files_are v p)
-          ∙ ap (λ is. if nat_lt moment (v + greatest_life table) then length (filed v p is) else 0) (sym same);
+          ∙ counts_later (λ n. n) (moment_now history) moment (v + greatest_life table) (count_at old.files v p) (length (filed_items v p all)) le (s.files_are v p)
+          ∙ ap (λ is. if nat_lt moment (v + greatest_life table) then length (filed_items v p is) else 0) (sym same);
       placed = t.placed s.placed;
       of_log = λ p i. (let o = s.of_log p (t.among p i) in record {
         segment = o.segment;
@@ -208,8 +208,8 @@ give_stands table laws station history moment update old new items_put s e m acc
       newest_is = newest;
       files_are = λ x y. p.files x y
           ∙ ap (λ n. if nat_lt moment (x + n) then count_put x y items_put (count_at old.files x y) else 0) life
-          ∙ counts_then moment (x + greatest_life table) (count_at old.files x y) (length (filed x y all)) (count_put x y items_put) (length (filed x y (all ++ made)))
-          (λ lt. counts_now table station history moment x y old s le lt) (count_same x y all made items_put (length (filed x y all)) sent refl);
+          ∙ counts_then moment (x + greatest_life table) (count_at old.files x y) (length (filed_items x y all)) (count_put x y items_put) (length (filed_items x y (all ++ made)))
+          (λ lt. counts_now table station history moment x y old s le lt) (count_same x y all made items_put (length (filed_items x y all)) sent refl);
       placed = placed_put keys old new moment items_put p s.placed;
       of_log = λ q k. elim (IsIn-either q (pieces_in old.line) (map piece_of (flat_map segments_of made)) (subst (IsIn q) pieces k)) [
         | inl a ↦ (let o = s.of_log q a in record {

@@ -1,5 +1,5 @@
 -- The last item with a key has the greatest version of the key, and what is kept tells the first reason against an update.
-use Rattle.std.proofs.Common.{◌≡◌, ℕ, ◌+◌, ◌<◌, ◌≤◌, Bool, true, false, not, ◌||◌, ◌&&◌, ◌==◌, nat_lt, nat_le, max, fold, cond, if◌then◌else◌, IsTrue, List, [], ◌∷◌, ◌++◌, length, map, filter, Option, Some, None, is_none, unwrap_or, Result, Ok, Err, refl, sym, ap, subst, ◌∙◌, inl, inr, arith}
+use Rattle.std.proofs.Common.{◌≡◌, ℕ, ◌+◌, ◌<◌, ◌≤◌, Bool, true, false, not, ◌||◌, ◌&&◌, ◌==◌, nat_lt, nat_le, max, fold, cond, if◌then◌else◌, IsTrue, List, [], ◌∷◌, ◌++◌, length, map, filter, Option, Some, None, is_none, unwrap_or, Result, Ok, Err, refl, sym, ap, subst, ◌∙◌, inl, inr, arith, append-nil}
 use Rattle.std.specs.Str.{chars}
 use Rattle.std.proofs.lemmas.Bool.{cases_Bool, leb-false, lt-leb, eqb-true}
 use Rattle.std.proofs.lemmas.Bool.Decides.{nat_tests}
@@ -37,7 +37,7 @@ use Rattle.ground_core.proofs.ListLemmas.{Each, Each-in}
 use Rattle.ground_core.proofs.Given.{text_weather, by_row_is}
 use Rattle.ground_core.proofs.Induction.{GoesOn, by_items}
 use Rattle.ground_core.proofs.Serials.{latest_push}
-use Rattle.ground_core.proofs.Numbers.{AreCounted, filed, file_is_count, counted}
+use Rattle.ground_core.proofs.Numbers.{AreCounted, filed_items, file_is_count, counted}
 
 -- what the proofs of a ground rest on
 pub record GroundLaws (table : LifeTable) : Type 0 where
@@ -173,7 +173,7 @@ kept_age moment version life (Some latest) kept later (inr n) h lt =
 -- what is kept, as far as it counts against an update at a moment
 pub record Keeps (table : LifeTable) (before : List Item) (moment : ℕ) (latest : Key → Option Latest) (count : ℕ → ℕ → ℕ) : Type 0 where
   pub newest : (key : Key) → IsLastOrEnded moment (latest_of before key) (latest key)
-  pub files : (version product : ℕ) → moment < version + greatest_life table → count version product ≡ length (filed version product before)
+  pub files : (version product : ℕ) → moment < version + greatest_life table → count version product ≡ length (filed_items version product before)
   pub one_life : (key : Key) → EndsBy (life_of table key) (latest_of before key)
   pub versions : (key : Key) → given_version key before ≡ latest_version (latest_of before key)
   pub counted : AreCounted before
@@ -212,10 +212,10 @@ none_there count = elim (cases_Bool (nat_lt count file_numbers)) [
 ]
 
 file_alike : (table : LifeTable) (before : List Item) (moment : ℕ) (w : Weather) → moment < w.version + unwrap_or (longest table w.product) 0 → AreCounted before
-    → count_refusal w (length (filed w.version w.product before)) ≡ file_refusal table before moment w
+    → count_refusal w (length (filed_items w.version w.product before)) ≡ file_refusal table before moment w
 file_alike table before moment w lt h =
     ap (λ b. if is_segmented w && b then Some no_file else None)
-    (sym (none_there (length (filed w.version w.product before))) ∙ ap is_none (sym (file_is_count table moment before w lt h)))
+    (sym (none_there (length (filed_items w.version w.product before))) ∙ ap is_none (sym (file_is_count table moment before w lt h)))
 
 -- no row of reports lives longer than the longest life
 abbrev pub LivesAreLongest : Type 0

@@ -29,7 +29,9 @@ use crate::radar_items::{block_item, group_items};
 use apdu_core::apdu_reads_back;
 use dlac_text::payload_size;
 use fisb_time::Moment;
-use life_table::{LifeTable, longest_is_greatest};
+use life_table::{
+    CONUS_RADAR, LifeTable, REGIONAL_RADAR, TEXT_PRODUCT, longest_is_greatest,
+};
 use picture_core::laws::{keys_are_ordered, life_of_entries};
 use radar_core::laws::groups_are_records;
 use radar_core::{BlockKey, Cells, group_blanks};
@@ -37,9 +39,6 @@ use segment_core::{is_segmented, part_count};
 use std::alloc::Global;
 use std::rc::Rc;
 use uplink_frame::{AppData, StationId, stations_are_told};
-
-/// The product of reports.
-const REPORTS: u16 = 413;
 
 /// The ground: what it was given and has to send.
 #[derive(Drop)]
@@ -339,12 +338,12 @@ impl Ground {
         }
         let size = payload.len();
         let segmented = is_segmented(row.form, size);
-        let file = file_number(&self.files, version, REPORTS, segmented)?;
+        let file = file_number(&self.files, version, TEXT_PRODUCT, segmented)?;
         Ok(SentItem {
             serial: self.given,
             version,
             until: version.seconds() + row.life,
-            product: REPORTS,
+            product: TEXT_PRODUCT,
             form: row.form,
             file,
             count: part_count(row.form, size),
@@ -444,7 +443,7 @@ impl Ground {
         let Ok(()) = self.line.put(&item) else {
             return Err(GiveFault::NoMemory);
         };
-        let Ok(()) = self.newest.put(&item.keys, given_of(&item)) else {
+        let Ok(()) = self.newest.put(&item.keys, &given_of(&item)) else {
             self.line.keep_first(before);
             return Err(GiveFault::NoMemory);
         };
@@ -486,8 +485,8 @@ impl Ground {
 fn greatest_life(table: &LifeTable) -> u64
     ensures { result ≡ greatest_life table.now }
 {
-    let reports = table.longest(REPORTS).unwrap_or(0);
-    let regional = table.longest(63).unwrap_or(0);
-    let conus = table.longest(64).unwrap_or(0);
+    let reports = table.longest(TEXT_PRODUCT).unwrap_or(0);
+    let regional = table.longest(REGIONAL_RADAR).unwrap_or(0);
+    let conus = table.longest(CONUS_RADAR).unwrap_or(0);
     reports.max(regional.max(conus))
 }

@@ -47,7 +47,7 @@ pub(crate) struct Newest {
 
 impl Newest {
     ghost use Rattle.ground_core.specs.Views.{latest_at, given_view, keys_in, block_keys};
-    ghost use Rattle.ground_core.specs.Rooms.{HaveRoomFor, HaveRoomForAll, IsOfBlocks, HasRoom};
+    ghost use Rattle.ground_core.specs.Rooms.{HaveRoom, HaveRoomFor, HaveRoomForAll, IsOfBlocks, HasRoom};
     ghost use Rattle.ground_core.specs.Putting.{AreWhole, values_of, latest_put, is_among};
     ghost use Rattle.ground_core.specs.Piece.{while_living, lives_as};
     ghost use Rattle.ground_core.specs.Told.{latest_version};
@@ -91,11 +91,16 @@ impl Newest {
     {
         match keys {
             ItemKeys::OfReport(key) => self.is_report_live(key, serial, moment),
-            ItemKeys::OfBlocks(blocks) => self
-                .blocks
-                .first_live(&blocks.area, &blocks.numbers, serial, moment)
-                .is_some(),
+            ItemKeys::OfBlocks(blocks) => self.are_blocks_live(blocks, serial, moment),
         }
+    }
+
+    /// The same of blocks.
+    fn are_blocks_live(&self, blocks: &BlockNumbers, serial: u64, moment: Moment) -> bool
+        ensures { result ≡ list_any (λ key. lives_as moment serial (latest_at self.now key))
+            (block_keys blocks.now) }
+    {
+        self.blocks.is_any_live(blocks, serial, moment)
     }
 
     /// The same of a report.
@@ -123,17 +128,29 @@ impl Newest {
     }
 
     /// Puts what was given last under the keys of blocks, for which there is room.
-    pub(crate) fn put_reserved(&mut self, keys: &ItemKeys, given: Given)
+    pub(crate) fn put_reserved(&mut self, keys: &ItemKeys, given: &Given)
         requires { HaveRoomFor self.old keys.now }
         ensures put { (other : Key) → latest_at self.new other
             ≡ (if is_among (keys_in keys.now) other
-            then Some (given_view given) else latest_at self.old other) }
+            then Some (given_view given.now) else latest_at self.old other) }
         ensures stays { (other : Block) → HasRoom self.old.blocks other
             → HasRoom self.new.blocks other }
     {
         if let ItemKeys::OfBlocks(blocks) = keys {
-            self.blocks.put(blocks, given);
+            self.put_blocks_reserved(blocks, given);
         }
+    }
+
+    /// The same of blocks.
+    fn put_blocks_reserved(&mut self, blocks: &BlockNumbers, given: &Given)
+        requires { HaveRoom self.old.blocks blocks.now }
+        ensures put { (other : Key) → latest_at self.new other
+            ≡ (if is_among (block_keys blocks.now) other
+            then Some (given_view given.now) else latest_at self.old other) }
+        ensures stays { (other : Block) → HasRoom self.old.blocks other
+            → HasRoom self.new.blocks other }
+    {
+        self.blocks.put(blocks, given);
     }
 
     /// Makes room under the keys of items of blocks. What was given stays.
@@ -157,15 +174,15 @@ impl Newest {
             ≡ latest_put other (values_of items.now) (latest_at self.old other) }
     {
         for item in items {
-            self.put_reserved(&item.keys, given_of(item));
+            self.put_reserved(&item.keys, &given_of(item));
         }
     }
 
     /// Puts what was given last under the keys of an item.
-    pub(crate) fn put(&mut self, keys: &ItemKeys, given: Given) -> Result<(), AllocError>
+    pub(crate) fn put(&mut self, keys: &ItemKeys, given: &Given) -> Result<(), AllocError>
         ensures ok { OnOk result ((other : Key) → latest_at self.new other
             ≡ (if is_among (keys_in keys.now) other
-            then Some (given_view given) else latest_at self.old other)) }
+            then Some (given_view given.now) else latest_at self.old other)) }
         ensures err { OnErr result ((other : Key)
             → latest_at self.new other ≡ latest_at self.old other) }
     {
@@ -176,26 +193,26 @@ impl Newest {
     }
 
     /// The same of a report.
-    fn put_report(&mut self, key: &NumberedKey, given: Given) -> Result<(), AllocError>
+    fn put_report(&mut self, key: &NumberedKey, given: &Given) -> Result<(), AllocError>
         ensures ok { OnOk result ((other : Key) → latest_at self.new other
             ≡ (if same_key (text_report (report_key key.now)) other
-            then Some (given_view given) else latest_at self.old other)) }
+            then Some (given_view given.now) else latest_at self.old other)) }
         ensures err { OnErr result ((other : Key)
             → latest_at self.new other ≡ latest_at self.old other) }
     {
         keys_are_ordered();
         let key = key.copy()?;
-        let Ok(_) = self.reports.insert(key, given) else {
+        let Ok(_) = self.reports.insert(key, *given) else {
             return Err(AllocError);
         };
         Ok(())
     }
 
     /// The same of blocks.
-    fn put_blocks(&mut self, blocks: &BlockNumbers, given: Given) -> Result<(), AllocError>
+    fn put_blocks(&mut self, blocks: &BlockNumbers, given: &Given) -> Result<(), AllocError>
         ensures ok { OnOk result ((other : Key) → latest_at self.new other
             ≡ (if is_among (block_keys blocks.now) other
-            then Some (given_view given) else latest_at self.old other)) }
+            then Some (given_view given.now) else latest_at self.old other)) }
         ensures err { OnErr result ((other : Key)
             → latest_at self.new other ≡ latest_at self.old other) }
     {
@@ -215,8 +232,18 @@ impl Newest {
     {
         match keys {
             ItemKeys::OfReport(key) => self.forget_report(key, moment),
-            ItemKeys::OfBlocks(blocks) => self.blocks.forget(blocks, moment),
+            ItemKeys::OfBlocks(blocks) => self.forget_blocks(blocks, moment),
         }
+    }
+
+    /// The same of blocks.
+    fn forget_blocks(&mut self, blocks: &BlockNumbers, moment: Moment)
+        ensures { (other : Key) → latest_at self.new other
+            ≡ (if is_among (block_keys blocks.now) other
+            then while_living moment (latest_at self.old other)
+            else latest_at self.old other) }
+    {
+        self.blocks.forget(blocks, moment);
     }
 
     /// The same of a report.

@@ -1,6 +1,6 @@
 //! The newest version of each radar block, until its life is over.
 ghost use Rattle.std.specs.Prelude.{◌≡◌, ℕ, ◌&&◌, ◌==◌, if◌then◌else◌, option_map, List, OnOk};
-ghost use Rattle.std.specs.Prelude.{Some, None, IsSome, is_some, map, IfSome, IfNone, Option};
+ghost use Rattle.std.specs.Prelude.{Some, None, IsSome, map, IfSome, IfNone, Option};
 ghost use Rattle.std.specs.Bool.{OnTrue};
 ghost use Rattle.std.specs.List.{list_any};
 ghost use Rattle.std.specs.Ordering.{is_eq};
@@ -89,24 +89,24 @@ impl NewestBlocks {
     }
 
     /// Puts what was given last under a key, for which there is room.
-    fn put_one(&mut self, key: &BlockKey, given: Given)
+    fn put_one(&mut self, key: &BlockKey, given: &Given)
         requires { HasRoom self.old key.now }
         ensures put { (other : Block) → latest_block self.new other
-            ≡ (if is_eq (block_key_cmp key.now other) then Some (given_view given)
+            ≡ (if is_eq (block_key_cmp key.now other) then Some (given_view given.now)
             else latest_block self.old other) }
         ensures stays { (other : Block) → HasRoom self.old other → HasRoom self.new other }
     {
         if let Some(kept) = self.given.get_mut(key) {
-            *kept = Some(given);
+            *kept = Some(*given);
         }
     }
 
     /// Puts what was given last under the keys of blocks, for which there is room.
-    pub(crate) fn put(&mut self, blocks: &BlockNumbers, given: Given)
+    pub(crate) fn put(&mut self, blocks: &BlockNumbers, given: &Given)
         requires { HaveRoom self.old blocks.now }
         ensures put { (other : Block) → latest_block self.new other
             ≡ (if are_among blocks.now.area blocks.now.numbers.items other
-            then Some (given_view given) else latest_block self.old other) }
+            then Some (given_view given.now) else latest_block self.old other) }
         ensures stays { (other : Block) → HasRoom self.old other → HasRoom self.new other }
     {
         for number in &blocks.numbers {
@@ -150,23 +150,17 @@ impl NewestBlocks {
         }
     }
 
-    /// The place of the first of some numbers of an area under which what was given last lives and has a serial.
-    pub(crate) fn first_live(
-        &self,
-        area: &Area,
-        numbers: &[u32],
-        serial: u64,
-        moment: Moment,
-    ) -> Option<usize>
-        ensures { is_some result ≡ list_any (λ key. lives_as moment serial
-            (latest_block self.now key)) (area_keys area.now numbers.now) }
+    /// Whether for one of these blocks what was given last lives and has a serial.
+    pub(crate) fn is_any_live(&self, blocks: &BlockNumbers, serial: u64, moment: Moment) -> bool
+        ensures { result ≡ list_any (λ key. lives_as moment serial (latest_block self.now key))
+            (area_keys blocks.now.area blocks.now.numbers.items) }
     {
-        for (place, number) in numbers.iter().enumerate() {
-            if self.is_live(&area.key_of(*number), serial, moment) {
-                return Some(place);
+        for number in &blocks.numbers {
+            if self.is_live(&blocks.area.key_of(*number), serial, moment) {
+                return true;
             }
         }
-        None
+        false
     }
 
     /// Why a version may not be given for these numbers of an area: the first of them was given with one that is not below it.

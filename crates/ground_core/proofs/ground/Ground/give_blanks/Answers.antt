@@ -4,7 +4,7 @@ use Rattle.std.proofs.lemmas.Result.{err_from_is_err_and, on_ok_weaker, on_err_w
 use Rattle.ground_core.specs.Update.{blanks, weather_of}
 use Rattle.segment_core.specs.Store.{last_above}
 use Rattle.ground_core.specs.StandsFor.{clock_of}
-use Rattle.ground_core.specs.Putting.{values_of}
+use Rattle.ground_core.specs.Putting.{AreItemsOf, AreWhole, values_of}
 use Rattle.ground_core.specs.Views.{count_at}
 use Rattle.ground_core.proofs.State.{same_stands}
 use Rattle.ground_core.proofs.SentItems.{whole_items}
@@ -12,7 +12,7 @@ use Rattle.ground_core.proofs.Giving.{GivenLaws, none_against, stands_given, tol
 use Rattle.ground_core.proofs.ground.Ground.give_blanks.Goals as goal
 
 pub put_all-requires : goal.put_all-requires
-put_all-requires c = c.in_ok-items.ensures.whole
+put_all-requires c = subst (λ xs. AreWhole (values_of xs)) (sym c.deref.ensures.value) c.in_ok-items.ensures.whole
 
 pub returns-clause-accepted : goal.returns-clause-accepted
 returns-clause-accepted c table station history s =
@@ -24,9 +24,10 @@ returns-clause-accepted c table station history s =
       longest = c.longest_is_greatest.ensures.texts;
     } in
     let in_time : last_above (clock_of history) c.args.moment ≡ None = search rules in
-    on_ok_weaker c.put_all.result (λ p. stands_given c.args.self.now laws table station history c.args.moment (blanks c.args.version c.args.product c.args.scale c.args.south c.args.numbers.now) c.put_all.new.self (values_of c.in_ok-items.items.items) s in_time
+    on_ok_weaker c.put_all.result (λ p. stands_given c.args.self.now laws table station history c.args.moment (blanks c.args.version c.args.product c.args.scale c.args.south c.args.numbers.now) c.put_all.new.self (values_of c.deref.result.now) s in_time
     c.last_above.ensures.in_range c.in_ok-items.ensures.in_range c.in_ok-items.ensures.none
-    (whole_items (count_at c.args.self.now.files) c.args.self.now.given (weather_of c.args.self.now.table (blanks c.args.version c.args.product c.args.scale c.args.south c.args.numbers.now)) (values_of c.in_ok-items.items.items) c.in_ok-items.ensures.whole c.in_ok-items.ensures.items) p) c.put_all.ensures.ok
+    (subst (λ xs. AreItemsOf (count_at c.args.self.now.files) c.args.self.now.given (weather_of c.args.self.now.table (blanks c.args.version c.args.product c.args.scale c.args.south c.args.numbers.now)) (values_of xs)) (sym c.deref.ensures.value)
+    (whole_items (count_at c.args.self.now.files) c.args.self.now.given (weather_of c.args.self.now.table (blanks c.args.version c.args.product c.args.scale c.args.south c.args.numbers.now)) (values_of c.in_ok-items.items.items) c.in_ok-items.ensures.whole c.in_ok-items.ensures.items)) p) c.put_all.ensures.ok
 
 pub returns-clause-nothing_against : goal.returns-clause-nothing_against
 returns-clause-nothing_against c table station history s =

@@ -9,11 +9,10 @@ use Rattle.segment_core.specs.File.{is_segmented}
 use Rattle.ground_core.specs.Item.{Weather}
 use Rattle.ground_core.specs.Update.{text, weather_of}
 use Rattle.ground_core.specs.Refusal.{timing, version_refusal, age_refusal}
-use Rattle.ground_core.specs.Told.{IsTold, count_refusal, latest_version, refusal_by}
-use Rattle.ground_core.specs.Putting.{AreItemsOf}
+use Rattle.ground_core.specs.Told.{IsTold, count_refusal, latest_version, latest_versions}
 use Rattle.ground_core.specs.Views.{latest_at, count_at}
 use Rattle.ground_core.proofs.Given.{text_weather, weather-key}
-use Rattle.ground_core.proofs.ItemOfText.{told_behind, judged_by, few_bytes, count_below}
+use Rattle.ground_core.proofs.ItemOfText.{told_behind, judged_by, few_bytes, count_below, one_item}
 use Rattle.ground_core.proofs.ground.Ground.item_of_text.Goals as goal
 
 pub returns-in_err-payload-clause-fault : goal.returns-in_err-payload-clause-fault
@@ -43,7 +42,7 @@ returns-in-Some-timing_fault-clause-fault c =
     let key = key_view c.in_ok-key.key in
     let whole = judged_by table (latest_at c.args.self.now.newest) (count_at c.args.self.now.files) c.args.moment c.args.version c.args.text.now key r
     c.in_ok-payload.ensures.none c.in_ok-key.ensures.key (ap (text_row table) (sym c.all.ensures) ∙ sym c.in-Some.ensures.row) in
-    subst (λ f. IsTold f c.in-Some-timing_fault.fault) (sym whole) (c.in-Some-timing_fault.ensures.tells _ _)
+    subst (λ f. IsTold f c.in-Some-timing_fault.fault) (sym whole) (c.in-Some-timing_fault.ensures.tells (latest_versions (latest_at c.args.self.now.newest) (text_report key ∷ [])) (count_refusal (text_weather key c.args.version r c.args.text.now) (count_at c.args.self.now.files c.args.version 413)))
 
 pub returns-in-Some-age_fault-clause-fault : goal.returns-in-Some-age_fault-clause-fault
 returns-in-Some-age_fault-clause-fault c =
@@ -57,7 +56,7 @@ returns-in-Some-age_fault-clause-fault c =
     let kept : c.version_of.result ≡ latest_version (latest_at c.args.self.now.newest (text_report key))
     = c.version_of.ensures ∙ ap (λ (k : GivenKey). latest_version (latest_at c.args.self.now.newest (text_report (key_view k)))) c.in-Ok.ensures in
     subst (λ f. IsTold f c.in-Some-age_fault.fault)
-    (ap (λ k. age_refusal c.args.version (k ∷ []) later) kept ∙ sym (whole ∙ c.in_default-timing_fault.ensures.passes _ _))
+    (ap (λ k. age_refusal c.args.version (k ∷ []) later) kept ∙ sym (whole ∙ c.in_default-timing_fault.ensures.passes (latest_versions (latest_at c.args.self.now.newest) (text_report key ∷ [])) later))
     (c.in-Some-age_fault.ensures.tells [] later)
 
 pub returns-in_err-file-clause-fault : goal.returns-in_err-file-clause-fault
@@ -75,8 +74,18 @@ returns-in_err-file-clause-fault c =
     let kept : c.version_of.result ≡ latest_version (latest_at c.args.self.now.newest (text_report key))
     = c.version_of.ensures ∙ ap (λ (k : GivenKey). latest_version (latest_at c.args.self.now.newest (text_report (key_view k)))) c.in-Ok.ensures in
     rw (p.1, p.2) (subst (λ f. IsTold f c.in_err-file.field-0.0)
-    (sym (c.in_default-age_fault.ensures.passes [] later) ∙ ap (λ k. age_refusal c.args.version (k ∷ []) later) kept ∙ sym (whole ∙ c.in_default-timing_fault.ensures.passes _ _))
+    (sym (c.in_default-age_fault.ensures.passes [] later) ∙ ap (λ k. age_refusal c.args.version (k ∷ []) later) kept ∙ sym (whole ∙ c.in_default-timing_fault.ensures.passes (latest_versions (latest_at c.args.self.now.newest) (text_report key ∷ [])) later))
     (c.in_err-file.ensures.fault w segmented))
+
+pub invariant_of-result : goal.invariant_of-result
+invariant_of-result c = record {
+  shown = c.in_default-timing_fault.ensures.shown;
+  known = omega arith;
+  numbered = c.in_ok-file.ensures.few;
+  counted = c.part_count.ensures.count c.in_ok-payload.payload (sym c.len-size.ensures);
+  some = c.part_count.ensures.some;
+  few = c.part_count.ensures.few;
+}
 
 pub returns-clause-item : goal.returns-clause-item
 returns-clause-item c =
@@ -89,8 +98,8 @@ returns-clause-item c =
     let count = count_at c.args.self.now.files c.args.version 413 in
     let file : c.in_ok-file.file ≡ (if is_segmented c.in-Some.row.form (text_payload c.args.text.now) then count else 0)
     = c.in_ok-file.ensures.number ∙ ap (λ b. if b then count else 0) (segmented ∙ same) in
-    subst (λ ws. AreItemsOf (count_at c.args.self.now.files) c.args.self.now.given ws (_ ∷ []))
-    (sym (weather-key table c.args.version c.args.text.now key r c.in_ok-key.ensures.key row_is))
+    one_item (count_at c.args.self.now.files) c.args.self.now.given _ (text_weather key c.args.version r c.args.text.now) _
+    (weather-key table c.args.version c.args.text.now key r c.in_ok-key.ensures.key row_is)
     (record {
       serial_is = refl;
       keys = ap (λ (k : GivenKey). text_report (key_view k) ∷ []) c.in-Ok.ensures;
@@ -101,7 +110,7 @@ returns-clause-item c =
       payload = c.in_ok-payload.ensures.payload;
       few = λ t. count_below _ count c.in_ok-file.file file c.in_ok-file.ensures.few t;
       file = file;
-    }, tt)
+    })
 
 pub returns-clause-few : goal.returns-clause-few
 returns-clause-few c =
@@ -124,5 +133,5 @@ returns-clause-none c =
     let segmented = c.is_segmented-segmented.ensures (text_payload c.args.text.now) size in
     let kept : c.version_of.result ≡ latest_version (latest_at c.args.self.now.newest (text_report key))
     = c.version_of.ensures ∙ ap (λ (k : GivenKey). latest_version (latest_at c.args.self.now.newest (text_report (key_view k)))) c.in-Ok.ensures in
-    whole ∙ c.in_default-timing_fault.ensures.passes _ _ ∙ ap (λ k. age_refusal c.args.version (k ∷ []) later) (sym kept)
+    whole ∙ c.in_default-timing_fault.ensures.passes (latest_versions (latest_at c.args.self.now.newest) (text_report key ∷ [])) later ∙ ap (λ k. age_refusal c.args.version (k ∷ []) later) (sym kept)
     ∙ c.in_default-age_fault.ensures.passes [] later ∙ c.in_ok-file.ensures.none w segmented
