@@ -21,7 +21,7 @@ use Rattle.segment_core.specs.Cutting.{TextsHaveFewParts, longest_text_payload}
 use Rattle.picture_core.specs.Key.{Key, text_report, same_key}
 use Rattle.picture_core.specs.Entry.{Entry, report}
 use Rattle.picture_core.specs.Contents.{report_entries, entry_by_key, entry_by_row}
-use Rattle.ground_core.specs.Item.{Weather, Item, is_segmented, end_of}
+use Rattle.ground_core.specs.Item.{Weather, Item, is_segmented}
 use Rattle.ground_core.specs.Update.{text, weather_of, weather_by_key, weather_by_row}
 use Rattle.ground_core.specs.History.{number_for}
 use Rattle.ground_core.specs.Airing.{has_key}
@@ -103,13 +103,15 @@ by_version moment t kept later e =
     let by_form = passed coarse (not (shows t.form t.version)) _ e in
     let by_lead = passed ahead (nat_lt (moment + 60) t.version) _ by_form.1 in
     let by_life = passed expired (nat_le (t.version + t.life) moment) _ by_lead.1 in
-    let age = by_age t.version kept later by_life.1 in
-    (record {
-      shown = not-false (shows t.form t.version) by_form.0;
-      not_ahead = ltb-false (moment + 60) t.version by_lead.0;
-      alive = leb-false (t.version + t.life) moment by_life.0;
-      newer = age.0;
-    }, age.1)
+    let age = by_age t.version kept later by_life.1 in (
+      record {
+        shown = not-false (shows t.form t.version) by_form.0;
+        not_ahead = ltb-false (moment + 60) t.version by_lead.0;
+        alive = leb-false (t.version + t.life) moment by_life.0;
+        newer = age.0;
+      },
+      age.1,
+    )
 
 -- the greatest version is not below any
 fold-below : (bound n : ℕ) (more : List ℕ) → fold max n more < bound → (n < bound) × ((m : ℕ) → IsIn m more → m < bound)

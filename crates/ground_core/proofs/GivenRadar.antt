@@ -1,9 +1,8 @@
 -- What accepted radar says is sound, given in time, and newer than all of its keys before it.
-use Rattle.std.proofs.Common.{◌≡◌, ℕ, ◌+◌, ◌<◌, ◌≤◌, ◌⊎◌, Bool, true, false, not, ◌&&◌, ◌||◌, ◌==◌, nat_lt, nat_le, cond, IsTrue, List, [], ◌∷◌, ◌++◌, length, map, flat_map, Option, Some, None, Ok, refl, sym, ap, subst, ◌∙◌, inl, inr, arith}
+use Rattle.std.proofs.Common.{◌≡◌, ℕ, ◌<◌, ◌≤◌, ◌⊎◌, Bool, true, false, not, ◌==◌, nat_lt, nat_le, IsTrue, List, [], ◌∷◌, ◌++◌, length, map, flat_map, Option, Some, None, Ok, refl, sym, ap, subst, ◌∙◌, inl, inr, arith}
 use Rattle.std.specs.Bool.{Decides}
-use Rattle.std.specs.List.{All, concat, list_all, list_any}
-use Rattle.std.proofs.lemmas.Bool.{cases_Bool, and_parts, eqb-true, ltb-true, leb-true, le-leb, not-false, true≢false}
-use Rattle.std.proofs.lemmas.List.{append-nil, append_assoc}
+use Rattle.std.specs.List.{All, concat, list_all}
+use Rattle.std.proofs.lemmas.Bool.{and_parts, eqb-true, ltb-true, leb-true, le-leb, not-false, true≢false}
 use Rattle.std.proofs.lemmas.List.Elements.{All-head, All-tail}
 use Rattle.bit_fields.specs.Bits.{AreBytes}
 use Rattle.fisb_time.specs.Moment.{IsMoment}
@@ -16,9 +15,9 @@ use Rattle.life_table.specs.Rules.{IsTable}
 use Rattle.uplink_frame.specs.declared.station.StationId.{StationId}
 use Rattle.radar_core.specs.declared.key.BlockKey.{BlockKey}
 use Rattle.radar_core.specs.Keys.{FitsKey}
-use Rattle.radar_core.specs.Cells.{IsCells, blank_cells}
+use Rattle.radar_core.specs.Cells.{blank_cells}
 use Rattle.radar_core.specs.Runs.{run_record}
-use Rattle.radar_core.specs.Blanks.{IsGroup, blank_record, key_beside}
+use Rattle.radar_core.specs.Blanks.{blank_record, key_beside}
 use Rattle.radar_core.specs.Groups.{blank_groups}
 use Rattle.radar_core.specs.Radar.{Block, radar_blocks, blank_blocks}
 use Rattle.radar_core.specs.Laws.{RunRecordsReadBack, BlankRecordsReadBack, GroupsAreRecords, IsOneRecord}
@@ -32,14 +31,14 @@ use Rattle.picture_core.specs.Key.{Key, radar_block, same_key}
 use Rattle.picture_core.specs.Entry.{Entry}
 use Rattle.picture_core.specs.Contents.{block_entry, entries_by_blocks, payload_entries, radar_entries}
 use Rattle.segment_core.specs.File as files
-use Rattle.ground_core.specs.Item.{Weather, Item, is_segmented}
+use Rattle.ground_core.specs.Item.{Weather, Item}
 use Rattle.ground_core.specs.Update.{block, blanks, weather_of, radar_weather, block_weather, block_key, group_weather, groups_weather}
-use Rattle.ground_core.specs.History.{accepted, item_of, number_for}
+use Rattle.ground_core.specs.History.{accepted, item_of}
 use Rattle.ground_core.specs.Airing.{has_key}
 use Rattle.ground_core.specs.Broadcast.{IsAccepted}
-use Rattle.ground_core.specs.Refusal.{GiveRefusal, bad_block, given_version, given_versions, timing, version_refusal, radar_refusal, is_block, are_blanks, rise, most_blanks, give_refusal}
+use Rattle.ground_core.specs.Refusal.{bad_block, given_versions, timing, radar_refusal, is_block, are_blanks, rise, most_blanks, give_refusal}
 use Rattle.ground_core.specs.Sound.{IsSound, IsGiven, AreGiven}
-use Rattle.ground_core.proofs.ListLemmas.{Each, Each-at}
+use Rattle.ground_core.proofs.ListLemmas.{Each}
 use Rattle.ground_core.proofs.Given.{IsAbove, IsClear, by_version, passed, given-below}
 use Rattle.ground_core.proofs.Rising.{Rises, rises, increasing, rises_behind, below_behind}
 
@@ -193,17 +192,19 @@ block-accepted layers table station before moment version key intensities is_tab
     let p = by_radar moment version (is_block key) _ (radar_row table key.product) (refusal-block table before moment version key intensities is.1) in
     let back = layers.runs key intensities (named_block key p.is_named) is.0.1 in
     let size = back.size in
-    subst (λ found. AreGiven table station moment before (block_weather version key intensities found)) (sym p.row_is)
-    (radar-given layers table before moment version key.product p.row (given_versions before (radar_block key ∷ [])) ((key, intensities) ∷ []) (run_record key intensities)
-    is_table is.0.0 p.row_is p.clear
-    (record {
-      reads = back.same;
-      short = size.most_is;
-      bytes = back.bytes;
-      apart = λ a b i j e. in_one a (key, intensities) i ∙ sym (in_one b (key, intensities) j);
-    })
-    (λ item k i j has. above_keys version before (radar_block key ∷ []) p.clear.newer item (radar_block k) i
-    (inl (ap radar_block (in_one k key j))) has), tt)
+    subst (λ found. AreGiven table station moment before (block_weather version key intensities found)) (sym p.row_is) (
+      radar-given layers table before moment version key.product p.row (given_versions before (radar_block key ∷ [])) ((key, intensities) ∷ []) (run_record key intensities)
+          is_table is.0.0 p.row_is p.clear
+          (record {
+            reads = back.same;
+            short = size.most_is;
+            bytes = back.bytes;
+            apart = λ a b i j e. in_one a (key, intensities) i ∙ sym (in_one b (key, intensities) j);
+          })
+          (λ item k i j has. above_keys version before (radar_block key ∷ []) p.clear.newer item (radar_block k) i
+          (inl (ap radar_block (in_one k key j))) has),
+      tt,
+    )
 
 -- what is known of empty blocks that records can name
 pub record AreNamed (scale : ℕ) (numbers : List ℕ) : Type 0 where
@@ -297,17 +298,18 @@ module _ (layers : RadarLayers) (table : LifeTable) (station : StationId) (momen
   groups-given before ([] ∷ more) ones rises newer = absurd (All-head IsOneRecord [] more ones)
   groups-given before ((number ∷ further) ∷ more) ones rises newer =
       let group : List ℕ = number ∷ further in
-      let item : Item = item_of table station moment before (weather number further) in
-      (group-given before number further (All-head IsOneRecord group more ones)
-      (λ old n i j. newer old n i (IsIn-before n group (concat more) j)),
-      groups-given (before ++ item ∷ []) more (All-tail IsOneRecord group more ones) (rises_behind group (concat more) rises)
-      (λ other n i j has. elim (IsIn-either other before (item ∷ []) i) [
-        | inl old ↦ newer other n old (IsIn-after n group (concat more) j) has
-        | inr last ↦ (
-            let here : IsIn n group = none_of_group before number further n (subst (λ x. has_key (radar_block (key n)) x ≡ true) (in_one other item last) has) in
-            let below : n < n = below_behind group (concat more) n n rises here j in
-            absurd (omega arith))
-      ]))
+      let item : Item = item_of table station moment before (weather number further) in (
+        group-given before number further (All-head IsOneRecord group more ones)
+            (λ old n i j. newer old n i (IsIn-before n group (concat more) j)),
+        groups-given (before ++ item ∷ []) more (All-tail IsOneRecord group more ones) (rises_behind group (concat more) rises)
+            (λ other n i j has. elim (IsIn-either other before (item ∷ []) i) [
+              | inl old ↦ newer other n old (IsIn-after n group (concat more) j) has
+              | inr last ↦ (
+                  let here : IsIn n group = none_of_group before number further n (subst (λ x. has_key (radar_block (key n)) x ≡ true) (in_one other item last) has) in
+                  let below : n < n = below_behind group (concat more) n n rises here j in
+                  absurd (omega arith))
+            ]),
+      )
 
 refusal-blanks : (table : LifeTable) (before : List Item) (moment version product scale : ℕ) (south : Bool) (numbers : List ℕ)
     → give_refusal table before moment (blanks version product scale south numbers) ≡ None

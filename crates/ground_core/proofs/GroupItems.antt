@@ -3,11 +3,9 @@ use Rattle.std.proofs.Common.{◌≡◌, Bool, true, false, if◌then◌else◌,
 use Rattle.std.proofs.lemmas.List.{take_more, take_all, append-nil, append_assoc}
 use Rattle.std.proofs.lemmas.Option.{get_or_from_slice_get}
 use Rattle.std.specs.List.{slice_get}
-
 use Rattle.life_table.specs.LifeTable.{RadarRow}
-use Rattle.radar_core.specs.declared.key.BlockKey.{BlockKey}
 use Rattle.radar_core.specs.Radar.{blank_blocks}
-use Rattle.picture_core.specs.Key.{Key, radar_block}
+use Rattle.picture_core.specs.Key.{radar_block}
 use Rattle.picture_core.specs.Entry.{Entry}
 use Rattle.picture_core.specs.Contents.{block_entry}
 use Rattle.ground_core.specs.Item.{Weather}

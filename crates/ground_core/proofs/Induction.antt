@@ -1,5 +1,5 @@
 -- What goes on with each item that is given holds of the items of every history.
-use Rattle.std.proofs.Common.{◌≡◌, ℕ, List, [], ◌∷◌, ◌++◌, sym, subst, append-nil}
+use Rattle.std.proofs.Common.{ℕ, List, [], ◌∷◌, ◌++◌, sym, subst, append-nil}
 use Rattle.std.proofs.lemmas.List.{append_assoc}
 use Rattle.life_table.specs.LifeTable.{LifeTable}
 use Rattle.life_table.specs.Rules.{IsTable}

@@ -3,9 +3,8 @@ use Rattle.std.proofs.Common.{◌≡◌, ℕ, zero, suc, ◌+◌, ◌<◌, ◌�
 use Rattle.std.specs.Bool.{Decides}
 use Rattle.std.specs.List.{list_any, range_with_len}
 use Rattle.std.proofs.lemmas.Bool.{cases_Bool, cond-true, cond-false, and_from, lt-ltb, eq-eqb, not-true}
-use Rattle.std.proofs.lemmas.List.{length-append, append_assoc, append-nil}
+use Rattle.std.proofs.lemmas.List.{length-append}
 use Rattle.life_table.specs.LifeTable.{LifeTable, longest}
-use Rattle.life_table.specs.Rules.{IsTable}
 use Rattle.uplink_frame.specs.declared.station.StationId.{StationId}
 use Rattle.list_members.specs.Membership.{IsIn}
 use Rattle.list_members.proofs.Members.{IsIn-filter, IsIn-either}
@@ -14,10 +13,8 @@ use Rattle.picture_core.specs.Key.{Key, same_key}
 use Rattle.picture_core.specs.Entry.{Entry}
 use Rattle.apdu_core.specs.Apdu.{file_numbers}
 use Rattle.ground_core.specs.Item.{Weather, Item, is_segmented, end_of}
-use Rattle.ground_core.specs.Update.{weather_of}
-use Rattle.ground_core.specs.History.{Event, accepted, fill, is_kept, is_rival, has_number, free_number, number_for, item_of, items_made, items}
+use Rattle.ground_core.specs.History.{is_kept, is_rival, has_number, free_number, number_for, item_of}
 use Rattle.ground_core.specs.Airing.{has_key}
-use Rattle.ground_core.specs.Broadcast.{IsHistory}
 use Rattle.ground_core.specs.Sound.{IsSound, IsGiven, AcceptedIsGiven, AreItems, HistoriesHaveItems}
 use Rattle.ground_core.proofs.Induction.{by_items}
 

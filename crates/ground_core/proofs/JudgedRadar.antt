@@ -1,5 +1,5 @@
 -- What stands against radar whose product has a row and which records can name.
-use Rattle.std.proofs.Common.{◌≡◌, ℕ, ◌<◌, Bool, true, not, if◌then◌else◌, List, Option, Some, None, ap, subst, sym, ◌∙◌, inl, inr, arith}
+use Rattle.std.proofs.Common.{◌≡◌, ℕ, ◌<◌, Bool, true, not, if◌then◌else◌, List, Option, Some, None, ap, ◌∙◌, inl, inr, arith}
 use Rattle.life_table.specs.LifeTable.{LifeTable, RadarRow, radar_row}
 use Rattle.life_table.specs.Rules.{IsTable}
 use Rattle.ground_core.specs.Refusal.{bad_block, timing, version_refusal, radar_refusal}

@@ -5,7 +5,7 @@ use Rattle.std.proofs.Math.Seq.{drop-cons}
 use Rattle.std.specs.declared.rc.Rc.{Rc}
 use Rattle.radar_core.specs.declared.key.BlockKey.{BlockKey}
 use Rattle.ground_core.specs.Putting.{AreWhole, values_of}
-use Rattle.ground_core.specs.Rooms.{HasRoom, HaveRoom, HaveRoomFor, HaveRoomForAll}
+use Rattle.ground_core.specs.Rooms.{HasRoom, HaveRoomFor, HaveRoomForAll}
 use Rattle.ground_core.specs.declared.item.SentItem.{SentItem}
 use Rattle.ground_core.specs.declared.item_keys.ItemKeys.{ItemKeys}
 use Rattle.ground_core.specs.declared.item_keys.ItemKeys.TheVariants.{OfReport, OfBlocks}

@@ -1,5 +1,5 @@
 -- The items that are put are those of the history.
-use Rattle.std.proofs.Common.{◌≡◌, ℕ, ◌+◌, ◌<◌, ◌≤◌, Bool, true, false, ◌&&◌, ◌==◌, nat_lt, if◌then◌else◌, cond, List, [], ◌∷◌, ◌++◌, length, map, filter, flat_map, Option, Some, None, unwrap_or, refl, sym, ap, subst, ◌∙◌, inl, inr, arith, length-append, append-nil}
+use Rattle.std.proofs.Common.{◌≡◌, ℕ, ◌+◌, ◌<◌, Bool, true, false, ◌&&◌, ◌==◌, if◌then◌else◌, cond, List, [], ◌∷◌, ◌++◌, length, map, flat_map, Option, Some, None, unwrap_or, refl, sym, ap, subst, ◌∙◌, inl, arith, length-append, append-nil}
 use Rattle.std.specs.List.{range_with_len}
 use Rattle.std.proofs.lemmas.Bool.{true≢false}
 use Rattle.std.proofs.lemmas.List.{map-append, append_assoc}
@@ -12,7 +12,7 @@ use Rattle.segment_core.specs.File.{parts_of}
 use Rattle.segment_core.specs.File as of_file
 use Rattle.picture_core.specs.Key.{Key, same_key}
 use Rattle.picture_core.specs.Entry.{Entry}
-use Rattle.ground_core.specs.Item.{Weather, Item, Segment, segments_of, segment_of, is_segmented, file_of, end_of}
+use Rattle.ground_core.specs.Item.{Weather, Item, Segment, segments_of, segment_of, is_segmented, file_of}
 use Rattle.ground_core.specs.History.{item_of, items_made, number_for}
 use Rattle.ground_core.specs.Airing.{has_key}
 use Rattle.ground_core.specs.Sound.{IsGiven, AreGiven}
@@ -124,11 +124,12 @@ are_sent table station moment before [] (item ∷ items) serial count g h s e i 
 are_sent table station moment before (w ∷ ws) [] serial count g h s e i = absurd i
 are_sent table station moment before (w ∷ ws) (item ∷ items) serial count g h s e i =
     let spec : Item = item_of table station moment before w in
-    let size : length (before ++ spec ∷ []) ≡ length before + 1 = length-append before (spec ∷ []) in
-    (is_sent table station moment before w serial (count w.version w.product) item g.0 h s (e w.version w.product (within table before moment w g.0)) i.0,
-    are_sent table station moment (before ++ spec ∷ []) ws items (serial + 1) (counted_with w count) g.1 (counted_more table station moment before w g.0 h)
-    (ap (λ n. n + 1) s ∙ sym size)
-    (λ v p lt. ap (λ n. n + (if is_filed v p spec then 1 else 0)) (e v p lt) ∙ sym (filed_more v p before spec)) i.1)
+    let size : length (before ++ spec ∷ []) ≡ length before + 1 = length-append before (spec ∷ []) in (
+      is_sent table station moment before w serial (count w.version w.product) item g.0 h s (e w.version w.product (within table before moment w g.0)) i.0,
+      are_sent table station moment (before ++ spec ∷ []) ws items (serial + 1) (counted_with w count) g.1 (counted_more table station moment before w g.0 h)
+          (ap (λ n. n + 1) s ∙ sym size)
+          (λ v p lt. ap (λ n. n + (if is_filed v p spec then 1 else 0)) (e v p lt) ∙ sym (filed_more v p before spec)) i.1,
+    )
 
 -- what items that are sent change, by those of the history
 among_same : KeyLaws → (key : Key) (spec : Item) (item : SentItem) → IsSent spec item → is_among (keys_in item.keys) key ≡ has_key key spec
@@ -196,18 +197,20 @@ whole_items count serial [] (item ∷ items) h i = absurd i
 whole_items count serial (w ∷ ws) [] h i = absurd i
 whole_items count serial (w ∷ ws) (item ∷ items) h i =
     let a = i.0 in
-    let whole : is_segmented w ≡ false = ap (of_file.is_segmented w.form) (sym a.payload) ∙ ap (λ f. of_file.is_segmented f item.payload) (sym a.form) ∙ h.0.whole in
-    (record {
-      serial_is = a.serial_is;
-      keys = a.keys;
-      version_is = a.version_is;
-      until = a.until;
-      product = a.product;
-      form = a.form;
-      payload = a.payload;
-      few = λ t. absurd (true≢false (sym t ∙ whole));
-      file = a.file ∙ no_count (is_segmented w) 0 (count w.version w.product) whole;
-    }, whole_items (counted_with w count) (serial + 1) ws items h.1 i.1)
+    let whole : is_segmented w ≡ false = ap (of_file.is_segmented w.form) (sym a.payload) ∙ ap (λ f. of_file.is_segmented f item.payload) (sym a.form) ∙ h.0.whole in (
+      record {
+        serial_is = a.serial_is;
+        keys = a.keys;
+        version_is = a.version_is;
+        until = a.until;
+        product = a.product;
+        form = a.form;
+        payload = a.payload;
+        few = λ t. absurd (true≢false (sym t ∙ whole));
+        file = a.file ∙ no_count (is_segmented w) 0 (count w.version w.product) whole;
+      },
+      whole_items (counted_with w count) (serial + 1) ws items h.1 i.1,
+    )
 
 -- more items behind
 pub items_behind : (serial : ℕ) (ws more : List Weather) (items further : List SentItem) → AreItemsFrom serial ws items

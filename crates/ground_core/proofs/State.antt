@@ -1,5 +1,5 @@
 -- What the object stands for behind each call.
-use Rattle.std.proofs.Common.{◌≡◌, ℕ, ◌+◌, ◌<◌, ◌≤◌, Bool, true, false, ◌&&◌, ◌==◌, nat_lt, cond, if◌then◌else◌, List, [], ◌∷◌, ◌++◌, length, map, filter, flat_map, Option, Some, None, refl, sym, ap, subst, ◌∙◌, inl, inr, arith, length-append, append-nil}
+use Rattle.std.proofs.Common.{◌≡◌, ℕ, ◌+◌, ◌<◌, ◌≤◌, true, nat_lt, if◌then◌else◌, List, [], ◌∷◌, ◌++◌, length, map, filter, flat_map, Some, None, refl, sym, ap, subst, ◌∙◌, inl, inr, arith, length-append, append-nil}
 use Rattle.std.proofs.Math.Path.{fun_ext}
 use Rattle.std.proofs.lemmas.Bool.{cases_Bool, lt-ltb, ltb-true, ltb-false}
 use Rattle.list_members.specs.Membership.{IsIn}
@@ -16,7 +16,7 @@ use Rattle.ground_core.specs.History.{Event, accepted, fill, moment_of, items}
 use Rattle.ground_core.specs.Airing.{log, waiting_segments}
 use Rattle.ground_core.specs.Broadcast.{IsAccepted, IsNotBefore}
 use Rattle.ground_core.specs.Refusal.{give_refusal}
-use Rattle.ground_core.specs.Piece.{Piece, Latest, IsLastOrEnded, HasPlace, ArePlaced, piece_of, live_by, left_pieces, fitting_pieces}
+use Rattle.ground_core.specs.Piece.{Piece, IsLastOrEnded, HasPlace, ArePlaced, piece_of, live_by, left_pieces, fitting_pieces}
 use Rattle.ground_core.specs.Putting.{IsPut, IsAsBefore, AreItemsOf, count_put}
 use Rattle.ground_core.specs.StandsFor.{StandsFor, clock_of, moment_now, latest_after, latest_of}
 use Rattle.ground_core.specs.Told.{refusal_by}

@@ -1,7 +1,7 @@
 -- The last item with a key has the greatest version of the key, and what is kept tells the first reason against an update.
 use Rattle.std.proofs.Common.{◌≡◌, ℕ, ◌+◌, ◌<◌, ◌≤◌, Bool, true, false, not, ◌||◌, ◌&&◌, ◌==◌, nat_lt, nat_le, max, fold, cond, if◌then◌else◌, IsTrue, List, [], ◌∷◌, ◌++◌, length, map, filter, Option, Some, None, is_none, unwrap_or, Result, Ok, Err, refl, sym, ap, subst, ◌∙◌, inl, inr, arith, append-nil}
 use Rattle.std.specs.Str.{chars}
-use Rattle.std.proofs.lemmas.Bool.{cases_Bool, leb-false, lt-leb, eqb-true}
+use Rattle.std.proofs.lemmas.Bool.{cases_Bool, leb-false, eqb-true}
 use Rattle.std.proofs.lemmas.Bool.Decides.{nat_tests}
 use Rattle.std.proofs.lemmas.List.{map-append}
 use Rattle.std.proofs.lemmas.List.Sums.{fold-append}
@@ -15,7 +15,6 @@ use Rattle.uplink_frame.specs.declared.station.StationId.{StationId}
 use Rattle.list_members.specs.Membership.{IsIn}
 use Rattle.list_members.proofs.Members.{IsIn-from_filter}
 use Rattle.list_members.proofs.ListMembers.{any_in, in_map}
-use Rattle.radar_core.specs.declared.key.BlockKey.{BlockKey}
 use Rattle.text_reports.specs.TextKey.{TextKey, KeyFault, text_key}
 use Rattle.picture_core.specs.Key.{Key, radar_block, text_report, same_key}
 use Rattle.picture_core.specs.Entry.{Entry}
@@ -27,7 +26,7 @@ use Rattle.ground_core.specs.Update.{Update, text, block, blanks, weather_by_row
 use Rattle.ground_core.specs.History.{Event, items, item_of}
 use Rattle.ground_core.specs.Airing.{has_key}
 use Rattle.ground_core.specs.Refusal.{GiveRefusal, bad_block, coarse, ahead, expired, not_newer, no_file, give_refusal, age_refusal, Timing, timing, version_refusal, file_refusal, given_version, given_versions, text_fault_refusal, key_refusal, weather_refusal, radar_refusal, is_block, are_blanks}
-use Rattle.ground_core.specs.Sound.{IsGiven, AcceptedIsGiven}
+use Rattle.ground_core.specs.Sound.{AcceptedIsGiven}
 use Rattle.ground_core.specs.Broadcast.{IsHistory}
 use Rattle.ground_core.specs.Piece.{Latest, IsLastOrEnded}
 use Rattle.ground_core.specs.StandsFor.{latest_of, latest_of_item}
@@ -37,7 +36,7 @@ use Rattle.ground_core.proofs.ListLemmas.{Each, Each-in}
 use Rattle.ground_core.proofs.Given.{text_weather, by_row_is}
 use Rattle.ground_core.proofs.Induction.{GoesOn, by_items}
 use Rattle.ground_core.proofs.Serials.{latest_push}
-use Rattle.ground_core.proofs.Numbers.{AreCounted, filed_items, file_is_count, counted}
+use Rattle.ground_core.proofs.Numbers.{AreCounted, filed_items, file_is_count}
 
 -- what the proofs of a ground rest on
 pub record GroundLaws (table : LifeTable) : Type 0 where

@@ -29,9 +29,7 @@ use crate::radar_items::{block_item, group_items};
 use apdu_core::apdu_reads_back;
 use dlac_text::payload_size;
 use fisb_time::Moment;
-use life_table::{
-    CONUS_RADAR, LifeTable, REGIONAL_RADAR, TEXT_PRODUCT, longest_is_greatest,
-};
+use life_table::{CONUS_RADAR, LifeTable, REGIONAL_RADAR, TEXT_PRODUCT, longest_is_greatest};
 use picture_core::laws::{keys_are_ordered, life_of_entries};
 use radar_core::laws::groups_are_records;
 use radar_core::{BlockKey, Cells, group_blanks};
@@ -373,8 +371,7 @@ impl Ground {
             moment (block_update version key.now cells.now))) }
     {
         let _cell = cells.at(0);
-        let validity =
-            radar_validity(&self.table, key.product, is_block(key), moment, version)?;
+        let validity = radar_validity(&self.table, key.product, is_block(key), moment, version)?;
         if let Some(fault) = age_fault(version, self.newest.blocks.version_of(key)) {
             return Err(fault);
         }

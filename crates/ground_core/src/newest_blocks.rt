@@ -9,9 +9,9 @@ ghost use Rattle.radar_core.specs.declared.key.BlockKey.{BlockKey as Block};
 ghost use Rattle.radar_core.specs.Keys.{block_key_cmp};
 ghost use Rattle.ground_core.specs.Refusal.{GiveRefusal, age_refusal};
 
+use crate::area::Area;
 use crate::fault::GiveFault;
 use crate::item_keys::BlockNumbers;
-use crate::area::Area;
 use crate::newest::Given;
 use fisb_time::Moment;
 use radar_core::BlockKey;

@@ -1,4 +1,4 @@
-use Rattle.std.proofs.Common.{◌≡◌, None, sym, subst, ◌∙◌}
+use Rattle.std.proofs.Common.{None, sym, subst}
 use Rattle.life_table.specs.LifeTable.{RadarRow, radar}
 use Rattle.ground_core.specs.Told.{IsTold}
 use Rattle.ground_core.proofs.JudgedRadar.{radar_judged, known_product}

@@ -1,4 +1,4 @@
-use Rattle.std.proofs.Common.{◌≡◌, [], ◌∷◌, map, drop, get_or, refl, sym, ap, ◌∙◌, arith}
+use Rattle.std.proofs.Common.{◌∷◌, map, drop, get_or, refl, sym, ap, ◌∙◌, arith}
 use Rattle.life_table.specs.LifeTable.{RadarRow, radar}
 use Rattle.picture_core.specs.Key.{radar_block}
 use Rattle.radar_core.specs.Blanks.{blank_record}
@@ -8,7 +8,6 @@ use Rattle.ground_core.specs.Item.{Weather, is_segmented}
 use Rattle.ground_core.specs.Update.{radar_weather}
 use Rattle.ground_core.specs.Views.{area_keys, keys_in}
 use Rattle.ground_core.specs.declared.area.Area.{Area}
-use Rattle.ground_core.specs.declared.item_keys.ItemKeys.{ItemKeys}
 use Rattle.ground_core.proofs.Areas.{key_in_area}
 use Rattle.ground_core.proofs.GroupItems.{group_keys, group_parts, one_of_group, rest_is, zero_both}
 use Rattle.ground_core.proofs.radar_items.group_item.Goals as goal

@@ -1,5 +1,4 @@
-use Rattle.std.proofs.Common.{◌≡◌, true, false, [], ◌∷◌, None, sym, subst, ◌∙◌, rules}
-use Rattle.std.proofs.lemmas.Bool.{true≢false}
+use Rattle.std.proofs.Common.{◌≡◌, None, sym, subst, rules}
 use Rattle.std.proofs.lemmas.Result.{err_from_is_err_and, on_ok_weaker, on_err_weaker}
 use Rattle.ground_core.specs.Update.{blanks, weather_of}
 use Rattle.segment_core.specs.Store.{last_above}

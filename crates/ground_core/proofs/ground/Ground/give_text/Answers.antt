@@ -1,13 +1,9 @@
-use Rattle.std.proofs.Common.{◌≡◌, true, false, [], ◌∷◌, None, sym, subst, ◌∙◌, rules}
-use Rattle.std.proofs.lemmas.Bool.{true≢false}
+use Rattle.std.proofs.Common.{◌≡◌, [], ◌∷◌, None, rules}
 use Rattle.std.proofs.lemmas.Result.{err_from_is_err_and, on_ok_weaker, on_err_weaker}
-use Rattle.ground_core.specs.Update.{text, weather_of}
+use Rattle.ground_core.specs.Update.{text}
 use Rattle.segment_core.specs.Store.{last_above}
 use Rattle.ground_core.specs.StandsFor.{clock_of}
-use Rattle.ground_core.specs.Putting.{values_of}
-use Rattle.ground_core.specs.Views.{count_at}
 use Rattle.ground_core.proofs.State.{same_stands}
-use Rattle.ground_core.proofs.SentItems.{whole_items}
 use Rattle.ground_core.proofs.Giving.{GivenLaws, none_against, stands_given, told_given}
 use Rattle.ground_core.proofs.ground.Ground.give_text.Goals as goal
 

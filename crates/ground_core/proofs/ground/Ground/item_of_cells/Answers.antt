@@ -1,10 +1,10 @@
-use Rattle.std.proofs.Common.{◌≡◌, true, [], ◌∷◌, Some, None, refl, sym, ap, subst, ◌∙◌}
+use Rattle.std.proofs.Common.{[], ◌∷◌, None, sym, ap, subst, ◌∙◌}
 use Rattle.std.proofs.lemmas.Result.{err_from_is_err_and}
 use Rattle.life_table.specs.LifeTable.{RadarRow, radar, radar_row}
 use Rattle.picture_core.specs.Key.{radar_block}
 use Rattle.radar_core.specs.Runs.{run_record}
-use Rattle.ground_core.specs.Refusal.{is_block, age_refusal, radar_refusal}
-use Rattle.ground_core.specs.Told.{IsTold, latest_version, latest_versions}
+use Rattle.ground_core.specs.Refusal.{age_refusal, radar_refusal}
+use Rattle.ground_core.specs.Told.{IsTold, latest_versions}
 use Rattle.ground_core.specs.Update.{block_weather, radar_weather}
 use Rattle.ground_core.specs.Putting.{AreItemsFrom, IsItemOf}
 use Rattle.ground_core.specs.Views.{latest_at}
@@ -43,6 +43,8 @@ returns-clause-item c =
     let v = c.in_ok-validity.validity in
     let key = c.args.key.now in
     let row : RadarRow = radar key.product v.life v.form in
-    subst (λ found. AreItemsFrom c.args.self.now.given (block_weather c.args.version key c.args.cells.now found) (c.in-Ok.item ∷ [])) (sym c.in_ok-validity.ensures.row)
-    (subst (λ n. IsItemOf (radar_weather key.product n row ((key, c.args.cells.now) ∷ []) (run_record key c.args.cells.now)) c.args.self.now.given 0 c.in-Ok.item)
-    c.in_ok-validity.ensures.version c.in-Ok.ensures.item, tt)
+    subst (λ found. AreItemsFrom c.args.self.now.given (block_weather c.args.version key c.args.cells.now found) (c.in-Ok.item ∷ [])) (sym c.in_ok-validity.ensures.row) (
+      subst (λ n. IsItemOf (radar_weather key.product n row ((key, c.args.cells.now) ∷ []) (run_record key c.args.cells.now)) c.args.self.now.given 0 c.in-Ok.item)
+          c.in_ok-validity.ensures.version c.in-Ok.ensures.item,
+      tt,
+    )

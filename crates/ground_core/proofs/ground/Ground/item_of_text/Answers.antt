@@ -1,4 +1,4 @@
-use Rattle.std.proofs.Common.{◌≡◌, ◌+◌, if◌then◌else◌, [], ◌∷◌, Ok, Some, None, refl, sym, ap, subst, ◌∙◌, length, arith}
+use Rattle.std.proofs.Common.{◌≡◌, ◌+◌, if◌then◌else◌, [], ◌∷◌, refl, sym, ap, subst, ◌∙◌, length, arith}
 use Rattle.std.proofs.lemmas.Result.{err_from_is_err_and}
 use Rattle.dlac_text.specs.Payload.{text_payload}
 use Rattle.life_table.specs.LifeTable.{TextRow, row, text_row}
@@ -7,8 +7,7 @@ use Rattle.text_reports.specs.declared.key.TextKey.{TextKey as GivenKey}
 use Rattle.picture_core.specs.Key.{text_report}
 use Rattle.segment_core.specs.File.{is_segmented}
 use Rattle.ground_core.specs.Item.{Weather}
-use Rattle.ground_core.specs.Update.{text, weather_of}
-use Rattle.ground_core.specs.Refusal.{timing, version_refusal, age_refusal}
+use Rattle.ground_core.specs.Refusal.{age_refusal}
 use Rattle.ground_core.specs.Told.{IsTold, count_refusal, latest_version, latest_versions}
 use Rattle.ground_core.specs.Views.{latest_at, count_at}
 use Rattle.ground_core.proofs.Given.{text_weather, weather-key}

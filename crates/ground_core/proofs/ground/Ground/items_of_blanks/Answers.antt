@@ -1,11 +1,11 @@
-use Rattle.std.proofs.Common.{◌≡◌, ◌<◌, true, map, None, sym, ap, subst, ◌∙◌}
+use Rattle.std.proofs.Common.{◌<◌, map, None, sym, ap, subst, ◌∙◌}
 use Rattle.std.specs.List.{All}
 use Rattle.std.proofs.lemmas.Result.{err_from_is_err_and}
 use Rattle.list_members.proofs.ListMembers.{All-members}
 use Rattle.life_table.specs.LifeTable.{radar_row}
 use Rattle.picture_core.specs.Key.{radar_block}
 use Rattle.radar_core.specs.Laws.{IsOneRecord}
-use Rattle.ground_core.specs.Refusal.{are_blanks, age_refusal, radar_refusal}
+use Rattle.ground_core.specs.Refusal.{age_refusal, radar_refusal}
 use Rattle.ground_core.specs.Told.{IsTold, latest_versions}
 use Rattle.ground_core.specs.Update.{block_key}
 use Rattle.ground_core.specs.Views.{latest_at}

@@ -1,8 +1,7 @@
-use Rattle.std.proofs.Common.{◌≡◌, nat_lt, if◌then◌else◌, ◌+◌, refl, ap, ◌∙◌, arith}
+use Rattle.std.proofs.Common.{nat_lt, if◌then◌else◌, ◌+◌, refl, ap, ◌∙◌, arith}
 use Rattle.std.proofs.lemmas.List.{length-map}
 use Rattle.ground_core.specs.Putting.{values_of, latest_put}
 use Rattle.ground_core.specs.Views.{count_at}
-use Rattle.ground_core.specs.declared.item.SentItem.{SentItem}
 use Rattle.ground_core.proofs.SentItems.{whole_counts}
 use Rattle.ground_core.proofs.ground.Ground.put_all.Goals as goal
 

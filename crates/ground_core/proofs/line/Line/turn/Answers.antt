@@ -4,7 +4,7 @@ use Rattle.ground_core.specs.Putting.{is_among}
 use Rattle.ground_core.specs.Views.{place_view, keys_in, latest_at, pieces_in}
 use Rattle.ground_core.specs.declared.item.SentItem.{SentItem}
 use Rattle.picture_core.specs.Key.{Key}
-use Rattle.ground_core.specs.Piece.{live_by, IsLastOrEnded, ArePlaced, while_living}
+use Rattle.ground_core.specs.Piece.{IsLastOrEnded, ArePlaced, while_living}
 use Rattle.ground_core.proofs.Kept.{kept_where}
 use Rattle.ground_core.proofs.Placed.{among_itself, placed_dropped, placed_aired}
 use Rattle.ground_core.proofs.KeyLemmas.{KeyLaws}

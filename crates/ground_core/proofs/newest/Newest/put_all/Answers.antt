@@ -1,4 +1,4 @@
-use Rattle.std.proofs.Common.{◌+◌, ◌<◌, ◌≡◌, if◌then◌else◌, [], ◌∷◌, length, drop, Some, refl, sym, ap, subst, ◌∙◌, arith}
+use Rattle.std.proofs.Common.{◌+◌, ◌<◌, if◌then◌else◌, length, drop, Some, sym, ap, subst, ◌∙◌, arith}
 use Rattle.ground_core.specs.Putting.{is_among, latest_put, latest_of_sent, values_of}
 use Rattle.ground_core.specs.Rooms.{HaveRoomForAll}
 use Rattle.ground_core.specs.Views.{given_view, keys_in, latest_at}

@@ -1,4 +1,4 @@
-use Rattle.std.proofs.Common.{◌≡◌, take, drop}
+use Rattle.std.proofs.Common.{◌≡◌, drop}
 use Rattle.picture_core.specs.Key.{Key}
 use Rattle.ground_core.specs.Views.{latest_at}
 use Rattle.ground_core.specs.Putting.{values_of, latest_put}

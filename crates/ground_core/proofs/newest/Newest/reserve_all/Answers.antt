@@ -1,4 +1,4 @@
-use Rattle.std.proofs.Common.{◌<◌, ◌≡◌, [], ◌∷◌, ◌++◌, length, take, sym, subst, ◌∙◌, arith}
+use Rattle.std.proofs.Common.{◌<◌, [], ◌∷◌, ◌++◌, length, take, sym, subst, ◌∙◌, arith}
 use Rattle.ground_core.specs.Putting.{AreWhole, values_of}
 use Rattle.ground_core.specs.Rooms.{IsOfBlocks, HaveRoomFor, HaveRoomForAll}
 use Rattle.ground_core.specs.declared.item.SentItem.{SentItem}

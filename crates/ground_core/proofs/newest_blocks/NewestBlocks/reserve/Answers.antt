@@ -1,15 +1,8 @@
-use Rattle.std.proofs.Common.{◌≡◌, ℕ, ◌+◌, ◌<◌, true, if◌then◌else◌, List, [], ◌∷◌, length, map, take, drop, get_or, Some, None, refl, sym, ap, subst, ◌∙◌, arith}
+use Rattle.std.proofs.Common.{◌≡◌, ◌<◌, length, take, get_or, ap, subst, ◌∙◌, arith}
 use Rattle.std.proofs.lemmas.List.{take_more}
-use Rattle.std.specs.Ordering.{is_eq}
 use Rattle.list_members.specs.Membership.{IsIn}
-use Rattle.list_members.proofs.ListMembers.{in_any}
-use Rattle.radar_core.specs.declared.key.BlockKey.{BlockKey}
-use Rattle.radar_core.specs.Keys.{block_key_cmp}
-use Rattle.ground_core.specs.Piece.{while_living, lives_as}
-use Rattle.ground_core.specs.Refusal.{age_refusal}
-use Rattle.ground_core.specs.Told.{IsTold, latest_version}
-use Rattle.ground_core.specs.Views.{latest_block, given_view, area_keys}
-use Rattle.ground_core.specs.Rooms.{HasRoom, are_among}
+use Rattle.ground_core.specs.Views.{area_keys}
+use Rattle.ground_core.specs.Rooms.{HasRoom}
 use Rattle.ground_core.proofs.Areas.{key_in_area, room_more}
 use Rattle.ground_core.proofs.newest_blocks.NewestBlocks.reserve.Goals as goal
 
