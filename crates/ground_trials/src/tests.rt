@@ -130,9 +130,11 @@ fn fault_of_cells(
         number,
     };
     let cells = Cells::new([intensity; 128]).ok_or("cells")?;
-    Ok(ground
-        .give_cells(moment_of(NOW)?, moment_of(version)?, &key, &cells)
-        .err())
+    Ok(
+        ground
+            .give_cells(moment_of(NOW)?, moment_of(version)?, &key, &cells)
+            .err(),
+    )
 }
 
 /// The same of empty blocks.
@@ -145,9 +147,11 @@ fn fault_of_blanks(
     let Area(product, scale) = area;
     let moment = moment_of(NOW)?;
     let version = moment_of(version)?;
-    Ok(ground
-        .give_blanks(moment, version, product, scale, false, numbers)
-        .err())
+    Ok(
+        ground
+            .give_blanks(moment, version, product, scale, false, numbers)
+            .err(),
+    )
 }
 
 /// So many numbers from 0 on.
