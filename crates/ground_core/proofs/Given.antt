@@ -21,12 +21,16 @@ use Rattle.segment_core.specs.Cutting.{TextsHaveFewParts, longest_text_payload}
 use Rattle.picture_core.specs.Key.{Key, text_report, same_key}
 use Rattle.picture_core.specs.Entry.{Entry, report}
 use Rattle.picture_core.specs.Contents.{report_entries, entry_by_key, entry_by_row}
-use Rattle.ground_core.specs.Item.{Weather, Item, is_segmented, end_of}
+use Rattle.ground_core.specs.Item.{Weather, Item, is_segmented}
 use Rattle.ground_core.specs.Update.{text, weather_of, weather_by_key, weather_by_row}
 use Rattle.ground_core.specs.History.{number_for}
 use Rattle.ground_core.specs.Airing.{has_key}
-use Rattle.ground_core.specs.Refusal.{GiveRefusal, coarse, ahead, expired, not_newer, no_file, given_version, file_refusal, age_refusal, version_refusal, weather_refusal, key_refusal, text_fault_refusal, give_refusal}
-use Rattle.ground_core.specs.Sound.{IsSound, IsGiven, AreGiven, AcceptedIsGiven}
+use Rattle.uplink_frame.specs.declared.station.StationId.{StationId}
+use Rattle.ground_core.specs.History.{accepted}
+use Rattle.ground_core.specs.Broadcast.{IsAccepted}
+use Rattle.ground_core.specs.Refusal.{GiveRefusal, coarse, ahead, expired, not_newer, no_file, given_version, given_versions, file_refusal, age_refusal, Timing, timing, version_refusal, weather_refusal, key_refusal, text_fault_refusal, give_refusal}
+use Rattle.ground_core.specs.Sound.{IsSound, IsGiven, AreGiven}
+use Rattle.ground_core.proofs.ListLemmas.{Each}
 
 -- what the crates below promise of texts
 pub record TextLayers : Type 0 where
@@ -54,7 +58,7 @@ text_weather key version row chars = record {
 }
 
 -- what is not refused passed each test
-passed : (refusal : GiveRefusal) (test : Bool) (later : Option GiveRefusal) → cond test (Some refusal) later ≡ None → (test ≡ false) × (later ≡ None)
+pub passed : (refusal : GiveRefusal) (test : Bool) (later : Option GiveRefusal) → cond test (Some refusal) later ≡ None → (test ≡ false) × (later ≡ None)
 passed refusal true later e = absurd (cc)
 passed refusal false later e = (refl, e)
 
@@ -74,15 +78,40 @@ by_row : (table : LifeTable) (before : List Item) (moment version : ℕ) (key : 
 by_row table before moment version key chars entries (Some row) e = (row, refl, e)
 by_row table before moment version key chars entries None e = absurd (cc)
 
-abbrev IsAbove : ℕ → Option ℕ → Type 0
+abbrev pub IsAbove : ℕ → Option ℕ → Type 0
 IsAbove version None = Unit {0}
 IsAbove version (Some kept) = kept < version
 
-by_age : (version : ℕ) (kept : Option ℕ) (later : Option GiveRefusal) → age_refusal version kept later ≡ None → IsAbove version kept × (later ≡ None)
-by_age version None later e = (tt, e)
-by_age version (Some kept) later e =
-    let split = passed (not_newer kept) (nat_le version kept) later e in
-    (leb-false version kept split.0, split.1)
+by_age : (version : ℕ) (kept : List (Option ℕ)) (later : Option GiveRefusal) → age_refusal version kept later ≡ None → Each (IsAbove version) kept × (later ≡ None)
+by_age version [] later e = (tt, e)
+by_age version (None ∷ more) later e = let rest = by_age version more later e in ((tt, rest.0), rest.1)
+by_age version (Some kept ∷ more) later e =
+    let split = passed (not_newer kept) (nat_le version kept) (age_refusal version more later) e in
+    let rest = by_age version more later split.1 in
+    ((leb-false version kept split.0, rest.0), rest.1)
+
+-- a version that nothing stands against
+pub record IsClear (moment : ℕ) (t : Timing) (kept : List (Option ℕ)) : Type 0 where
+  pub shown : shows t.form t.version ≡ true
+  pub not_ahead : t.version ≤ moment + 60
+  pub alive : moment < t.version + t.life
+  pub newer : Each (IsAbove t.version) kept
+
+pub by_version : (moment : ℕ) (t : Timing) (kept : List (Option ℕ)) (later : Option GiveRefusal) → version_refusal moment t kept later ≡ None
+    → IsClear moment t kept × (later ≡ None)
+by_version moment t kept later e =
+    let by_form = passed coarse (not (shows t.form t.version)) _ e in
+    let by_lead = passed ahead (nat_lt (moment + 60) t.version) _ by_form.1 in
+    let by_life = passed expired (nat_le (t.version + t.life) moment) _ by_lead.1 in
+    let age = by_age t.version kept later by_life.1 in (
+      record {
+        shown = not-false (shows t.form t.version) by_form.0;
+        not_ahead = ltb-false (moment + 60) t.version by_lead.0;
+        alive = leb-false (t.version + t.life) moment by_life.0;
+        newer = age.0;
+      },
+      age.1,
+    )
 
 -- the greatest version is not below any
 fold-below : (bound n : ℕ) (more : List ℕ) → fold max n more < bound → (n < bound) × ((m : ℕ) → IsIn m more → m < bound)
@@ -98,7 +127,7 @@ greatest-below bound (n ∷ more) above m h =
     let all = fold-below bound n more above in
     elim h [ inl e ↦ (let here = all.0 in let same : m ≡ n = e in omega arith) | inr r ↦ all.1 m r ]
 
-given-below : (version : ℕ) (key : Key) (before : List Item) → IsAbove version (given_version key before)
+pub given-below : (version : ℕ) (key : Key) (before : List Item) → IsAbove version (given_version key before)
     → (item : Item) → IsIn item before → has_key key item ≡ true → item.weather.version < version
 given-below version key before above item h has =
     greatest-below version (map (λ item. item.weather.version) (filter (has_key key) before)) above item.weather.version
@@ -120,16 +149,20 @@ not_empty : (table : LifeTable) (key : TextKey) (chars : List ℕ) → text_key 
 not_empty table key [] e = absurd (cc (no_key_of_nothing table))
 not_empty table key (c ∷ more) e = omega arith
 
-report_entries-key : (table : LifeTable) (version : ℕ) (chars : List ℕ) (key : TextKey) (row : TextRow)
+pub report_entries-key : (table : LifeTable) (version : ℕ) (chars : List ℕ) (key : TextKey) (row : TextRow)
     → text_key table chars ≡ Ok key → text_row table key.kind ≡ Some row → report_entries table version chars ≡ entry_of key version row.life chars ∷ []
 report_entries-key table version chars key row key_is row_is = ap (entry_by_key table version chars) key_is ∙ ap (entry_by_row key version chars) row_is
 
-weather-key : (table : LifeTable) (version : ℕ) (chars : List ℕ) (key : TextKey) (row : TextRow)
+pub by_row_is : (table : LifeTable) (version : ℕ) (chars : List ℕ) (key : TextKey) (row : TextRow) → text_key table chars ≡ Ok key → text_row table key.kind ≡ Some row
+    → weather_by_row version chars (report_entries table version chars) (text_row table key.kind) ≡ text_weather key version row chars ∷ []
+by_row_is table version chars key row key_is row_is =
+    ap (weather_by_row version chars (report_entries table version chars)) row_is
+    ∙ ap (λ entries. weather_by_row version chars entries (Some row)) (report_entries-key table version chars key row key_is row_is)
+
+pub weather-key : (table : LifeTable) (version : ℕ) (chars : List ℕ) (key : TextKey) (row : TextRow)
     → text_key table chars ≡ Ok key → text_row table key.kind ≡ Some row → weather_of table (text version chars) ≡ text_weather key version row chars ∷ []
 weather-key table version chars key row key_is row_is =
-    ap (weather_by_key table version chars) key_is
-    ∙ ap (weather_by_row version chars (report_entries table version chars)) row_is
-    ∙ ap (λ entries. weather_by_row version chars entries (Some row)) (report_entries-key table version chars key row key_is row_is)
+    ap (weather_by_key table version chars) key_is ∙ by_row_is table version chars key row key_is row_is
 
 -- a text has few segments
 payload-few : TextLayers → (chars : List ℕ) → IsSendable chars → length (text_payload chars) ≤ longest_text_payload
@@ -165,21 +198,18 @@ text-sound layers table version chars key row is_table moment_is sendable key_is
 
 text-given : TextLayers → (table : LifeTable) (before : List Item) (moment version : ℕ) (chars : List ℕ) (key : TextKey) (row : TextRow) → IsTable table
     → IsMoment version → IsSendable chars → text_key table chars ≡ Ok key → text_row table key.kind ≡ Some row
-    → version_refusal moment (text_weather key version row chars) (given_version (text_report key) before) (file_refusal table before moment (text_weather key version row chars)) ≡ None
+    → version_refusal moment (timing row.form version row.life) (given_versions before (text_report key ∷ [])) (file_refusal table before moment (text_weather key version row chars)) ≡ None
     → IsGiven table before moment (text_weather key version row chars)
 text-given layers table before moment version chars key row is_table moment_is sendable key_is row_is passes =
     let w = text_weather key version row chars in
-    let by_form = passed coarse (not (shows row.form version)) _ passes in
-    let by_lead = passed ahead (nat_lt (moment + 60) version) _ by_form.1 in
-    let by_life = passed expired (nat_le (end_of w) moment) _ by_lead.1 in
-    let by_age = by_age version (given_version (text_report key) before) (file_refusal table before moment w) by_life.1 in
+    let clear = by_version moment (timing row.form version row.life) (given_versions before (text_report key ∷ [])) (file_refusal table before moment w) passes in
     record {
-      sound = text-sound layers table version chars key row is_table moment_is sendable key_is row_is (not-false (shows row.form version) by_form.0);
-      not_ahead = ltb-false (moment + 60) version by_lead.0;
-      not_expired = leb-false (end_of w) moment by_life.0;
-      number = λ s. numbered (is_segmented w) (number_for table moment before w) by_age.1 s;
+      sound = text-sound layers table version chars key row is_table moment_is sendable key_is row_is (clear.0).shown;
+      not_ahead = (clear.0).not_ahead;
+      not_expired = (clear.0).alive;
+      number = λ s. numbered (is_segmented w) (number_for table moment before w) clear.1 s;
       newer = λ item e old h has.
-          given-below version (text_report key) before by_age.0 item old
+          given-below version (text_report key) before ((clear.0).newer).0 item old
           (subst (λ (x : Entry). has_key x.key item ≡ true) (in_one e (entry_of key version row.life chars) h) has);
     }
 
@@ -188,8 +218,9 @@ refusal-text : (table : LifeTable) (before : List Item) (moment version : ℕ) (
 unfolding give_refusal
 refusal-text table before moment version bytes e = by_text (text_refusal (chars bytes)) (key_refusal table before moment version bytes (text_key table bytes)) e
 
-pub accepted-given : TextLayers → AcceptedIsGiven
-accepted-given layers table station before moment (text version bytes) is_table is =
+pub text-accepted : TextLayers → (table : LifeTable) (station : StationId) (before : List Item) (moment version : ℕ) (bytes : List ℕ)
+    → IsTable table → IsAccepted table before (accepted moment (text version bytes)) → AreGiven table station moment before (weather_of table (text version bytes))
+text-accepted layers table station before moment version bytes is_table is =
     let typed = is.0 in
     let none = refusal-text table before moment version bytes is.1 in
     let sendable = layers.sendable bytes typed.1 none.0 in
@@ -198,7 +229,7 @@ accepted-given layers table station before moment (text version bytes) is_table 
     let key = keyed.0 in
     let row = rowed.0 in
     let entries_are = report_entries-key table version bytes key row keyed.1 rowed.1 in
-    let passes : version_refusal moment (text_weather key version row bytes) (given_version (text_report key) before) (file_refusal table before moment (text_weather key version row bytes)) ≡ None =
+    let passes : version_refusal moment (timing row.form version row.life) (given_versions before (text_report key ∷ [])) (file_refusal table before moment (text_weather key version row bytes)) ≡ None =
     subst (λ (entries : List Entry). weather_refusal table before moment key (weather_by_row version bytes entries (Some row)) ≡ None) entries_are rowed.2 in
     subst (AreGiven table station moment before) (sym (weather-key table version bytes key row keyed.1 rowed.1))
     (text-given layers table before moment version bytes key row is_table typed.0 sendable keyed.1 rowed.1 passes, tt)

@@ -3,9 +3,8 @@ use Rattle.std.proofs.Common.{◌≡◌, ℕ, zero, suc, ◌+◌, ◌<◌, ◌�
 use Rattle.std.specs.Bool.{Decides}
 use Rattle.std.specs.List.{list_any, range_with_len}
 use Rattle.std.proofs.lemmas.Bool.{cases_Bool, cond-true, cond-false, and_from, lt-ltb, eq-eqb, not-true}
-use Rattle.std.proofs.lemmas.List.{length-append, append_assoc, append-nil}
+use Rattle.std.proofs.lemmas.List.{length-append}
 use Rattle.life_table.specs.LifeTable.{LifeTable, longest}
-use Rattle.life_table.specs.Rules.{IsTable}
 use Rattle.uplink_frame.specs.declared.station.StationId.{StationId}
 use Rattle.list_members.specs.Membership.{IsIn}
 use Rattle.list_members.proofs.Members.{IsIn-filter, IsIn-either}
@@ -14,11 +13,10 @@ use Rattle.picture_core.specs.Key.{Key, same_key}
 use Rattle.picture_core.specs.Entry.{Entry}
 use Rattle.apdu_core.specs.Apdu.{file_numbers}
 use Rattle.ground_core.specs.Item.{Weather, Item, is_segmented, end_of}
-use Rattle.ground_core.specs.Update.{weather_of}
-use Rattle.ground_core.specs.History.{Event, accepted, fill, is_kept, is_rival, has_number, free_number, number_for, item_of, items_made, items}
+use Rattle.ground_core.specs.History.{is_kept, is_rival, has_number, free_number, number_for, item_of}
 use Rattle.ground_core.specs.Airing.{has_key}
-use Rattle.ground_core.specs.Broadcast.{IsHistory}
-use Rattle.ground_core.specs.Sound.{IsSound, IsGiven, AreGiven, AcceptedIsGiven, AreItems, HistoriesHaveItems}
+use Rattle.ground_core.specs.Sound.{IsSound, IsGiven, AcceptedIsGiven, AreItems, HistoriesHaveItems}
+use Rattle.ground_core.proofs.Induction.{by_items}
 
 abbrev pub KeysAreTold : Type 0
 KeysAreTold = (a b : Key) → Decides (same_key a b) (a ≡ b)
@@ -188,25 +186,7 @@ module _ (same : KeysAreTold) (table : LifeTable) (station : StationId) (moment 
         ];
   }
 
--- one weather after another, and one event after another
-made-so : KeysAreTold → (table : LifeTable) (station : StationId) (moment : ℕ) (before : List Item) (ws : List Weather)
-    → AreGiven table station moment before ws → AreSo table station before → AreSo table station (before ++ items_made table station moment before ws)
-made-so same table station moment before [] given so = subst (AreSo table station) (sym (append-nil before)) so
-made-so same table station moment before (w ∷ more) given so =
-    let new = item_of table station moment before w in
-    subst (AreSo table station) (append_assoc before (new ∷ []) (items_made table station moment (before ++ new ∷ []) more))
-    (made-so same table station moment (before ++ new ∷ []) more given.1 (pushed same table station moment before w given.0 so))
-
-items-so : KeysAreTold → AcceptedIsGiven → (table : LifeTable) (station : StationId) (history : List Event) → IsTable table
-    → IsHistory table station history → AreSo table station (items table station history)
-items-so same accepting table station [] is_table is = none-yet table station
-items-so same accepting table station (accepted moment update ∷ past) is_table is =
-    let before = items table station past in
-    made-so same table station moment before (weather_of table update)
-    (accepting table station before moment update is_table (is.0).is_accepted)
-    (items-so same accepting table station past is_table is.1)
-items-so same accepting table station (fill moment slot ∷ past) is_table is =
-    subst (AreSo table station) (sym (append-nil (items table station past))) (items-so same accepting table station past is_table is.1)
-
 pub histories-have_items : KeysAreTold → AcceptedIsGiven → HistoriesHaveItems
-histories-have_items same accepting table station history is_table is = (items-so same accepting table station history is_table is).are
+histories-have_items same accepting table station history is_table is =
+    (by_items accepting table station (AreSo table station) is_table
+    (λ moment before w given so. pushed same table station moment before w given so) (none-yet table station) history is).are

@@ -1,30 +1,25 @@
 -- File numbers are counts: while an update is not expired, no number of its version and product has become free.
-use Rattle.std.proofs.Common.{◌≡◌, ℕ, zero, suc, ◌+◌, ◌<◌, ◌≤◌, Bool, true, false, not, ◌&&◌, ◌==◌, nat_lt, cond, if◌then◌else◌, List, [], ◌∷◌, ◌++◌, length, map, filter, find, Option, Some, None, is_none, unwrap_or, refl, sym, ap, subst, ◌∙◌, inl, inr, arith, length-append, append-nil}
+use Rattle.std.proofs.Common.{◌≡◌, ℕ, zero, suc, ◌+◌, ◌<◌, ◌≤◌, Bool, true, false, not, ◌&&◌, ◌==◌, nat_lt, cond, if◌then◌else◌, List, [], ◌∷◌, ◌++◌, length, map, filter, find, Option, Some, None, unwrap_or, refl, sym, ap, ◌∙◌, inl, inr, arith, length-append, append-nil}
 use Rattle.std.specs.List.{list_any, range_with_len}
 use Rattle.std.proofs.lemmas.Bool.{cases_Bool, lt-ltb, le-ltb, ltb-false}
 use Rattle.std.proofs.lemmas.Bool.Decides.{nat_tests}
 use Rattle.std.proofs.lemmas.List.{map-append}
 use Rattle.std.proofs.lemmas.List.FromFn.{map-range_with_len_more}
 use Rattle.std.proofs.lemmas.List.Elements.{filter-append}
-use Rattle.life_table.specs.LifeTable.{LifeTable, TextRow, text_row, longest}
+use Rattle.life_table.specs.LifeTable.{LifeTable, longest}
+use Rattle.life_table.specs.Rules.{IsTable}
 use Rattle.uplink_frame.specs.declared.station.StationId.{StationId}
 use Rattle.apdu_core.specs.Apdu.{file_numbers}
 use Rattle.ground_core.specs.Item.{Weather, Item, is_segmented}
-use Rattle.ground_core.specs.Update.{text}
-use Rattle.ground_core.specs.History.{Event, accepted, fill, items, items_made, item_of, is_kept, is_rival, has_number, free_number, number_for}
-use Rattle.ground_core.specs.Refusal.{no_file}
+use Rattle.ground_core.specs.History.{Event, items, item_of, is_kept, is_rival, has_number, free_number, number_for}
 use Rattle.ground_core.specs.Broadcast.{IsHistory}
 use Rattle.ground_core.specs.StandsFor.{is_filed}
 use Rattle.ground_core.proofs.ListLemmas.{Each-all, list_any-map, filter_same}
-use Rattle.ground_core.proofs.Accepted.{IsClear, clear, text_weather, weather_is}
+use Rattle.ground_core.specs.Sound.{IsGiven, AcceptedIsGiven}
+use Rattle.ground_core.proofs.Induction.{GoesOn, by_items}
 
--- no row of reports lives longer than the longest life
-abbrev pub LivesAreLongest : Type 0
-LivesAreLongest = (table : LifeTable) (word : List ℕ) (row : TextRow) → text_row table word ≡ Some row
-    → (life : ℕ) × (longest table 413 ≡ Some life) × (row.life ≤ life)
-
-abbrev pub filed : ℕ → ℕ → List Item → List Item
-filed version product all = filter (is_filed version product) all
+abbrev pub filed_items : ℕ → ℕ → List Item → List Item
+filed_items version product all = filter (is_filed version product) all
 
 and_four : (a k p v : Bool) → (p ≡ true → v ≡ true → k ≡ true) → (a && k && p && v) ≡ (a && v && p)
 and_four false k p v f = refl
@@ -50,7 +45,7 @@ rival_is table moment w o lt =
 
 -- the numbers of a version and a product are 0, 1, 2 and so on
 abbrev pub AreCounted : List Item → Type 0
-AreCounted all = (version product : ℕ) → map (λ i. i.number) (filed version product all) ≡ map Some (range_with_len 0 (length (filed version product all)))
+AreCounted all = (version product : ℕ) → map (λ i. i.number) (filed_items version product all) ≡ map Some (range_with_len 0 (length (filed_items version product all)))
 
 number_below : (n at count : ℕ) → at ≤ n → list_any (has_number n) (map Some (range_with_len at count)) ≡ nat_lt n (at + count)
 number_below n at zero le = sym (le-ltb n (at + 0) (omega arith))
@@ -99,56 +94,53 @@ free_number_is rivals limit e = ap (λ n. free_below n rivals) (sym e)
 
 pub file_is_count : (table : LifeTable) (moment : ℕ) (before : List Item) (w : Weather) → moment < w.version + unwrap_or (longest table w.product) 0 → AreCounted before
     → number_for table moment before w
-    ≡ (if nat_lt (length (filed w.version w.product before)) file_numbers then Some (length (filed w.version w.product before)) else None)
+    ≡ (if nat_lt (length (filed_items w.version w.product before)) file_numbers then Some (length (filed_items w.version w.product before)) else None)
 file_is_count table moment before w lt h =
-    let rivals : filter (is_rival table moment w) before ≡ filed w.version w.product before
+    let rivals : filter (is_rival table moment w) before ≡ filed_items w.version w.product before
     = filter_same (is_rival table moment w) (is_filed w.version w.product) before (Each-all _ (λ o. rival_is table moment w o lt) before) in
-    ap free_number rivals ∙ free_number_is (filed w.version w.product before) file_numbers refl
-    ∙ free_is file_numbers (length (filed w.version w.product before)) (filed w.version w.product before) (h w.version w.product)
+    ap free_number rivals ∙ free_number_is (filed_items w.version w.product before) file_numbers refl
+    ∙ free_is file_numbers (length (filed_items w.version w.product before)) (filed_items w.version w.product before) (h w.version w.product)
 
--- a text that is clear is kept for as long as it may live
-pub kept_long : (table : LifeTable) (before : List Item) (moment version : ℕ) (chars : List ℕ) (c : IsClear table before moment version chars) → LivesAreLongest
-    → moment < version + unwrap_or (longest table 413) 0
-kept_long table before moment version chars c law =
-    let l = law table c.key.kind c.row c.row_is in
-    let e : unwrap_or (longest table 413) 0 ≡ l.0 = ap (λ o. unwrap_or o 0) l.1 in
-    omega (arith, c.alive, l.2, e)
+-- what is given is kept for as long as it may live
+pub kept_long : (table : LifeTable) (before : List Item) (moment : ℕ) (w : Weather) → IsGiven table before moment w
+    → moment < w.version + unwrap_or (longest table w.product) 0
+kept_long table before moment w g =
+    let listed = g.sound.listed in
+    let longer = listed.not_longer in
+    let alive = g.not_expired in
+    let e : unwrap_or (longest table w.product) 0 ≡ listed.longest_life = ap (λ o. unwrap_or o 0) listed.has_row in
+    omega arith
 
-refused_none : (segmented : Bool) (number : Option ℕ) (count : ℕ) → segmented ≡ true → number ≡ (if nat_lt count file_numbers then Some count else None)
-    → (if segmented && is_none number then Some no_file else None) ≡ None → number ≡ Some count
-refused_none true None count s e h = cc
-refused_none true (Some n) count s e h = elim (cases_Bool (nat_lt count file_numbers)) [
-  | inl t ↦ (e ∙ ap (λ b. if b then Some count else None) t)
-  | inr f ↦ (let bad : Some n ≡ None = e ∙ ap (λ b. if b then Some count else None) f in cc)
-]
-refused_none false number count s e h = cc
+count_where : (test : Bool) (count n : ℕ) → (if test then Some count else None) ≡ Some n → Some n ≡ Some count
+count_where true count n e = sym e
+count_where false count n e = absurd (cc)
 
-pub number_of_clear : (table : LifeTable) (before : List Item) (moment version : ℕ) (chars : List ℕ) (c : IsClear table before moment version chars) → LivesAreLongest
-    → AreCounted before → is_segmented (text_weather c.key c.row version chars) ≡ true
-    → number_for table moment before (text_weather c.key c.row version chars) ≡ Some (length (filed version 413 before))
-number_of_clear table before moment version chars c law h s =
-    let w : Weather = text_weather c.key c.row version chars in
-    refused_none (is_segmented w) (number_for table moment before w) (length (filed version 413 before)) s
-    (file_is_count table moment before w (kept_long table before moment version chars c law) h) c.file
+pub number_of_given : (table : LifeTable) (before : List Item) (moment : ℕ) (w : Weather) → IsGiven table before moment w
+    → AreCounted before → is_segmented w ≡ true
+    → number_for table moment before w ≡ Some (length (filed_items w.version w.product before))
+number_of_given table before moment w g h s =
+    let has = g.number s in
+    let count : ℕ = length (filed_items w.version w.product before) in
+    has.1 ∙ count_where (nat_lt count file_numbers) count has.0 (sym (file_is_count table moment before w (kept_long table before moment w g) h) ∙ has.1)
 
 counted_push : (all : List Item) (item : Item) (version product : ℕ) → AreCounted all
-    → (is_filed version product item ≡ true → item.number ≡ Some (length (filed version product all)))
-    → map (λ i. i.number) (filed version product (all ++ item ∷ [])) ≡ map Some (range_with_len 0 (length (filed version product (all ++ item ∷ []))))
+    → (is_filed version product item ≡ true → item.number ≡ Some (length (filed_items version product all)))
+    → map (λ i. i.number) (filed_items version product (all ++ item ∷ [])) ≡ map Some (range_with_len 0 (length (filed_items version product (all ++ item ∷ []))))
 counted_push all item version product h f =
-    let count : ℕ = length (filed version product all) in
+    let count : ℕ = length (filed_items version product all) in
     elim (cases_Bool (is_filed version product item)) [
       | inl t ↦ (
-          let more : filed version product (all ++ item ∷ []) ≡ filed version product all ++ item ∷ []
-          = filter-append (is_filed version product) all (item ∷ []) ∙ ap (λ b. filed version product all ++ cond b (item ∷ []) []) t in
-          let size : length (filed version product all ++ item ∷ []) ≡ count + 1 = length-append (filed version product all) (item ∷ []) in
+          let more : filed_items version product (all ++ item ∷ []) ≡ filed_items version product all ++ item ∷ []
+          = filter-append (is_filed version product) all (item ∷ []) ∙ ap (λ b. filed_items version product all ++ cond b (item ∷ []) []) t in
+          let size : length (filed_items version product all ++ item ∷ []) ≡ count + 1 = length-append (filed_items version product all) (item ∷ []) in
           let zero_more : 0 + count ≡ count = omega arith in
-          ap (map (λ (i : Item). i.number)) more ∙ map-append (λ (i : Item). i.number) (filed version product all) (item ∷ [])
+          ap (map (λ (i : Item). i.number)) more ∙ map-append (λ (i : Item). i.number) (filed_items version product all) (item ∷ [])
           ∙ ap (λ l. l ++ item.number ∷ []) (h version product) ∙ ap (λ n. map Some (range_with_len 0 count) ++ n ∷ []) (f t)
           ∙ sym (map-range_with_len_more Some 0 count count zero_more)
           ∙ ap (λ n. map Some (range_with_len 0 n)) (sym size ∙ ap length (sym more)))
       | inr g ↦ (
-          let same : filed version product (all ++ item ∷ []) ≡ filed version product all
-          = filter-append (is_filed version product) all (item ∷ []) ∙ ap (λ b. filed version product all ++ cond b (item ∷ []) []) g ∙ append-nil (filed version product all) in
+          let same : filed_items version product (all ++ item ∷ []) ≡ filed_items version product all
+          = filter-append (is_filed version product) all (item ∷ []) ∙ ap (λ b. filed_items version product all ++ cond b (item ∷ []) []) g ∙ append-nil (filed_items version product all) in
           ap (map (λ (i : Item). i.number)) same ∙ h version product ∙ ap (λ l. map Some (range_with_len 0 (length l))) (sym same))
     ]
 
@@ -162,21 +154,18 @@ number_is : (table : LifeTable) (station : StationId) (moment : ℕ) (before : L
     → is_segmented w ≡ true → number_for table moment before w ≡ Some count → (item_of table station moment before w).number ≡ Some count
 number_is table station moment before w version product count s e = ap (λ b. if b then number_for table moment before w else None) s ∙ e
 
-pub counted : (table : LifeTable) (station : StationId) (history : List Event) → LivesAreLongest → IsHistory table station history
+-- with each item that is given
+pub counted_more : (table : LifeTable) (station : StationId) → GoesOn table station AreCounted
+counted_more table station moment before w g h =
+    let item : Item = item_of table station moment before w in
+    λ v p. counted_push before item v p h (λ t.
+    let three = and_three (is_segmented w) (w.version == v) (w.product == p) t in
+    let same_v : w.version ≡ v = same_number w.version v three.1 in
+    let same_p : w.product ≡ p = same_number w.product p three.2 in
+    number_is table station moment before w w.version w.product _ three.0 (number_of_given table before moment w g h three.0)
+    ∙ ap (λ n. Some (length (filed_items n w.product before))) same_v ∙ ap (λ n. Some (length (filed_items v n before))) same_p)
+
+pub counted : AcceptedIsGiven → (table : LifeTable) (station : StationId) → IsTable table → (history : List Event) → IsHistory table station history
     → AreCounted (items table station history)
-counted table station [] law h = λ version product. refl
-counted table station (fill moment slot ∷ past) law h = subst AreCounted (sym (append-nil (items table station past))) (counted table station past law h.1)
-counted table station (accepted moment (text version chars) ∷ past) law h =
-    let all : List Item = items table station past in
-    let c = clear table all moment version chars h.0.is_accepted.1 in
-    let w : Weather = text_weather c.key c.row version chars in
-    let item : Item = item_of table station moment all w in
-    let before = counted table station past law h.1 in
-    let items_are : items table station (accepted moment (text version chars) ∷ past) ≡ all ++ item ∷ []
-    = ap (λ ws. all ++ items_made table station moment all ws) (weather_is table version chars c.key c.row c.key_is c.row_is) in
-    subst AreCounted (sym items_are) (λ v p. counted_push all item v p before (λ t.
-    let three = and_three (is_segmented w) (version == v) (413 == p) t in
-    let same_v : version ≡ v = same_number version v three.1 in
-    let same_p : 413 ≡ p = same_number 413 p three.2 in
-    number_is table station moment all w version 413 _ three.0 (number_of_clear table all moment version chars c law before three.0)
-    ∙ ap (λ n. Some (length (filed n 413 all))) same_v ∙ ap (λ n. Some (length (filed v n all))) same_p))
+counted accepting table station is_table history h =
+    by_items accepting table station AreCounted is_table (counted_more table station) (λ version product. refl) history h

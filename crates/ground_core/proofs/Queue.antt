@@ -1,26 +1,26 @@
 -- What is live of the queue is what waits: at a later moment, behind a frame that was filled, and behind an item that was given.
-use Rattle.std.proofs.Common.{◌≡◌, ℕ, zero, suc, ◌+◌, ◌-◌, ◌<◌, ◌≤◌, Bool, true, false, not, ◌&&◌, ◌==◌, nat_lt, nat_le, if◌then◌else◌, List, [], ◌∷◌, ◌++◌, length, map, filter, flat_map, Option, Some, None, refl, sym, ap, ◌∙◌, inl, inr, arith, append-nil}
+use Rattle.std.proofs.Common.{◌≡◌, ℕ, zero, suc, ◌+◌, ◌-◌, ◌<◌, ◌≤◌, Bool, true, false, not, ◌&&◌, ◌==◌, nat_lt, nat_le, if◌then◌else◌, List, [], ◌∷◌, ◌++◌, length, map, filter, flat_map, Option, Some, None, refl, sym, ap, subst, ◌∙◌, inl, inr, arith, append-nil, length-append}
 use Rattle.std.specs.List.{range_with_len}
 use Rattle.std.proofs.lemmas.Bool.{cases_Bool, lt-ltb, ltb-true, and_parts, and_from, and_right}
 use Rattle.std.proofs.lemmas.Bool.Decides.{nat_tests}
-use Rattle.std.proofs.lemmas.List.{map-append}
+use Rattle.std.proofs.lemmas.List.{map-append, append_assoc}
 use Rattle.std.proofs.lemmas.List.Elements.{filter-append}
 use Rattle.life_table.specs.LifeTable.{LifeTable}
 use Rattle.uplink_frame.specs.declared.station.StationId.{StationId}
 use Rattle.uplink_frame.specs.Station.{same_station}
 use Rattle.uplink_frame.specs.Laws.{StationsAreTold}
 use Rattle.picture_core.specs.Key.{Key}
-use Rattle.ground_core.specs.Item.{Weather, Item, Segment, segments_of, segment_of, same_item, same_segment, room_of}
-use Rattle.ground_core.specs.History.{Event, accepted, fill, items, new_items, items_made, item_of}
+use Rattle.ground_core.specs.Item.{Item, Segment, segments_of, segment_of, same_item, same_segment, room_of}
+use Rattle.ground_core.specs.History.{Event, accepted, fill, items, new_items}
 use Rattle.ground_core.specs.Update.{Update, weather_of}
 use Rattle.ground_core.specs.Airing.{log, airing, waiting_segments, longest_fitting, is_live, has_key}
 use Rattle.ground_core.specs.Piece.{Piece, Latest, piece_of, lives_as, live_by, fitting_pieces, left_pieces}
 use Rattle.ground_core.specs.StandsFor.{latest_of, latest_of_item}
 use Rattle.ground_core.proofs.KeyLemmas.{KeyLaws}
-use Rattle.ground_core.proofs.ListLemmas.{Each, Each-weaker, Each-in, Each-all, Each-map, filter_same, filter_all, filter_less, filter-map, list_any-weaker}
+use Rattle.ground_core.proofs.ListLemmas.{Each, Each-append, Each-weaker, Each-in, Each-all, Each-map, filter_same, filter_all, filter_less, filter-map, list_any-weaker}
 use Rattle.ground_core.proofs.Order.{last_places, segments_in, stands_in, waiting_is, turned, Once, last_places-append, last_places_once}
 use Rattle.ground_core.proofs.Segments.{is_segment_of}
-use Rattle.ground_core.proofs.Serials.{Numbered, numbered_items, serial_in, IsLogged, logged, log_given, log_filled, Each-last_places, live_same, latest_push}
+use Rattle.ground_core.proofs.Serials.{Numbered, Numbered-append, numbered_items, numbered_made, serial_in, IsLogged, logged, logged_more, logged_new, log_given, log_filled, Each-last_places, live_same, latest_push}
 
 -- the pieces of segments that were given are live where their items are
 pub pieces_live : KeyLaws → (all : List Item) (moment : ℕ) (segments : List Segment) → Numbered 0 all → Each (IsLogged all) segments
@@ -79,18 +79,18 @@ fitting_pieces_are room (x ∷ xs) = elim (cases_Bool (nat_le (room_of x) room))
   | inr f ↦ rw f refl
 ]
 
-abbrev pub left : ℕ → List Segment → List Segment
-left room [] = []
-left room (s ∷ more) = if nat_le (room_of s) room then left (room - room_of s) more else s ∷ more
+abbrev pub segments_left : ℕ → List Segment → List Segment
+segments_left room [] = []
+segments_left room (s ∷ more) = if nat_le (room_of s) room then segments_left (room - room_of s) more else s ∷ more
 
-pub left_pieces_are : (room : ℕ) (xs : List Segment) → map piece_of (left room xs) ≡ left_pieces room (map piece_of xs)
+pub left_pieces_are : (room : ℕ) (xs : List Segment) → map piece_of (segments_left room xs) ≡ left_pieces room (map piece_of xs)
 left_pieces_are room [] = refl
 left_pieces_are room (x ∷ xs) = elim (cases_Bool (nat_le (room_of x) room)) [
   | inl t ↦ rw t (left_pieces_are (room - room_of x) xs)
   | inr f ↦ rw f refl
 ]
 
-pub fitting_left : (room : ℕ) (xs : List Segment) → xs ≡ longest_fitting room xs ++ left room xs
+pub fitting_left : (room : ℕ) (xs : List Segment) → xs ≡ longest_fitting room xs ++ segments_left room xs
 fitting_left room [] = refl
 fitting_left room (x ∷ xs) = elim (cases_Bool (nat_le (room_of x) room)) [
   | inl t ↦ rw t (ap (λ l. x ∷ l) (fitting_left (room - room_of x) xs))
@@ -107,7 +107,7 @@ pub record IsFilled (table : LifeTable) (station : StationId) (past : List Event
 -- what waits behind a fill: what was left, and then what was aired
 pub waiting_filled : StationsAreTold → (table : LifeTable) (station : StationId) (past : List Event) (moment slot : ℕ)
     → waiting_segments (items table station (fill moment slot ∷ past)) (log table station (fill moment slot ∷ past)) moment
-    ≡ left 424 (waiting_segments (items table station past) (log table station past) moment)
+    ≡ segments_left 424 (waiting_segments (items table station past) (log table station past) moment)
     ++ airing (items table station past) (log table station past) moment
 waiting_filled told table station past moment slot =
     let all : List Item = items table station past in
@@ -115,11 +115,11 @@ waiting_filled told table station past moment slot =
     let now : List Segment = waiting_segments all (log table station past) moment in
     let front : List Segment = longest_fitting 424 now in
     let live : Segment → Bool = λ s. is_live all moment s.item in
-    let cut : filter live (last_places before) ≡ front ++ left 424 now = sym (waiting_is all (log table station past) moment) ∙ fitting_left 424 now in
+    let cut : filter live (last_places before) ≡ front ++ segments_left 424 now = sym (waiting_is all (log table station past) moment) ∙ fitting_left 424 now in
     waiting_is (all ++ []) (log table station (fill moment slot ∷ past)) moment
     ∙ ap (λ is. filter (λ s. is_live is moment s.item) (last_places (segments_in (log table station (fill moment slot ∷ past))))) (append-nil all)
     ∙ ap (λ l. filter live (last_places l)) (log_filled table station past moment slot)
-    ∙ turned told live before front (left 424 now) cut
+    ∙ turned told live before front (segments_left 424 now) cut
 
 pub filled : StationsAreTold → KeyLaws → (table : LifeTable) (station : StationId) (past : List Event) (clock moment slot : ℕ) (old new : List Piece) → clock ≤ moment
     → filter (live_by (latest_of (items table station past)) clock) old ≡ map piece_of (waiting_segments (items table station past) (log table station past) clock)
@@ -135,8 +135,8 @@ filled told keys table station past clock moment slot old new le e n =
       aired = fitting_pieces_are 424 now ∙ ap (fitting_pieces 424) (sym live);
       line = n ∙ ap (λ l. left_pieces 424 l ++ fitting_pieces 424 l) live
           ∙ ap (λ l. l ++ fitting_pieces 424 (map piece_of now)) (sym (left_pieces_are 424 now))
-          ∙ ap (λ l. map piece_of (left 424 now) ++ l) (sym (fitting_pieces_are 424 now))
-          ∙ sym (map-append piece_of (left 424 now) (longest_fitting 424 now))
+          ∙ ap (λ l. map piece_of (segments_left 424 now) ++ l) (sym (fitting_pieces_are 424 now))
+          ∙ sym (map-append piece_of (segments_left 424 now) (longest_fitting 424 now))
           ∙ ap (map piece_of) (sym (waiting_filled told table station past moment slot));
     }
 
@@ -195,37 +195,79 @@ older_lives all item clock moment p e le lt h =
     list_any-weaker (λ key. lives_as moment p.serial (latest_of (all ++ item ∷ []) key)) (λ key. lives_as clock p.serial (latest_of all key))
     (λ key k. older_serial all item clock moment p.serial key e le lt k) p.keys h
 
--- what waits behind an item that was given
-pub given_line : KeyLaws → (table : LifeTable) (station : StationId) (past : List Event) (moment : ℕ) (update : Update) (w : Weather) (clock : ℕ) (old new : List Piece)
-    → weather_of table update ≡ w ∷ [] → clock ≤ moment
+-- the segments of new items stand behind all others
+pub places_given_all : (all : List Item) (before : List Segment) (new : List Item) → Numbered 0 all → Numbered (length all) new → Each (IsLogged all) before
+    → last_places (before ++ flat_map segments_of new) ≡ last_places before ++ flat_map segments_of new
+places_given_all all before [] n m h = ap last_places (append-nil before) ∙ sym (append-nil (last_places before))
+places_given_all all before (item ∷ more) n m h =
+    let after : List Item = all ++ item ∷ [] in
+    let segments : List Segment = segments_of item in
+    let size : length after ≡ length all + 1 = length-append all (item ∷ []) in
+    let numbered : Numbered 0 after = Numbered-append 0 all (item ∷ []) n (m.0 ∙ sym (zero_less (length all)), tt) in
+    let one : last_places (before ++ segments) ≡ last_places before ++ segments = places_given all before item m.0 n h in
+    let own : Each (IsLogged after) segments = subst (Each (IsLogged after)) (append-nil segments) (logged_new all (item ∷ [])) in
+    let logged_all : Each (IsLogged after) (before ++ segments) =
+    Each-append _ before segments (Each-weaker _ _ (logged_more all (item ∷ [])) before h) own
+    in
+    ap last_places (sym (append_assoc before segments (flat_map segments_of more)))
+    ∙ places_given_all after (before ++ segments) more numbered (subst (λ k. Numbered k more) (sym size) m.1) logged_all
+    ∙ ap (λ l. l ++ flat_map segments_of more) one
+    ∙ append_assoc (last_places before) segments (flat_map segments_of more) where
+      zero_less : (k : ℕ) → 0 + k ≡ k
+      zero_less k = omega arith
+
+-- an older piece is live behind new items only where it was live before
+pub older_lives_all : (all new : List Item) (clock moment : ℕ) (p : Piece) → Numbered (length all) new → clock ≤ moment → p.serial < length all
+    → live_by (latest_of (all ++ new)) moment p ≡ true → live_by (latest_of all) clock p ≡ true
+older_lives_all all [] clock moment p m le lt h =
+    later_lives (latest_of all) clock moment p le (ap (λ is. live_by (latest_of is) moment p) (sym (append-nil all)) ∙ h)
+older_lives_all all (item ∷ more) clock moment p m le lt h =
+    let after : List Item = all ++ item ∷ [] in
+    let size : length after ≡ length all + 1 = length-append all (item ∷ []) in
+    let same : moment ≤ moment = omega arith in
+    older_lives all item clock moment p m.0 le lt
+    (older_lives_all after more moment moment p (subst (λ k. Numbered k more) (sym size) m.1) same (omega arith)
+    (ap (λ is. live_by (latest_of is) moment p) (append_assoc all (item ∷ []) more) ∙ h))
+
+-- what an update makes
+abbrev pub made_items : LifeTable → StationId → ℕ → List Event → Update → List Item
+made_items table station moment past update = new_items table station (items table station past) (accepted moment update)
+
+pub numbered_new : (table : LifeTable) (station : StationId) (moment : ℕ) (past : List Event) (update : Update)
+    → Numbered (length (items table station past)) (made_items table station moment past update)
+numbered_new table station moment past update = numbered_made table station moment (items table station past) (weather_of table update)
+
+pub order_given : (table : LifeTable) (station : StationId) (moment : ℕ) (past : List Event) (update : Update)
+    → places table station (accepted moment update ∷ past)
+    ≡ places table station past ++ flat_map segments_of (made_items table station moment past update)
+order_given table station moment past update =
+    ap last_places (log_given table station past moment update)
+    ∙ places_given_all (items table station past) (segments_in (log table station past)) (made_items table station moment past update)
+    (numbered_items table station past) (numbered_new table station moment past update) (logged table station past)
+
+-- what waits behind items that were given
+pub given_line : KeyLaws → (table : LifeTable) (station : StationId) (past : List Event) (moment : ℕ) (update : Update) (clock : ℕ) (old new : List Piece)
+    → clock ≤ moment
     → Each (λ p. p.serial < length (items table station past)) old
     → filter (live_by (latest_of (items table station past)) clock) old ≡ map piece_of (waiting_segments (items table station past) (log table station past) clock)
-    → new ≡ old ++ map piece_of (segments_of (item_of table station moment (items table station past) w))
+    → new ≡ old ++ map piece_of (flat_map segments_of (made_items table station moment past update))
     → filter (live_by (latest_of (items table station (accepted moment update ∷ past))) moment) new
     ≡ map piece_of (waiting_segments (items table station (accepted moment update ∷ past)) (log table station (accepted moment update ∷ past)) moment)
-given_line keys table station past moment update w clock old new we le low e n =
+given_line keys table station past moment update clock old new le low e n =
     let all : List Item = items table station past in
-    let item : Item = item_of table station moment all w in
+    let made : List Item = made_items table station moment past update in
     let history : List Event = accepted moment update ∷ past in
-    let segments : List Segment = segments_of item in
-    let before : List Segment = segments_in (log table station past) in
-    let made : new_items table station all (accepted moment update) ≡ item ∷ [] = ap (items_made table station moment all) we in
-    let items_are : items table station history ≡ all ++ item ∷ [] = ap (λ l. all ++ l) made in
-    let logs : segments_in (log table station history) ≡ before ++ segments
-    = log_given table station past moment update ∙ ap (λ l. before ++ flat_map segments_of l) made ∙ ap (λ l. before ++ l) (append-nil segments) in
-    let order : places table station history ≡ places table station past ++ segments
-    = ap last_places logs ∙ places_given all before item refl (numbered_items table station past) (logged table station past) in
-    let test : Piece → Bool = live_by (latest_of (all ++ item ∷ [])) moment in
+    let segments : List Segment = flat_map segments_of made in
+    let numbered = numbered_new table station moment past update in
+    let test : Piece → Bool = live_by (latest_of (all ++ made)) moment in
     let older : filter test old ≡ filter test (map piece_of (places table station past))
     = less_same (live_by (latest_of all) clock) test old (map piece_of (places table station past))
-    (Each-weaker _ _ (λ p lt. older_lives all item clock moment p refl le lt) old low)
+    (Each-weaker _ _ (λ p lt. older_lives_all all made clock moment p numbered le lt) old low)
     (Each-map _ piece_of (places table station past) (Each-weaker _ _ (λ s k.
-    older_lives all item clock moment (piece_of s) refl le (let b = serial_in 0 all s.item (numbered_items table station past) k.item in omega (arith, b.1))) (places table station past) (logged_places table station past)))
+    older_lives_all all made clock moment (piece_of s) numbered le (let b = serial_in 0 all s.item (numbered_items table station past) k.item in omega (arith, b.1))) (places table station past) (logged_places table station past)))
     (e ∙ waits_are keys table station past clock) in
-    ap (λ is. filter (live_by (latest_of is) moment) new) items_are
-    ∙ ap (filter test) n ∙ filter-append test old (map piece_of segments)
+    ap (filter test) n ∙ filter-append test old (map piece_of segments)
     ∙ ap (λ l. l ++ filter test (map piece_of segments)) older
     ∙ sym (filter-append test (map piece_of (places table station past)) (map piece_of segments))
-    ∙ ap (filter test) (sym (map-append piece_of (places table station past) segments) ∙ ap (map piece_of) (sym order))
-    ∙ ap (λ is. filter (live_by (latest_of is) moment) (map piece_of (places table station history))) (sym items_are)
+    ∙ ap (filter test) (sym (map-append piece_of (places table station past) segments) ∙ ap (map piece_of) (sym (order_given table station moment past update)))
     ∙ sym (waits_are keys table station history moment)

@@ -34,7 +34,7 @@ Numbered-append n [] ys h k = let e : n + 0 ≡ n = omega arith in subst (λ m. 
 Numbered-append n (x ∷ xs) ys h k = let e : n + length (x ∷ xs) ≡ (n + 1) + length xs = omega arith in
     (h.0, Numbered-append (n + 1) xs ys h.1 (subst (λ m. Numbered m ys) e k))
 
-numbered_made : (table : LifeTable) (station : StationId) (moment : ℕ) (before : List Item) (ws : List Weather)
+pub numbered_made : (table : LifeTable) (station : StationId) (moment : ℕ) (before : List Item) (ws : List Weather)
     → Numbered (length before) (items_made table station moment before ws)
 numbered_made table station moment before [] = tt
 numbered_made table station moment before (w ∷ more) =
@@ -239,3 +239,8 @@ pub latest_push : (key : Key) (xs : List Item) (item : Item) (before : Option La
     → latest_after key (xs ++ item ∷ []) before ≡ (if has_key key item then Some (latest_of_item item) else latest_after key xs before)
 latest_push key [] item before = refl
 latest_push key (x ∷ xs) item before = latest_push key xs item (if has_key key x then Some (latest_of_item x) else before)
+
+pub latest_after-append : (key : Key) (xs ys : List Item) (before : Option Latest)
+    → latest_after key (xs ++ ys) before ≡ latest_after key ys (latest_after key xs before)
+latest_after-append key [] ys before = refl
+latest_after-append key (x ∷ xs) ys before = latest_after-append key xs ys (if has_key key x then Some (latest_of_item x) else before)

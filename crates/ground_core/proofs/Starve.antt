@@ -1,5 +1,5 @@
 -- A segment that waits comes nearer to the front with each fill.
-use Rattle.std.proofs.Common.{◌≡◌, ℕ, ◌+◌, ◌-◌, ◌*◌, ◌/◌, ◌<◌, ◌≤◌, ◌⊎◌, Bool, true, nat_lt, nat_le, cond, if◌then◌else◌, List, [], ◌∷◌, ◌++◌, length, filter, flat_map, refl, sym, ap, subst, ◌∙◌, inl, inr, arith, append-nil, append_assoc}
+use Rattle.std.proofs.Common.{◌≡◌, ℕ, ◌+◌, ◌-◌, ◌*◌, ◌/◌, ◌<◌, ◌≤◌, ◌⊎◌, Bool, true, nat_lt, nat_le, cond, if◌then◌else◌, List, [], ◌∷◌, ◌++◌, length, filter, flat_map, refl, sym, ap, subst, ◌∙◌, inl, inr, arith, append_assoc}
 use Rattle.std.proofs.lemmas.Bool.{cases_Bool, leb-true, leb-false, le-leb, lt-ltb, ltb-true, and_parts, and_from}
 use Rattle.std.proofs.lemmas.List.Elements.{filter-append}
 use Rattle.list_members.specs.Membership.{IsIn}
@@ -8,20 +8,19 @@ use Rattle.life_table.specs.LifeTable.{LifeTable}
 use Rattle.uplink_frame.specs.declared.station.StationId.{StationId}
 use Rattle.uplink_frame.specs.Laws.{StationsAreTold}
 use Rattle.segment_core.specs.Cutting.{PartsFitFrames}
-use Rattle.ground_core.specs.Item.{Weather, Item, Segment, room_of, segments_of, file_of, end_of}
-use Rattle.ground_core.specs.Update.{Update, text, weather_of}
+use Rattle.ground_core.specs.Item.{Item, Segment, room_of, segments_of, file_of, end_of}
+use Rattle.ground_core.specs.Update.{Update}
 use Rattle.ground_core.specs.Piece.{piece_of}
-use Rattle.ground_core.specs.History.{Event, accepted, fill, moment_of, items, items_made, new_items, item_of}
+use Rattle.ground_core.specs.History.{Event, accepted, fill, moment_of, items}
 use Rattle.ground_core.specs.Airing.{log, longest_fitting, is_live}
 use Rattle.ground_core.specs.Broadcast.{IsHistory, IsNotBefore}
 use Rattle.ground_core.specs.Starving.{bytes_of, waiting_after, fills, WaitsStill, AreFrom, NoStarvation}
 use Rattle.ground_core.proofs.KeyLemmas.{KeyLaws}
 use Rattle.ground_core.proofs.ListLemmas.{Each, Each-weaker, Each-all, Each-at, filter_less}
 use Rattle.ground_core.proofs.Order.{last_places, segments_in, waiting_is}
-use Rattle.ground_core.proofs.Serials.{Numbered, numbered_items, serial_in, IsLogged, logged, logged_more, log_given, Each-waiting, live_same}
-use Rattle.ground_core.proofs.Accepted.{clear, text_weather, weather_is}
+use Rattle.ground_core.proofs.Serials.{Numbered, numbered_items, serial_in, IsLogged, logged, logged_more, Each-waiting, live_same}
 use Rattle.ground_core.proofs.Segments.{is_segment_of}
-use Rattle.ground_core.proofs.Queue.{left, fitting_left, waiting_filled, places_given, older_lives, logged_places}
+use Rattle.ground_core.proofs.Queue.{segments_left, fitting_left, waiting_filled, older_lives_all, logged_places, made_items, numbered_new, order_given}
 
 abbrev head_bytes : List Segment → ℕ
 head_bytes [] = 0
@@ -103,15 +102,15 @@ front_before (x ∷ front) rest (b ∷ before) s after e absent =
     }
 
 -- what stands behind a front that fits does not fit with it
-left_over : (room : ℕ) (xs : List Segment) (y : Segment) (more : List Segment) → left room xs ≡ y ∷ more → room < bytes_of (longest_fitting room xs) + room_of y
+left_over : (room : ℕ) (xs : List Segment) (y : Segment) (more : List Segment) → segments_left room xs ≡ y ∷ more → room < bytes_of (longest_fitting room xs) + room_of y
 left_over room [] y more e = absurd (cc)
 left_over room (x ∷ xs) y more e = elim (cases_Bool (nat_le (room_of x) room)) [
   | inl t ↦ (
-      let rest = left_over (room - room_of x) xs y more (ap (λ b. if b then left (room - room_of x) xs else x ∷ xs) (sym t) ∙ e) in
+      let rest = left_over (room - room_of x) xs y more (ap (λ b. if b then segments_left (room - room_of x) xs else x ∷ xs) (sym t) ∙ e) in
       let within = leb-true (room_of x) room t in
       rw t (omega arith))
   | inr f ↦ (
-      let both = heads x y xs more (ap (λ b. if b then left (room - room_of x) xs else x ∷ xs) (sym f) ∙ e) in
+      let both = heads x y xs more (ap (λ b. if b then segments_left (room - room_of x) xs else x ∷ xs) (sym f) ∙ e) in
       let above = leb-false (room_of x) room f in
       let same : room_of x ≡ room_of y = ap room_of both.0 in
       rw f (omega arith))
@@ -121,7 +120,7 @@ head_fits : (room : ℕ) (x : Segment) (xs : List Segment) → room_of x ≤ roo
 head_fits room x xs le = ap (λ b. if b then x ∷ longest_fitting (room - room_of x) xs else []) (le-leb (room_of x) room le)
 
 step_near : (count bytes : ℕ) (s : Segment) (front between before : List Segment) (after rest line : List Segment)
-    → before ≡ front ++ between → rest ≡ between ++ s ∷ after → rest ≡ left 424 line → front ≡ longest_fitting 424 line
+    → before ≡ front ++ between → rest ≡ between ++ s ∷ after → rest ≡ segments_left 424 line → front ≡ longest_fitting 424 line
     → 425 * count + 2 * bytes_of before ≤ 2 * bytes + head_bytes before → head_bytes before ≤ bytes_of front
     → IsNear (count + 1) bytes between
 step_near count bytes s front [] before after rest line b r l f h k =
@@ -138,9 +137,9 @@ nothing b before h = cc
 
 -- a fill without the segment brings it nearer
 placed-filled : (count bytes : ℕ) (s : Segment) (line : List Segment) → Each (λ x. room_of x ≤ 424) line → (IsIn s (longest_fitting 424 line) → ⊥)
-    → IsPlaced count bytes s line → IsPlaced (count + 1) bytes s (left 424 line)
+    → IsPlaced count bytes s line → IsPlaced (count + 1) bytes s (segments_left 424 line)
 placed-filled count bytes s line fits absent h = go h.before refl where
-  go : (before : List Segment) → before ≡ h.before → IsPlaced (count + 1) bytes s (left 424 line)
+  go : (before : List Segment) → before ≡ h.before → IsPlaced (count + 1) bytes s (segments_left 424 line)
   go [] e =
       let line_is : line ≡ s ∷ h.after = h.line_is ∙ ap (λ b. b ++ s ∷ h.after) (sym e) in
       let first = (subst (Each (λ x. room_of x ≤ 424)) line_is fits).0 in
@@ -150,13 +149,13 @@ placed-filled count bytes s line fits absent h = go h.before refl where
       let first = (subst (Each (λ x. room_of x ≤ 424)) line_is fits).0 in
       let taken : longest_fitting 424 line ≡ b ∷ longest_fitting (424 - room_of b) (before ++ s ∷ h.after) = ap (longest_fitting 424) line_is ∙ head_fits 424 b (before ++ s ∷ h.after) first in
       let more : room_of b ≤ bytes_of (longest_fitting 424 line) = subst (λ l. room_of b ≤ bytes_of l) (sym taken) (omega arith) in
-      let f = front_before (longest_fitting 424 line) (left 424 line) (b ∷ before) s h.after (sym line_is ∙ fitting_left 424 line) absent in
+      let f = front_before (longest_fitting 424 line) (segments_left 424 line) (b ∷ before) s h.after (sym line_is ∙ fitting_left 424 line) absent in
       record {
         before = f.between;
         after = h.after;
         line_is = f.rest_is;
         near = elim (subst (IsNear count bytes) (sym e) h.near) [
-          | inl a ↦ step_near count bytes s (longest_fitting 424 line) f.between (b ∷ before) h.after (left 424 line) line f.before_is f.rest_is refl refl a more
+          | inl a ↦ step_near count bytes s (longest_fitting 424 line) f.between (b ∷ before) h.after (segments_left 424 line) line f.before_is f.rest_is refl refl a more
           | inr n ↦ absurd (nothing b before n.0)
         ];
       }
@@ -198,43 +197,33 @@ waiting_later table station history clock moment le =
     (Each-all _ (λ s h. live_earlier all clock moment s.item le h) _))
     ∙ ap (filter (λ s. is_live all moment s.item)) (sym (waiting_is all (log table station history) clock))
 
--- an older item is live behind a new one only where it was live before
-live_before : KeyLaws → (all : List Item) (item : Item) (moment : ℕ) (s : Segment) → item.serial ≡ length all → Numbered 0 all → Numbered 0 (all ++ item ∷ []) → IsLogged all s
-    → is_live (all ++ item ∷ []) moment s.item ≡ true → is_live all moment s.item ≡ true
-live_before keys all item moment s e n m h t =
+-- an older item is live behind new ones only where it was live before
+live_before : KeyLaws → (all new : List Item) (moment : ℕ) (s : Segment) → Numbered 0 all → Numbered (length all) new → Numbered 0 (all ++ new) → IsLogged all s
+    → is_live (all ++ new) moment s.item ≡ true → is_live all moment s.item ≡ true
+live_before keys all new moment s n k m h t =
     let b = serial_in 0 all s.item n h.item in
     sym (live_same keys all moment s n h.item)
-    ∙ older_lives all item moment moment (piece_of s) e (omega arith) (omega (arith, b.1)) (live_same keys (all ++ item ∷ []) moment s m (IsIn-before s.item all (item ∷ []) h.item) ∙ t)
+    ∙ older_lives_all all new moment moment (piece_of s) k (omega arith) (omega (arith, b.1)) (live_same keys (all ++ new) moment s m (IsIn-before s.item all new h.item) ∙ t)
 
--- behind an update that gives one item
-waiting_given : KeyLaws → (table : LifeTable) (station : StationId) (history : List Event) (given moment : ℕ) (update : Update) (w : Weather)
-    → weather_of table update ≡ w ∷ []
+-- behind an update
+waiting_given : KeyLaws → (table : LifeTable) (station : StationId) (history : List Event) (given moment : ℕ) (update : Update)
     → (more : List Segment) × (waiting_after table station (accepted given update ∷ history) moment
     ≡ filter (λ s. is_live (items table station (accepted given update ∷ history)) moment s.item) (waiting_after table station history moment) ++ more)
-waiting_given keys table station history given moment update w we =
+waiting_given keys table station history given moment update =
     let all : List Item = items table station history in
-    let item : Item = item_of table station given all w in
     let after : List Event = accepted given update ∷ history in
     let before : List Segment = segments_in (log table station history) in
-    let segments : List Segment = segments_of item in
-    let made : new_items table station all (accepted given update) ≡ item ∷ [] = ap (items_made table station given all) we in
-    let items_are : items table station after ≡ all ++ item ∷ [] = ap (λ l. all ++ l) made in
-    let logs : segments_in (log table station after) ≡ before ++ segments
-    = log_given table station history given update ∙ ap (λ l. before ++ flat_map segments_of l) made ∙ ap (λ l. before ++ l) (append-nil segments) in
+    let segments : List Segment = flat_map segments_of (made_items table station given history update) in
     let numbered = numbered_items table station history in
-    let all_numbered : Numbered 0 (all ++ item ∷ []) = subst (Numbered 0) items_are (numbered_items table station after) in
-    let order : last_places (segments_in (log table station after)) ≡ last_places before ++ segments
-    = ap last_places logs ∙ places_given all before item refl numbered (logged table station history) in
-    let live : Segment → Bool = λ s. is_live (all ++ item ∷ []) moment s.item in
+    let live : Segment → Bool = λ s. is_live (items table station after) moment s.item in
     let less : filter live (filter (λ s. is_live all moment s.item) (last_places before)) ≡ filter live (last_places before)
     = filter_less (λ s. is_live all moment s.item) live (last_places before)
-    (Each-weaker _ _ (λ s h. live_before keys all item moment s refl numbered all_numbered h) (last_places before) (logged_places table station history)) in (
+    (Each-weaker _ _ (λ s h. live_before keys all (made_items table station given history update) moment s numbered
+    (numbered_new table station given history update) (numbered_items table station after) h) (last_places before) (logged_places table station history)) in (
       filter live segments,
       waiting_is (items table station after) (log table station after) moment
-          ∙ ap (λ is. filter (λ s. is_live is moment s.item) (last_places (segments_in (log table station after)))) items_are
-          ∙ ap (filter live) order ∙ filter-append live (last_places before) segments
-          ∙ ap (λ l. l ++ filter live segments) (sym less ∙ ap (filter live) (sym (waiting_is all (log table station history) moment)))
-          ∙ ap (λ is. filter (λ s. is_live is moment s.item) (waiting_after table station history moment) ++ filter live segments) (sym items_are),
+          ∙ ap (filter live) (order_given table station given history update) ∙ filter-append live (last_places before) segments
+          ∙ ap (λ l. l ++ filter live segments) (sym less ∙ ap (filter live) (sym (waiting_is all (log table station history) moment))),
     )
 
 abbrev IsLater : ℕ → ℕ → List Event → Type 0
@@ -261,19 +250,14 @@ placed : StationsAreTold → KeyLaws → PartsFitFrames → (table : LifeTable) 
 placed told keys fit table station past [] at s before after h f l e w moment le t =
     subst (IsPlaced 0 (bytes_of before) s) (sym (waiting_later table station past at moment le))
     (placed-filter 0 (bytes_of before) s _ (waiting_after table station past at) t (record { before = before; after = after; line_is = e; near = inl (omega arith) }))
-placed told keys fit table station past (accepted given (text version chars) ∷ later) at s before after h f l e w moment le t =
+placed told keys fit table station past (accepted given update ∷ later) at s before after h f l e w moment le t =
     let history : List Event = later ++ past in
     let all : List Item = items table station history in
-    let c = clear table all given version chars h.0.is_accepted.1 in
-    let we = weather_is table version chars c.key c.row c.key_is c.row_is in
-    let item : Item = item_of table station given all (text_weather c.key c.row version chars) in
-    let items_are : items table station (accepted given (text version chars) ∷ history) ≡ all ++ item ∷ [] = ap (λ ws. all ++ items_made table station given all ws) we in
-    let m = subst (Numbered 0) items_are (numbered_items table station (accepted given (text version chars) ∷ history)) in
     let lived : is_live all moment s.item ≡ true
-    = live_before keys all item moment s refl (numbered_items table station history) m (logged_later table station past later s l)
-    (ap (λ is. is_live is moment s.item) (sym items_are) ∙ t) in
-    let g = waiting_given keys table station history given moment (text version chars) (text_weather c.key c.row version chars) we in
-    let old = placed told keys fit table station past later at s before after h.1 f.1 l e w moment (later_more at given moment past later (accepted given (text version chars)) le h.0.not_before f.0) lived in
+    = live_before keys all (made_items table station given history update) moment s (numbered_items table station history)
+    (numbered_new table station given history update) (numbered_items table station (accepted given update ∷ history)) (logged_later table station past later s l) t in
+    let g = waiting_given keys table station history given moment update in
+    let old = placed told keys fit table station past later at s before after h.1 f.1 l e w moment (later_more at given moment past later (accepted given update) le h.0.not_before f.0) lived in
     subst (IsPlaced (fills later) (bytes_of before) s) (sym g.1) (placed-more (fills later) (bytes_of before) s _ g.0 (placed-filter (fills later) (bytes_of before) s _ _ t old))
 placed told keys fit table station past (fill now slot ∷ later) at s before after h f l e w moment le t =
     let history : List Event = later ++ past in
@@ -285,7 +269,7 @@ placed told keys fit table station past (fill now slot ∷ later) at s before af
     let new = placed-filled (fills later) (bytes_of before) s line (rooms_fit fit table station history now) w.1 old in
     subst (IsPlaced (fills later + 1) (bytes_of before) s) (sym (waiting_later table station (fill now slot ∷ history) now moment le))
     (placed-filter (fills later + 1) (bytes_of before) s _ _ t
-    (subst (IsPlaced (fills later + 1) (bytes_of before) s) (sym (waiting_filled told table station history now slot)) (placed-more (fills later + 1) (bytes_of before) s (left 424 line) _ new)))
+    (subst (IsPlaced (fills later + 1) (bytes_of before) s) (sym (waiting_filled told table station history now slot)) (placed-more (fills later + 1) (bytes_of before) s (segments_left 424 line) _ new)))
 
 few_left : (count bytes : ℕ) → 425 * count ≤ 2 * bytes → count + 1 < 2 * bytes / 425 + 2
 few_left count bytes h = omega arith

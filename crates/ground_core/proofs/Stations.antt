@@ -14,18 +14,18 @@ use Rattle.ground_core.specs.Broadcast.{IsNext, IsHistory, StationEvent, IsBroad
 use Rattle.ground_core.specs.Sent.{ItemsAreOfStations}
 
 -- the history of a station grows by its own events alone
-abbrev picked : StationId → StationEvent → Bool
-picked station b = same_station b.station station
+abbrev is_of_station : StationId → StationEvent → Bool
+is_of_station station b = same_station b.station station
 
 pub history-same : (station : StationId) (b : StationEvent) (past : List StationEvent) → same_station b.station station ≡ true
     → history_of station (b ∷ past) ≡ b.event ∷ history_of station past
 history-same station b past e =
-    ap (map (λ (x : StationEvent). x.event)) (cond-true (picked station b) (b ∷ filter (picked station) past) (filter (picked station) past) e)
+    ap (map (λ (x : StationEvent). x.event)) (cond-true (is_of_station station b) (b ∷ filter (is_of_station station) past) (filter (is_of_station station) past) e)
 
 pub history-other : (station : StationId) (b : StationEvent) (past : List StationEvent) → same_station b.station station ≡ false
     → history_of station (b ∷ past) ≡ history_of station past
 history-other station b past e =
-    ap (map (λ (x : StationEvent). x.event)) (cond-false (picked station b) (b ∷ filter (picked station) past) (filter (picked station) past) e)
+    ap (map (λ (x : StationEvent). x.event)) (cond-false (is_of_station station b) (b ∷ filter (is_of_station station) past) (filter (is_of_station station) past) e)
 
 pub same-equal : StationsAreTold → (a b : StationId) → same_station a b ≡ true → a ≡ b
 same-equal told a b e = (told a b).0 e

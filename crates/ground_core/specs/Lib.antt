@@ -12,6 +12,7 @@ pub mod NumberedKeys
 pub mod Views
 pub mod Counts
 pub mod Turn
+pub mod Rooms
 pub mod Putting
 pub mod OnAir
 pub mod StandsFor

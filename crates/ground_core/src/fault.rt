@@ -16,9 +16,12 @@ pub enum GiveFault {
     /// The text has fewer words than its key.
     #[error("the text has fewer words than its key")]
     FewWords,
-    /// No row of the table has the type of the report.
-    #[error("the table has no row of this type")]
+    /// No row of the table has the type of the report, or the product of the blocks.
+    #[error("the table has no row of this type or product")]
     Unlisted,
+    /// A record cannot name the block, or the empty blocks: the scale, a number, or the list of numbers is out of range.
+    #[error("no record can name the blocks")]
+    BadBlock,
     /// The form of the row does not show the version.
     #[error("the form of this type does not show the version")]
     Coarse,

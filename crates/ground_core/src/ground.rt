@@ -7,29 +7,36 @@ ghost use Rattle.uplink_frame.specs.declared.station.StationId.{StationId as Pla
 ghost use Rattle.uplink_frame.specs.Station.{FitsStation};
 ghost use Rattle.ground_core.specs.History.{Event, accepted, fill, items};
 ghost use Rattle.segment_core.specs.File as of_file;
-ghost use Rattle.ground_core.specs.Update.{text as text_update};
+ghost use Rattle.ground_core.specs.Update.{text as text_update, block as block_update};
+ghost use Rattle.ground_core.specs.Update.{blanks as blanks_update, weather_of};
 ghost use Rattle.ground_core.specs.Refusal.{give_refusal};
 
 use crate::air_frame::{AirFrame, air_of};
+use crate::area::Area;
 use crate::fault::{FillFault, GiveFault};
 use crate::files::Files;
 use crate::item::SentItem;
-use crate::judging::{file_number, key_of_text, payload_of_text, version_fault};
+use crate::item_keys::ItemKeys;
+use crate::judging::{
+    age_fault, are_blanks, file_number, is_block, key_of_text, payload_of_text, radar_validity,
+    timing_fault,
+};
+use crate::laws::accepted_is_given;
 use crate::line::Line;
-use crate::newest::{Given, Newest};
+use crate::newest::{Newest, given_of};
 use crate::numbered_key::NumberedKey;
+use crate::radar_items::{block_item, group_items};
 use apdu_core::apdu_reads_back;
 use dlac_text::payload_size;
 use fisb_time::Moment;
-use life_table::{LifeTable, longest_is_greatest};
-use picture_core::laws::keys_are_ordered;
+use life_table::{CONUS_RADAR, LifeTable, REGIONAL_RADAR, TEXT_PRODUCT, longest_is_greatest};
+use picture_core::laws::{keys_are_ordered, life_of_entries};
+use radar_core::laws::groups_are_records;
+use radar_core::{BlockKey, Cells, group_blanks};
 use segment_core::{is_segmented, part_count};
 use std::alloc::Global;
 use std::rc::Rc;
 use uplink_frame::{AppData, StationId, stations_are_told};
-
-/// The product of reports.
-const REPORTS: u16 = 413;
 
 /// The ground: what it was given and has to send.
 #[derive(Drop)]
@@ -54,7 +61,10 @@ impl Ground {
     ghost use Rattle.segment_core.specs.Store.{last_above};
     ghost use Rattle.ground_core.specs.StandsFor.{StandsFor, IsOnAir, clock_of};
     ghost use Rattle.ground_core.specs.Views.{latest_at, count_at};
-    ghost use Rattle.ground_core.specs.Putting.{IsPut, IsAsBefore, IsItemOf};
+    ghost use Rattle.ground_core.specs.Putting.{IsPut, IsAsBefore, AreItemsOf, IsWhole, AreWhole};
+    ghost use Rattle.ground_core.specs.Putting.{AreItemsFrom, values_of};
+    ghost use Rattle.life_table.specs.Rules.{IsTable};
+    ghost use Rattle.radar_core.specs.Cells.{IsCells};
 
     /// A ground that was given nothing, at a station, under a table.
     pub fn new(alloc: Global, station: StationId, table: LifeTable) -> Ground
@@ -116,11 +126,115 @@ impl Ground {
     {
         longest_is_greatest();
         keys_are_ordered();
+        accepted_is_given();
+        life_of_entries();
         if let Some(kept) = self.last_above(moment) {
             return Err(GiveFault::Clock { kept });
         }
         let item = self.item_of_text(moment, version, text)?;
         self.put(moment, item)
+    }
+
+    /// Gives the cells of a block of a version at a moment. They take the place of what was given before under its key.
+    ///
+    /// # Errors
+    ///
+    /// `Clock` exactly where the moment is below that of the last accepted call. Else the first of these: `Unlisted` where
+    /// the product has no row, `BadBlock` where the scale is over 2 or the number over 1,048,575, then `Coarse`, `Ahead`,
+    /// `Expired` and `NotNewer` as for a text. `NoMemory` where memory runs out. A refused call changes nothing that counts.
+    pub fn give_cells(
+        &mut self,
+        moment: Moment,
+        version: Moment,
+        key: &BlockKey,
+        cells: &Cells,
+    ) -> Result<(), GiveFault>
+        // For every history that the object stands for: accepted cells are one more update, which nothing stood against.
+        ensures accepted { (table : Table) (station : Place) (history : List Event)
+            → StandsFor table station self.old history
+            → OnOk result (StandsFor table station self.new (accepted moment
+            (block_update version key.now cells.now) ∷ history)) }
+        ensures nothing_against { (table : Table) (station : Place) (history : List Event)
+            → StandsFor table station self.old history
+            → OnOk result ((last_above (clock_of history) moment ≡ None)
+            × (give_refusal table (items table station history) moment
+            (block_update version key.now cells.now) ≡ None)) }
+
+        // The fault is the first reason, and the object stands for the same history.
+        ensures refused { (table : Table) (station : Place) (history : List Event)
+            → StandsFor table station self.old history
+            → IfErr result (IsToldAt (last_above (clock_of history) moment)
+            (give_refusal table (items table station history) moment
+            (block_update version key.now cells.now))) }
+        ensures same { (table : Table) (station : Place) (history : List Event)
+            → StandsFor table station self.old history
+            → OnErr result (StandsFor table station self.new history) }
+    {
+        longest_is_greatest();
+        keys_are_ordered();
+        accepted_is_given();
+        life_of_entries();
+        if let Some(kept) = self.last_above(moment) {
+            return Err(GiveFault::Clock { kept });
+        }
+        let item = self.item_of_cells(moment, version, key, cells)?;
+        self.put(moment, item)
+    }
+
+    /// Gives empty blocks of a version at a moment: each cell of them has intensity 0. They are told by their numbers, which
+    /// rise, in the area of a product, a scale and a hemisphere.
+    ///
+    /// # Errors
+    ///
+    /// `Clock` exactly where the moment is below that of the last accepted call. Else the first of these: `Unlisted` where
+    /// the product has no row, `BadBlock` where the scale is over 2 or the list is empty, does not rise strictly, has more
+    /// than 1,024 numbers or a number of 405,000 or more, then `Coarse`, `Ahead` and `Expired` as for a text, and `NotNewer`
+    /// with the version that was given for the first of the numbers that has one not below this one. `NoMemory` where memory
+    /// runs out. A refused call changes nothing that counts.
+    pub fn give_blanks(
+        &mut self,
+        moment: Moment,
+        version: Moment,
+        product: u16,
+        scale: u8,
+        south: bool,
+        numbers: &[u32],
+    ) -> Result<(), GiveFault>
+        // For every history that the object stands for: accepted blocks are one more update, which nothing stood against.
+        ensures accepted { (table : Table) (station : Place) (history : List Event)
+            → StandsFor table station self.old history
+            → OnOk result (StandsFor table station self.new (accepted moment
+            (blanks_update version product scale south numbers.now) ∷ history)) }
+        ensures nothing_against { (table : Table) (station : Place) (history : List Event)
+            → StandsFor table station self.old history
+            → OnOk result ((last_above (clock_of history) moment ≡ None)
+            × (give_refusal table (items table station history) moment
+            (blanks_update version product scale south numbers.now) ≡ None)) }
+
+        // The fault is the first reason, and the object stands for the same history.
+        ensures refused { (table : Table) (station : Place) (history : List Event)
+            → StandsFor table station self.old history
+            → IfErr result (IsToldAt (last_above (clock_of history) moment)
+            (give_refusal table (items table station history) moment
+            (blanks_update version product scale south numbers.now))) }
+        ensures same { (table : Table) (station : Place) (history : List Event)
+            → StandsFor table station self.old history
+            → OnErr result (StandsFor table station self.new history) }
+    {
+        longest_is_greatest();
+        keys_are_ordered();
+        accepted_is_given();
+        life_of_entries();
+        if let Some(kept) = self.last_above(moment) {
+            return Err(GiveFault::Clock { kept });
+        }
+        let area = Area {
+            product,
+            scale,
+            south,
+        };
+        let items = self.items_of_blanks(moment, version, area, numbers)?;
+        self.put_all(moment, &items)
     }
 
     /// Fills the frame of a slot at a moment with the front of what waits, as far as it fits; what is aired waits last from
@@ -175,7 +289,9 @@ impl Ground {
     fn last_above(&self, moment: Moment) -> Option<Moment>
         ensures last { result ≡ last_above self.now.clock moment }
         ensures in_range { IsMoment moment }
+        ensures rules { IsTable self.now.table }
     {
+        let _late = self.table.late();
         let seconds = moment.seconds();
         match self.clock {
             Some(last) if seconds < last.seconds() => Some(last),
@@ -191,9 +307,10 @@ impl Ground {
         text: &str,
     ) -> Result<SentItem, GiveFault>
         requires { length text.now < 2 ^ 32 }
-        ensures item { IfOk result (IsItemOf self.now.table (latest_at self.now.newest)
-            (count_at self.now.files) self.now.given
-            version text.now) }
+        ensures item { IfOk result (λ item. AreItemsOf (count_at self.now.files) self.now.given
+            (weather_of self.now.table (text_update version text.now)) (item ∷ [])) }
+        ensures few { IfOk result (λ item. of_file.is_segmented item.form item.payload ≡ true
+            → count_at self.now.files item.version item.product < 1024) }
         ensures in_range { OnOk result (IsMoment version) }
         ensures none { OnOk result (refusal_by self.now.table (latest_at self.now.newest)
             (count_at self.now.files)
@@ -211,31 +328,102 @@ impl Ground {
         let Ok(key) = NumberedKey::new(self.alloc, key) else {
             return Err(GiveFault::NoMemory);
         };
-        let kept = self.newest.version_of(&key);
-        if let Some(fault) = version_fault(moment, version, row.form, row.life, kept) {
+        if let Some(fault) = timing_fault(moment, version, row.form, row.life) {
+            return Err(fault);
+        }
+        if let Some(fault) = age_fault(version, self.newest.version_of(&key)) {
             return Err(fault);
         }
         let size = payload.len();
         let segmented = is_segmented(row.form, size);
-        let file = file_number(&self.files, version, REPORTS, segmented)?;
+        let file = file_number(&self.files, version, TEXT_PRODUCT, segmented)?;
         Ok(SentItem {
             serial: self.given,
             version,
             until: version.seconds() + row.life,
-            product: REPORTS,
+            product: TEXT_PRODUCT,
             form: row.form,
             file,
             count: part_count(row.form, size),
-            key,
+            keys: ItemKeys::OfReport(key),
             payload,
         })
+    }
+
+    /// What is sent of the cells of a block, or the first reason against them.
+    fn item_of_cells(
+        &self,
+        moment: Moment,
+        version: Moment,
+        key: &BlockKey,
+        cells: &Cells,
+    ) -> Result<SentItem, GiveFault>
+        ensures item { IfOk result (λ item. AreItemsFrom self.now.given
+            (weather_of self.now.table (block_update version key.now cells.now)) (item ∷ [])) }
+        ensures whole { IfOk result IsWhole }
+        ensures in_range { OnOk result (IsMoment version) }
+        ensures cells { IsCells cells.now }
+        ensures none { OnOk result (refusal_by self.now.table (latest_at self.now.newest)
+            (count_at self.now.files)
+            moment (block_update version key.now cells.now) ≡ None) }
+        ensures fault { IfErr result (IsTold (refusal_by self.now.table
+            (latest_at self.now.newest) (count_at self.now.files)
+            moment (block_update version key.now cells.now))) }
+    {
+        let _cell = cells.at(0);
+        let validity = radar_validity(&self.table, key.product, is_block(key), moment, version)?;
+        if let Some(fault) = age_fault(version, self.newest.blocks.version_of(key)) {
+            return Err(fault);
+        }
+        let Ok(item) = block_item(self.alloc, self.given, &validity, key, cells) else {
+            return Err(GiveFault::NoMemory);
+        };
+        Ok(item)
+    }
+
+    /// What is sent of empty blocks, or the first reason against them.
+    fn items_of_blanks(
+        &self,
+        moment: Moment,
+        version: Moment,
+        area: Area,
+        numbers: &[u32],
+    ) -> Result<Vec<Rc<SentItem>>, GiveFault>
+        ensures items { IfOk result (λ items. AreItemsFrom self.now.given
+            (weather_of self.now.table (blanks_update version area.product area.scale area.south
+            numbers.now)) (values_of items.items)) }
+        ensures whole { IfOk result (λ items. AreWhole (values_of items.items)) }
+        ensures in_range { OnOk result (IsMoment version) }
+        ensures none { OnOk result (refusal_by self.now.table (latest_at self.now.newest)
+            (count_at self.now.files) moment
+            (blanks_update version area.product area.scale area.south numbers.now) ≡ None) }
+        ensures fault { IfErr result (IsTold (refusal_by self.now.table
+            (latest_at self.now.newest) (count_at self.now.files) moment
+            (blanks_update version area.product area.scale area.south numbers.now))) }
+    {
+        groups_are_records();
+        let is_named = are_blanks(area.scale, numbers);
+        let validity = radar_validity(&self.table, area.product, is_named, moment, version)?;
+        if let Some(fault) = self.newest.blocks.age_fault(&area, numbers, version) {
+            return Err(fault);
+        }
+        let Ok(groups) = group_blanks(self.alloc, numbers) else {
+            return Err(GiveFault::NoMemory);
+        };
+        let Some(_) = self.given.checked_add(groups.len() as u64) else {
+            return Err(GiveFault::NoMemory);
+        };
+        let Ok(items) = group_items(self.alloc, self.given, &validity, area, &groups) else {
+            return Err(GiveFault::NoMemory);
+        };
+        Ok(items)
     }
 
     /// Puts an item behind what waits. Whatever takes memory comes before what counts is changed.
     fn put(&mut self, moment: Moment, item: SentItem) -> Result<(), GiveFault>
         requires { of_file.is_segmented item.form item.payload ≡ true
             → count_at self.old.files item.version item.product < 1024 }
-        ensures ok { OnOk result (IsPut self.old moment item self.new) }
+        ensures ok { OnOk result (IsPut self.old moment (item ∷ []) self.new) }
         ensures err { IfErr result (λ fault. fault ≡ GiveFault.NoMemory) }
         ensures unchanged { OnErr result (IsAsBefore self.old self.new) }
     {
@@ -252,16 +440,37 @@ impl Ground {
         let Ok(()) = self.line.put(&item) else {
             return Err(GiveFault::NoMemory);
         };
-        let last = Given {
-            version: item.version,
-            serial: item.serial,
-            until: item.until,
-        };
-        let Ok(()) = self.newest.put(&item.key, last) else {
+        let Ok(()) = self.newest.put(&item.keys, &given_of(&item)) else {
             self.line.keep_first(before);
             return Err(GiveFault::NoMemory);
         };
         self.files.count_item(&item);
+        self.files.forget(moment, self.life);
+        self.given = given;
+        self.clock = Some(moment);
+        Ok(())
+    }
+
+    /// Puts items of blocks behind what waits, which are all sent whole. Whatever takes memory comes before what counts is
+    /// changed.
+    fn put_all(&mut self, moment: Moment, items: &[Rc<SentItem>]) -> Result<(), GiveFault>
+        requires { AreWhole (values_of items.now) }
+        ensures ok { OnOk result (IsPut self.old moment (values_of items.now) self.new) }
+        ensures err { IfErr result (λ fault. fault ≡ GiveFault.NoMemory) }
+        ensures unchanged { OnErr result (IsAsBefore self.old self.new) }
+    {
+        let Some(given) = self.given.checked_add(items.len() as u64) else {
+            return Err(GiveFault::NoMemory);
+        };
+        let Ok(()) = self.newest.reserve_all(items) else {
+            return Err(GiveFault::NoMemory);
+        };
+        let before = self.line.len();
+        let Ok(()) = self.line.put_all(items) else {
+            self.line.keep_first(before);
+            return Err(GiveFault::NoMemory);
+        };
+        self.newest.put_all(items);
         self.files.forget(moment, self.life);
         self.given = given;
         self.clock = Some(moment);
@@ -273,8 +482,8 @@ impl Ground {
 fn greatest_life(table: &LifeTable) -> u64
     ensures { result ≡ greatest_life table.now }
 {
-    let reports = table.longest(REPORTS).unwrap_or(0);
-    let regional = table.longest(63).unwrap_or(0);
-    let conus = table.longest(64).unwrap_or(0);
+    let reports = table.longest(TEXT_PRODUCT).unwrap_or(0);
+    let regional = table.longest(REGIONAL_RADAR).unwrap_or(0);
+    let conus = table.longest(CONUS_RADAR).unwrap_or(0);
     reports.max(regional.max(conus))
 }

@@ -4,18 +4,18 @@ ghost use Rattle.fisb_time.specs.TimeForm.{shows};
 ghost use Rattle.segment_core.specs.File.{parts};
 ghost use Rattle.segment_core.specs.File as of_file;
 
-use crate::numbered_key::NumberedKey;
+use crate::item_keys::ItemKeys;
 use fisb_time::{Moment, TimeForm};
 use fisb_wire::Bytes;
 use segment_core::{is_segmented, part_at};
 
-/// What is sent of an update: its key, its version, the end of its life, and its payload, which is cut into segments where
+/// What is sent of an update: its keys, its version, the end of its life, and its payload, which is cut into segments where
 /// it is longer than one APDU carries.
 #[derive(Drop)]
 pub(crate) struct SentItem {
     /// How many items were given before it.
     pub(crate) serial: u64,
-    pub(crate) key: NumberedKey,
+    pub(crate) keys: ItemKeys,
     pub(crate) version: Moment,
     /// The second at which it is no longer sent.
     pub(crate) until: u64,

@@ -8,6 +8,7 @@ use apdu_core::apdu_reads_back;
 use dlac_text::{payload_size, reading_undoes_writing, refused_texts};
 use life_table::longest_is_greatest;
 use picture_core::laws::keys_are_ordered;
+use radar_core::laws::{blank_records_read_back, groups_are_records, run_records_read_back};
 use segment_core::laws::{parts_are_few, parts_fit_frames};
 use uplink_frame::{bodies_read_back, stations_are_told};
 
@@ -22,6 +23,9 @@ pub fn accepted_is_given()
     longest_is_greatest();
     keys_are_ordered();
     parts_are_few();
+    run_records_read_back();
+    blank_records_read_back();
+    groups_are_records();
 }
 
 /// The law of the items of a history: file numbers are unique, and so are serials, and key and version.

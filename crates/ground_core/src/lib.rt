@@ -2,17 +2,22 @@
 #![tactic(auto)]
 
 mod air_frame;
+mod area;
 mod fault;
 mod files;
 mod ground;
 mod item;
+mod item_keys;
 mod judging;
 mod laws;
 mod line;
 mod newest;
+mod newest_blocks;
 mod numbered_key;
 mod place;
 mod queue_laws;
+mod radar_items;
+mod validity;
 
 pub use air_frame::AirFrame;
 pub use fault::{FillFault, GiveFault};

@@ -1,10 +1,11 @@
 //! The queue of segments that wait.
 ghost use Rattle.std.specs.Prelude.{◌≡◌, ℕ, ◌+◌, ◌-◌, ◌*◌, ◌≤◌, ◌∷◌, [], ◌++◌, List, length, map};
-ghost use Rattle.std.specs.Prelude.{filter, drop, take, IfOk, OnOk, OnErr};
+ghost use Rattle.std.specs.Prelude.{filter, drop, take, flat_map, IfOk, OnOk, OnErr};
 ghost use Rattle.std.specs.List.{range_with_len};
 ghost use Rattle.list_members.specs.Membership.{IsIn};
 ghost use Rattle.uplink_frame.specs.UplinkFrame.{fisb_frame};
 ghost use Rattle.ground_core.specs.Views.{latest_at, piece_at};
+ghost use Rattle.ground_core.specs.Putting.{pieces_at, values_of};
 ghost use Rattle.picture_core.specs.Key.{Key};
 ghost use Rattle.ground_core.specs.Piece.{live_by, IsLastOrEnded, ArePlaced};
 
@@ -79,6 +80,21 @@ impl Line {
         Ok(())
     }
 
+    /// Puts the segments of items behind all others, one item after another, or those of some of them.
+    pub(crate) fn put_all(&mut self, items: &[Rc<SentItem>]) -> Result<(), AllocError>
+        ensures ok { OnOk result (pieces_in self.new
+            ≡ pieces_in self.old ++ flat_map pieces_at (values_of items.now)) }
+        ensures others { take (length (pieces_in self.old)) (pieces_in self.new)
+            ≡ pieces_in self.old }
+    {
+        for item in items {
+            let Ok(()) = self.put(item) else {
+                return Err(AllocError);
+            };
+        }
+        Ok(())
+    }
+
     /// Pushes the segments of an item, or some of them.
     fn push_all(&mut self, item: &Rc<SentItem>) -> Result<(), AllocError>
         ensures ok { OnOk result (pieces_in self.new
@@ -133,7 +149,7 @@ impl Line {
         aired
     }
 
-    /// Looks at the front: drops it where it is dead, and forgets its key where that has ended; airs it where it fits.
+    /// Looks at the front: drops it where it is dead, and forgets its keys where that has ended; airs it where it fits.
     fn turn(
         &mut self,
         newest: &mut Newest,
@@ -152,8 +168,8 @@ impl Line {
         let Some(front) = self.places.front() else {
             return Turn::Stopped;
         };
-        if !is_live(&front.item, newest, moment) {
-            newest.forget(&front.item.key, moment);
+        if !front.is_live(newest, moment) {
+            newest.forget(&front.item.keys, moment);
             let _ = self.places.pop_front();
             return Turn::Dropped;
         }
@@ -162,16 +178,5 @@ impl Line {
         }
         self.places.rotate_left(1);
         Turn::Aired
-    }
-}
-
-/// Whether an item is live: it was given last under its key, and its life is not over.
-fn is_live(item: &SentItem, newest: &Newest, moment: Moment) -> bool
-    ensures { (number : ℕ) → result
-        ≡ live_by (latest_at newest.now) moment (piece_at item.now number) }
-{
-    match newest.of(&item.key) {
-        Some(given) => moment.seconds() < given.until && given.serial == item.serial,
-        None => false,
     }
 }

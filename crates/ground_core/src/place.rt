@@ -5,8 +5,9 @@ ghost use Rattle.std.specs.Bool.{OnTrue, OnFalse};
 ghost use Rattle.uplink_frame.specs.UplinkFrame.{fisb_frame, spelled_frames};
 
 use crate::item::SentItem;
+use crate::newest::Newest;
 use apdu_core::{Apdu, Seg, apdu_reads_back, shown_fits, write_apdu};
-use fisb_time::fields_of;
+use fisb_time::{Moment, fields_of};
 use segment_core::laws::parts_fit_frames;
 use std::rc::Rc;
 use uplink_frame::AppData;
@@ -21,8 +22,16 @@ pub(crate) struct Place {
 
 impl Place {
     ghost use Rattle.ground_core.specs.Views.{place_view};
-    ghost use Rattle.ground_core.specs.Piece.{body_of_piece, room_of_piece};
+    ghost use Rattle.ground_core.specs.Views.{latest_at};
+    ghost use Rattle.ground_core.specs.Piece.{body_of_piece, room_of_piece, live_by};
     ghost use Rattle.segment_core.specs.File.{segmentation_of};
+
+    /// Whether it is live: its item was given last under one of its keys, and its life is not over.
+    pub(crate) fn is_live(&self, newest: &Newest, moment: Moment) -> bool
+        ensures { result ≡ live_by (latest_at newest.now) moment (place_view self.now) }
+    {
+        newest.is_live(&self.item.keys, self.item.serial, moment)
+    }
 
     /// Which segment it is, where the header says so.
     fn seg(&self) -> Option<Seg>

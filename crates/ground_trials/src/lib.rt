@@ -1,4 +1,4 @@
-//! Trials of the ground: whole rows of texts that are given and frames that are filled.
+//! Trials of the ground: whole rows of updates that are given and frames that are filled.
 #![tactic(auto)]
 
 #[cfg(test)]

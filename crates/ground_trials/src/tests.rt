@@ -2,6 +2,7 @@ use dlac_text::TextFault;
 use fisb_time::Moment;
 use ground_core::{AirFrame, FillFault, GiveFault, Ground, Station};
 use life_table::LifeTable;
+use radar_core::{BlockKey, Cells};
 use std::alloc::{AllocError, Global};
 use std::test::Fail;
 
@@ -10,22 +11,41 @@ const NOW: u64 = 1_700_000_000;
 
 const MINUTE: u64 = 1_699_999_980;
 
-/// What is answered to a text that is given.
+/// What is answered to an update that is given.
 #[derive(Clone, Copy)]
 enum Answer {
     Given,
     Clock(u64),
-    NotNewer(u64),
+    Unlisted,
+    BadBlock,
+    Coarse,
+    Ahead,
     Expired,
+    NotNewer(u64),
     TooLong,
     NoFile,
 }
+
+/// Where blocks lie: a product and a scale, north of the equator.
+#[derive(Clone, Copy)]
+struct Area(u16, u8);
+
+/// Where most blocks lie.
+const REGIONAL: Area = Area(63, 0);
 
 /// What is asked of a ground, and what it has to answer.
 #[derive(Clone, Copy)]
 enum Step {
     /// To take a text at a moment under a version: a front, and so many letters A behind it.
     Give(u64, u64, &'static str, usize, Answer),
+    /// To take a block under a version: where it lies, its number, the intensity of all its cells.
+    Cells(u64, Area, u32, u8, Answer),
+    /// To take empty blocks under a version: where they lie, and their numbers.
+    Blanks(u64, Area, &'static [u32], Answer),
+    /// To take so many empty blocks under a version, numbered from 0.
+    Many(u64, u32, Answer),
+    /// To fill a frame at a moment: it has so many bodies, which take so many bytes, and these are its first.
+    Data(u64, u16, u16, &'static [u8]),
     /// To fill a frame at a moment: it has so many bodies, which take so many bytes, and these bytes at these places, each
     /// divided by a number.
     Fill(u64, u16, u16, &'static [(usize, u8, u8)]),
@@ -69,6 +89,10 @@ fn fault_named(answer: Answer) -> Result<Option<GiveFault>, Fail> {
             let kept = moment_of(last)?;
             Ok(Some(GiveFault::NotNewer { kept }))
         }
+        Answer::Unlisted => Ok(Some(GiveFault::Unlisted)),
+        Answer::BadBlock => Ok(Some(GiveFault::BadBlock)),
+        Answer::Coarse => Ok(Some(GiveFault::Coarse)),
+        Answer::Ahead => Ok(Some(GiveFault::Ahead)),
         Answer::Expired => Ok(Some(GiveFault::Expired)),
         Answer::TooLong => Ok(Some(GiveFault::BadText(TextFault::TooLong))),
         Answer::NoFile => Ok(Some(GiveFault::NoFile)),
@@ -88,6 +112,67 @@ fn fault_of_text(
         return Err(Fail::from("a short text"));
     }
     Ok(ground.give_text(moment, version, text).err())
+}
+
+/// The fault of a block of one intensity that is given at the moment of most calls, if there is one.
+fn fault_of_cells(
+    ground: &mut Ground,
+    version: u64,
+    area: Area,
+    number: u32,
+    intensity: u8,
+) -> Result<Option<GiveFault>, Fail> {
+    let Area(product, scale) = area;
+    let key = BlockKey {
+        product,
+        scale,
+        south: false,
+        number,
+    };
+    let cells = Cells::new([intensity; 128]).ok_or("cells")?;
+    Ok(
+        ground
+            .give_cells(moment_of(NOW)?, moment_of(version)?, &key, &cells)
+            .err(),
+    )
+}
+
+/// The same of empty blocks.
+fn fault_of_blanks(
+    ground: &mut Ground,
+    version: u64,
+    area: Area,
+    numbers: &[u32],
+) -> Result<Option<GiveFault>, Fail> {
+    let Area(product, scale) = area;
+    let moment = moment_of(NOW)?;
+    let version = moment_of(version)?;
+    Ok(
+        ground
+            .give_blanks(moment, version, product, scale, false, numbers)
+            .err(),
+    )
+}
+
+/// So many numbers from 0 on.
+fn numbers_to(alloc: Global, count: u32) -> Result<Vec<u32>, AllocError> {
+    let mut numbers = Vec::new(alloc);
+    for number in 0..count {
+        numbers.push(number)?;
+    }
+    Ok(numbers)
+}
+
+/// Whether these are the first bytes of a frame's information frames.
+fn begins_with(air: &[u8; 552], data: &[u8]) -> bool {
+    let mut place = 48usize;
+    for byte in data {
+        if air.get(place) != Some(byte) {
+            return false;
+        }
+        place = place.wrapping_add(6);
+    }
+    true
 }
 
 fn has_bytes(air: &[u8; 552], bytes: &[(usize, u8, u8)]) -> bool {
@@ -140,6 +225,23 @@ fn is_answered(alloc: Global, ground: &mut Ground, step: Step) -> Result<bool, F
                     && frame.used == used
                     && has_bytes(&frame.air, bytes),
             )
+        }
+        Step::Cells(version, area, number, intensity, answer) => {
+            let fault = fault_named(answer)?;
+            Ok(fault_of_cells(ground, version, area, number, intensity)? == fault)
+        }
+        Step::Blanks(version, area, numbers, answer) => {
+            let fault = fault_named(answer)?;
+            Ok(fault_of_blanks(ground, version, area, numbers)? == fault)
+        }
+        Step::Many(version, count, answer) => {
+            let fault = fault_named(answer)?;
+            let numbers = numbers_to(alloc, count)?;
+            Ok(fault_of_blanks(ground, version, REGIONAL, numbers.as_slice())? == fault)
+        }
+        Step::Data(moment, bodies, used, data) => {
+            let frame = next_frame(ground, moment)?;
+            Ok(frame.bodies == bodies && frame.used == used && begins_with(&frame.air, data))
         }
         Step::FillEarly(moment, last) => is_refused_below(ground, moment, last),
     }
@@ -386,5 +488,120 @@ fn long_texts_of_one_version_have_1024_file_numbers(rt: HostRuntime) -> Result<(
         Step::Give(NOW, MINUTE, "METAR KSEA", 0, Answer::Given),
     ];
     assert_eq!(rt; first_wrong(alloc, &mut ground, &steps)?, None);
+    Ok(())
+}
+
+#[test]
+fn a_block_and_a_group_of_empty_blocks_are_sent(rt: HostRuntime) -> Result<(), Fail> {
+    // Four runs of 32 cells of intensity 3, and the empty blocks 100,001 and 100,005 in one record.
+    let data = &[
+        0x05, 0x80, 0x00, 0xFC, 0x58, 0xD0, 0x81, 0x86, 0xA0, 0xFB, 0xFB, 0xFB, 0xFB, 0x04, 0x00,
+        0x00, 0xFC, 0x58, 0xD0, 0x01, 0x86, 0xA1, 0x81, 0x00,
+    ];
+    let steps = [
+        Step::Cells(MINUTE, REGIONAL, 100_000, 3, Answer::Given),
+        Step::Blanks(MINUTE, REGIONAL, &[100_001, 100_005], Answer::Given),
+        Step::Data(NOW, 2, 23, data),
+        Step::Data(NOW, 2, 23, data),
+    ];
+    assert_eq!(rt; first_wrong_of_new(rt.alloc(), &steps)?, None);
+    Ok(())
+}
+
+#[test]
+fn empty_blocks_are_sent_until_each_is_superseded(rt: HostRuntime) -> Result<(), Fail> {
+    let group = &[
+        0x04, 0x00, 0x00, 0xFC, 0x58, 0xD0, 0x01, 0x86, 0xA1, 0x81, 0x05, 0x80, 0x00, 0xFC, 0x58,
+        0xE0, 0x81, 0x86, 0xA1,
+    ];
+    let newer = &[
+        0x05, 0x80, 0x00, 0xFC, 0x58, 0xE0, 0x81, 0x86, 0xA1, 0xF8, 0xF8, 0xF8, 0xF8, 0x04, 0x00,
+        0x00, 0xFC, 0x58, 0xE0, 0x01, 0x86, 0xA5, 0x01, 0x00,
+    ];
+    let steps = [
+        Step::Blanks(MINUTE, REGIONAL, &[100_001, 100_005], Answer::Given),
+        Step::Cells(MINUTE + 60, REGIONAL, 100_001, 0, Answer::Given),
+        Step::Data(NOW, 2, 23, group),
+        Step::Data(NOW, 2, 23, group),
+        Step::Blanks(MINUTE + 60, REGIONAL, &[100_005], Answer::Given),
+        Step::Data(NOW, 2, 23, newer),
+        Step::Data(NOW, 2, 23, newer),
+    ];
+    assert_eq!(rt; first_wrong_of_new(rt.alloc(), &steps)?, None);
+    Ok(())
+}
+
+#[test]
+fn empty_blocks_that_are_far_apart_are_several_items(rt: HostRuntime) -> Result<(), Fail> {
+    // Block 100,017 is 117 further than 99,900. The bit of 116 further stands in the fifteenth byte of the first bitmap.
+    let first = &[
+        0x0B, 0x00, 0x00, 0xFC, 0x58, 0xD0, 0x01, 0x86, 0x3C, 0x0F, 0x00, 0x00, 0x00, 0x00, 0x00,
+        0x00, 0x00, 0x00, 0x00, 0x00, 0x00, 0x00, 0x00, 0x80, 0x04, 0x00, 0x00, 0xFC, 0x58, 0xD0,
+        0x01, 0x86, 0xB1, 0x01, 0x00,
+    ];
+    let steps = [
+        Step::Blanks(MINUTE, REGIONAL, &[99_900, 100_016, 100_017], Answer::Given),
+        Step::Cells(MINUTE, REGIONAL, 100_016, 1, Answer::NotNewer(MINUTE)),
+        Step::Data(NOW, 2, 34, first),
+    ];
+    assert_eq!(rt; first_wrong_of_new(rt.alloc(), &steps)?, None);
+    Ok(())
+}
+
+#[test]
+fn radar_is_refused_for_its_first_fault(rt: HostRuntime) -> Result<(), Fail> {
+    let steps = [
+        Step::Give(NOW, MINUTE, "METAR KSEA", 0, Answer::Given),
+        Step::Cells(MINUTE, Area(65, 3), 1_048_576, 1, Answer::Unlisted),
+        Step::Blanks(MINUTE, Area(413, 3), &[], Answer::Unlisted),
+        Step::Cells(MINUTE + 1, Area(63, 3), 1, 1, Answer::BadBlock),
+        Step::Cells(MINUTE, Area(64, 2), 1_048_576, 1, Answer::BadBlock),
+        Step::Cells(MINUTE, Area(64, 2), 1_048_575, 1, Answer::Given),
+        Step::Blanks(MINUTE, Area(64, 3), &[1], Answer::BadBlock),
+        Step::Blanks(MINUTE, Area(64, 2), &[1, 405_000], Answer::BadBlock),
+        Step::Blanks(MINUTE, Area(64, 2), &[1, 404_999], Answer::Given),
+        Step::Blanks(MINUTE, REGIONAL, &[], Answer::BadBlock),
+        Step::Blanks(MINUTE, REGIONAL, &[1, 2, 2], Answer::BadBlock),
+        Step::Blanks(MINUTE + 1, REGIONAL, &[1], Answer::Coarse),
+        Step::Cells(MINUTE + 120, REGIONAL, 1, 1, Answer::Ahead),
+        Step::Blanks(MINUTE - 1_200, REGIONAL, &[1], Answer::Expired),
+        Step::Give(NOW + 1, MINUTE, "METAR KBFI", 0, Answer::Given),
+        Step::Cells(MINUTE, REGIONAL, 1, 1, Answer::Clock(NOW + 1)),
+    ];
+    assert_eq!(rt; first_wrong_of_new(rt.alloc(), &steps)?, None);
+    Ok(())
+}
+
+#[test]
+fn the_first_number_that_is_not_older_is_told(rt: HostRuntime) -> Result<(), Fail> {
+    let steps = [
+        Step::Cells(MINUTE - 60, REGIONAL, 100_000, 1, Answer::Given),
+        Step::Cells(MINUTE, REGIONAL, 100_001, 1, Answer::Given),
+        Step::Cells(MINUTE + 60, REGIONAL, 100_002, 1, Answer::Given),
+        Step::Blanks(
+            MINUTE,
+            REGIONAL,
+            &[100_000, 100_001, 100_002],
+            Answer::NotNewer(MINUTE),
+        ),
+        Step::Blanks(
+            MINUTE,
+            REGIONAL,
+            &[100_000, 100_002],
+            Answer::NotNewer(MINUTE + 60),
+        ),
+    ];
+    assert_eq!(rt; first_wrong_of_new(rt.alloc(), &steps)?, None);
+    Ok(())
+}
+
+#[test]
+fn one_update_has_1024_empty_blocks_at_most(rt: HostRuntime) -> Result<(), Fail> {
+    let steps = [
+        Step::Many(MINUTE, 1_025, Answer::BadBlock),
+        Step::Many(MINUTE, 1_024, Answer::Given),
+        Step::Many(MINUTE, 1_024, Answer::NotNewer(MINUTE)),
+    ];
+    assert_eq!(rt; first_wrong_of_new(rt.alloc(), &steps)?, None);
     Ok(())
 }

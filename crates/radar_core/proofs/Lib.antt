@@ -6,6 +6,7 @@ pub mod RunsLemmas
 pub mod GroupLemmas
 pub mod ReadBack
 pub mod BlankBack
+pub mod RecordBytes
 pub mod FewestRuns
 pub mod Partition
 pub mod Spelled

@@ -2,6 +2,7 @@
 use Rattle.std.specs.Prelude.{◌≡◌, ℕ, ◌<◌, ◌≤◌, List, [], ◌∷◌, length, All, Ok, flat_map}
 use Rattle.std.specs.List.{concat}
 use Rattle.std.specs.List.Sorted.{IsStrictlyIncreasing}
+use Rattle.bit_fields.specs.Bits.{AreBytes}
 use Rattle.radar_core.specs.declared.key.BlockKey.{BlockKey}
 use Rattle.radar_core.specs.declared.run.Run.{Run}
 use Rattle.radar_core.specs.Keys.{FitsKey}
@@ -16,20 +17,22 @@ pub record HasLength (most : ℕ) (bytes : List ℕ) : Type 0 where
   pub least_is : 4 ≤ length bytes
   pub most_is : length bytes ≤ most
 
--- the run record of a block reads back as that block, and has 4 to 131 bytes
+-- the run record of a block reads back as that block; it is 4 to 131 bytes
 pub record RunRecordReadsBack (key : BlockKey) (cells : List ℕ) : Type 0 where
   pub same : radar_blocks key.product (run_record key cells) ≡ Ok ((key, cells) ∷ [])
   pub size : HasLength 131 (run_record key cells)
+  pub bytes : AreBytes (run_record key cells)
 
 abbrev pub RunRecordsReadBack : Type 0
 RunRecordsReadBack =
     (key : BlockKey) (cells : List ℕ) → FitsKey key → IsCells cells → RunRecordReadsBack key cells
 
--- the empty record of a group reads back as the blocks of the group, and has 4 to 18 bytes
+-- the empty record of a group reads back as the blocks of the group; it is 4 to 18 bytes
 pub record BlankRecordReadsBack (base : BlockKey) (further : List ℕ) : Type 0 where
   pub same : radar_blocks base.product (blank_record base further)
       ≡ Ok (blank_blocks base (base.number ∷ further))
   pub size : HasLength 18 (blank_record base further)
+  pub bytes : AreBytes (blank_record base further)
 
 abbrev pub BlankRecordsReadBack : Type 0
 BlankRecordsReadBack = (base : BlockKey) (further : List ℕ) → base.scale ≤ 2 → base.number < 405000

@@ -1,4 +1,4 @@
-use Rattle.ground_core.proofs.Given.{accepted-given}
+use Rattle.ground_core.proofs.AllGiven.{accepted-given}
 use Rattle.ground_core.proofs.laws.accepted_is_given.Goals as goal
 
 pub returns : goal.returns
@@ -8,6 +8,13 @@ returns c = accepted-given (record {
   bytes = c.payload_size.ensures.bytes;
   reads = c.reading_undoes_writing.ensures.text;
   longest_life = c.longest_is_greatest.ensures.texts;
+  same = c.keys_are_ordered.ensures.same;
+  few = c.parts_are_few.ensures.texts;
+}) (record {
+  runs = c.run_records_read_back.ensures;
+  blanks = c.blank_records_read_back.ensures;
+  groups = c.groups_are_records.ensures;
+  longest_life = c.longest_is_greatest.ensures.radars;
   same = c.keys_are_ordered.ensures.same;
   few = c.parts_are_few.ensures.texts;
 })

@@ -1,12 +1,13 @@
-use Rattle.std.proofs.Common.{◌≡◌, ◌<◌, if◌then◌else◌, length, map, refl, sym, ap, subst, ◌∙◌, inr, rules}
-use Rattle.ground_core.specs.Views.{place_view, piece_at, latest_at, pieces_in}
+use Rattle.std.proofs.Common.{◌≡◌, ◌<◌, if◌then◌else◌, List, length, map, refl, sym, ap, subst, ◌∙◌, inr, rules}
+use Rattle.list_members.specs.Membership.{IsIn}
+use Rattle.ground_core.specs.Putting.{is_among}
+use Rattle.ground_core.specs.Views.{place_view, keys_in, latest_at, pieces_in}
 use Rattle.ground_core.specs.declared.item.SentItem.{SentItem}
-use Rattle.ground_core.specs.NumberedKeys.{report_key}
-use Rattle.picture_core.specs.Key.{Key, text_report, same_key}
-use Rattle.ground_core.specs.Piece.{live_by, IsLastOrEnded, ArePlaced, while_living}
+use Rattle.picture_core.specs.Key.{Key}
+use Rattle.ground_core.specs.Piece.{IsLastOrEnded, ArePlaced, while_living}
 use Rattle.ground_core.proofs.Kept.{kept_where}
-use Rattle.ground_core.proofs.Placed.{placed_dropped, placed_aired}
-use Rattle.ground_core.proofs.KeyLemmas.{same_key_itself}
+use Rattle.ground_core.proofs.Placed.{among_itself, placed_dropped, placed_aired}
+use Rattle.ground_core.proofs.KeyLemmas.{KeyLaws}
 use Rattle.ground_core.proofs.Turns.{has_front, rotated}
 use Rattle.ground_core.proofs.line.Line.turn.Goals as goal
 
@@ -15,8 +16,7 @@ returns-then-not-is_live-clause-turn c =
     let some : 0 < length c.args.self.now.places.items = search rules in
     record {
       has = has_front c.args.self.now.places.items c.in-Some.front.now some c.in-Some.ensures.lookup;
-      dead = ap (λ i. live_by (latest_at c.args.newest.now) c.args.moment (piece_at i c.in-Some.front.now.number)) (sym c.deref.ensures)
-          ∙ sym (c.is_live.ensures c.in-Some.front.now.number) ∙ c.if-not-is_live.true;
+      dead = sym c.is_live.ensures ∙ c.if-not-is_live.true;
       line = ap (map place_view) c.pop_front.ensures.rest;
       frames_stay = refl;
     }
@@ -27,8 +27,7 @@ returns-then-not-is_pushed-clause-turn c =
     record {
       cause = inr (record {
         has = has_front c.args.self.now.places.items c.in-Some.front.now some c.in-Some.ensures.lookup;
-        lives = ap (λ i. live_by (latest_at c.args.newest.now) c.args.moment (piece_at i c.in-Some.front.now.number)) (sym c.deref.ensures)
-            ∙ sym (c.is_live.ensures c.in-Some.front.now.number) ∙ c.if-not-is_live.false;
+        lives = sym c.is_live.ensures ∙ c.if-not-is_live.false;
         too_long = sym c.if-not-is_pushed.ensures.answer;
       });
       line = refl;
@@ -40,8 +39,7 @@ returns-clause-turn c =
     let some : 0 < length c.args.self.now.places.items = search rules in
     record {
       has = has_front c.args.self.now.places.items c.in-Some.front.now some c.in-Some.ensures.lookup;
-      lives = ap (λ i. live_by (latest_at c.args.newest.now) c.args.moment (piece_at i c.in-Some.front.now.number)) (sym c.deref.ensures)
-          ∙ sym (c.is_live.ensures c.in-Some.front.now.number) ∙ c.if-not-is_live.false;
+      lives = sym c.is_live.ensures ∙ c.if-not-is_live.false;
       fits = sym c.if-not-is_pushed.ensures.answer;
       line = ap (map place_view) c.rotate_left.ensures.items ∙ rotated c.args.self.now.places.items c.in-Some.front.now some c.in-Some.ensures.lookup;
       frames_are = c.if-not-is_pushed.ensures.pushed;
@@ -54,16 +52,14 @@ returns-then-not-is_live-clause-placed c h =
     let has = has_front c.args.self.now.places.items c.in-Some.front.now some c.in-Some.ensures.lookup in
     let latest = latest_at c.args.newest.now in
     let after = latest_at c.forget.new.self in
-    let own : Key = text_report (report_key c.in-Some.front.now.item.value.key) in
-    let named : Key = text_report (report_key c.deref-then-not-is_live.result.now.key) in
-    let same : named ≡ own = ap (λ (i : SentItem). text_report (report_key i.key)) c.deref-then-not-is_live.ensures in
-    let dead = ap (λ i. live_by latest c.args.moment (piece_at i c.in-Some.front.now.number)) (sym c.deref.ensures)
-    ∙ sym (c.is_live.ensures c.in-Some.front.now.number) ∙ c.if-not-is_live.true in
+    let laws : KeyLaws = record { same = c.keys_are_ordered.ensures.same; agrees = c.keys_are_ordered.ensures.agrees } in
+    let named : List Key = keys_in c.deref.result.now.keys in
+    let own : named ≡ has.front.keys = ap (λ (i : SentItem). keys_in i.keys) c.deref.ensures in
     subst (ArePlaced after) (sym (ap (map place_view) c.pop_front.ensures.rest))
-    (placed_dropped latest after c.args.moment own (pieces_in c.args.self.now) has.behind has.front has.line_is refl dead
-    (λ key. subst (IsLastOrEnded c.args.moment (latest key)) (sym (c.forget.ensures key)) (kept_where (same_key named key) c.args.moment (latest key)))
-    (c.forget.ensures own ∙ ap (λ b. if b then while_living c.args.moment (latest own) else latest own)
-    (ap (λ k. same_key k own) same ∙ same_key_itself (record { same = c.keys_are_ordered.ensures.same; agrees = c.keys_are_ordered.ensures.agrees }) own))
+    (placed_dropped latest after c.args.moment (pieces_in c.args.self.now) has.behind has.front has.line_is (sym c.is_live.ensures ∙ c.if-not-is_live.true)
+    (λ key. subst (IsLastOrEnded c.args.moment (latest key)) (sym (c.forget.ensures key)) (kept_where (is_among named key) c.args.moment (latest key)))
+    (λ key i. c.forget.ensures key
+    ∙ ap (λ b. if b then while_living c.args.moment (latest key) else latest key) (among_itself laws named key (subst (IsIn key) (sym own) i)))
     h)
 
 pub returns-clause-placed : goal.returns-clause-placed

@@ -8,7 +8,7 @@ use Rattle.ground_core.specs.NumberedKeys.{report_key, order_among}
 use Rattle.ground_core.specs.Piece.{while_living}
 use Rattle.ground_core.specs.Views.{latest_at, given_view}
 use Rattle.ground_core.proofs.LatestKeys.{by_key, removed_latest, living_latest, with_key}
-use Rattle.ground_core.proofs.newest.Newest.forget.Goals as goal
+use Rattle.ground_core.proofs.newest.Newest.forget_report.Goals as goal
 
 pub returns-then-given-seconds : goal.returns-then-given-seconds
 returns-then-given-seconds c =
@@ -16,7 +16,7 @@ returns-then-given-seconds c =
     let over : while_living c.args.moment (latest_at c.args.self.now (text_report (report_key c.args.key.now))) ≡ None
     = ap (while_living c.args.moment) (sym c.of.ensures ∙ ap (option_map given_view) c.in-Some.is)
     ∙ ap (λ b. if b then Some (given_view c.in-Some.given) else None) (le-ltb c.args.moment c.in-Some.given.until ended) in
-    by_key _ (λ (k : BlockKey). refl) (λ (k : TextKey). removed_latest (record { same = c.keys_are_ordered.ensures.same; agrees = c.keys_are_ordered.ensures.agrees }) c.args.key.now k c.args.moment (λ q. get_by (order_among q) c.args.self.now.versions) _
+    by_key _ (λ (k : BlockKey). refl) (λ (k : TextKey). removed_latest (record { same = c.keys_are_ordered.ensures.same; agrees = c.keys_are_ordered.ensures.agrees }) c.args.key.now k c.args.moment (λ q. get_by (order_among q) c.args.self.now.reports) _
     over (c.remove.ensures.updates.0 (with_key c.args.key.now k)))
 
 pub returns-else-given-seconds : goal.returns-else-given-seconds
