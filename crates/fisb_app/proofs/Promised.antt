@@ -14,7 +14,7 @@ use Rattle.run_core.specs.Limits.{line_limit}
 use Rattle.run_core.specs.Work.{Fault}
 use Rattle.run_core.specs.Lines.{lines_in, part_line}
 use Rattle.run_core.specs.Opening.{Opening, opening_at}
-use Rattle.run_core.specs.Acted.{reading, fault_of, fault_with, given_of, given_with, table_fault, table_given, opened_fault, opened_given, first_fault, given_text, refused_text}
+use Rattle.run_core.specs.Acted.{reading, fault_of, fault_with, given_of, given_with, table_fault, table_given, opened_fault, opened_given, first_fault, acted_text, refused_text}
 use Rattle.run_core.specs.Laws.{Agrees}
 use Rattle.run_core.specs.Run.{task_of}
 use Rattle.fisb_app.specs.declared.party.Party.TheVariants.{Link}
@@ -151,13 +151,13 @@ first-same : Laws → LinesHaveRanges → TablesKeepRules → (ended : Bool) (by
 unfolding first_fault
 first-same laws ranges keeps ended bytes = opened-faults laws ranges keeps ended bytes (opening_at 0 1 (lines_in ended bytes))
 
-said-same : Laws → LinesHaveRanges → TablesKeepRules → (ended : Bool) (bytes : List ℕ) → given_text link_work ended bytes ≡ given_text promised_work ended bytes
-unfolding given_text
+said-same : Laws → LinesHaveRanges → TablesKeepRules → (ended : Bool) (bytes : List ℕ) → acted_text link_work ended bytes ≡ acted_text promised_work ended bytes
+unfolding acted_text
 said-same laws ranges keeps ended bytes = opened-gives laws ranges keeps bytes (opening_at 0 1 (lines_in ended bytes))
 
 pub promised : Laws → LinesHaveRanges → TablesKeepRules → Agrees (task_of link_work) (task_of promised_work)
 promised laws ranges keeps = record {
   fault = first-same laws ranges keeps;
   output = λ ended bytes. ap (λ said. said ++ refused_text link_work (first_fault link_work ended bytes)) (said-same laws ranges keeps ended bytes)
-      ∙ ap (λ fault. given_text promised_work ended bytes ++ refused_text promised_work fault) (first-same laws ranges keeps ended bytes);
+      ∙ ap (λ fault. acted_text promised_work ended bytes ++ refused_text promised_work fault) (first-same laws ranges keeps ended bytes);
 }
