@@ -15,7 +15,7 @@ use Rattle.run_core.specs.Limits.{line_limit}
 use Rattle.run_core.specs.Work.{Fault}
 use Rattle.run_core.specs.Lines.{lines_in, part_line}
 use Rattle.run_core.specs.Opening.{Opening, opening_at}
-use Rattle.run_core.specs.Acted.{reading, fault_of, fault_with, given_of, given_with, table_fault, table_given, opened_fault, opened_given, first_fault, given_text as whole_text, refused_text}
+use Rattle.run_core.specs.Acted.{reading, fault_of, fault_with, given_of, given_with, table_fault, table_given, opened_fault, opened_given, first_fault, acted_text, refused_text}
 use Rattle.run_core.specs.Laws.{Agrees}
 use Rattle.run_core.specs.Run.{task_of}
 use Rattle.fisb_app.specs.declared.party.Party.{Party}
@@ -148,8 +148,8 @@ first-same : (party : Party) (one other : Shows) (known : LifeTable → List Lin
 unfolding first_fault
 first-same party one other known keeps ranges rules ended bytes = opened-faults party one other known keeps ranges rules ended bytes (opening_at 0 1 (lines_in ended bytes))
 
-said-same : (party : Party) (one other : Shows) (known : LifeTable → List Line → Type 0) → KeepsPictures party one other known → LinesHaveRanges → TablesKeepRules → (ended : Bool) (bytes : List ℕ) → whole_text (work_of party one) ended bytes ≡ whole_text (work_of party other) ended bytes
-unfolding whole_text
+said-same : (party : Party) (one other : Shows) (known : LifeTable → List Line → Type 0) → KeepsPictures party one other known → LinesHaveRanges → TablesKeepRules → (ended : Bool) (bytes : List ℕ) → acted_text (work_of party one) ended bytes ≡ acted_text (work_of party other) ended bytes
+unfolding acted_text
 said-same party one other known keeps ranges rules ended bytes = opened-gives party one other known keeps ranges rules bytes (opening_at 0 1 (lines_in ended bytes))
 
 pub pictures-agreed : (party : Party) (one other : Shows) (known : LifeTable → List Line → Type 0) → KeepsPictures party one other known → LinesHaveRanges → TablesKeepRules
@@ -157,5 +157,5 @@ pub pictures-agreed : (party : Party) (one other : Shows) (known : LifeTable →
 pictures-agreed party one other known keeps ranges rules = record {
   fault = first-same party one other known keeps ranges rules;
   output = λ ended bytes. ap (λ said. said ++ refused_text (work_of party one) (first_fault (work_of party one) ended bytes)) (said-same party one other known keeps ranges rules ended bytes)
-      ∙ ap (λ fault. whole_text (work_of party other) ended bytes ++ refused_text (work_of party other) fault) (first-same party one other known keeps ranges rules ended bytes);
+      ∙ ap (λ fault. acted_text (work_of party other) ended bytes ++ refused_text (work_of party other) fault) (first-same party one other known keeps ranges rules ended bytes);
 }

@@ -9,7 +9,7 @@ use Rattle.run_core.specs.declared.status.Status.{Status}
 use Rattle.run_core.specs.declared.status.Status.TheVariants.{Done, Usage, Refused, ReadFault, WriteFault, TooLong, NoMemory}
 use Rattle.run_core.specs.Limits.{input_limit, ring_limit}
 use Rattle.run_core.specs.Work.{Work, Fault}
-use Rattle.run_core.specs.Acted.{first_fault, given_text, fault_with, given_with, refused_text, output_of}
+use Rattle.run_core.specs.Acted.{first_fault, acted_text, fault_with, given_with, refused_text, output_of}
 use Rattle.run_core.specs.Run.{Ends, ends, sink_end, Ending, at_end, failed, full, stopped, task_of, HasRun, HasAnswered, HasWrittenFront, HasEnded, HasTaken, IsVerdict, IsNear, IsEnding, AppendsFront, acted_part, is_end, taken_fault, taken_output}
 use Rattle.run_core.specs.Acting.{HasStoppedOn, text_by}
 use Rattle.run_core.specs.Laws.{Begins}
@@ -46,7 +46,7 @@ pub record IsStop (work : Work) (old now : Ends) (ending : Ending) (number : ℕ
   pub later : Option Fault
   pub more : List ℕ
   pub fault : first_fault work (is_end ending) text ≡ fault_with number start read later
-  pub gives : given_text work (is_end ending) text ≡ so_far ++ given_with read more
+  pub gives : acted_text work (is_end ending) text ≡ so_far ++ given_with read more
   pub near : length text ≤ start + ring_limit
   pub within : length text ≤ input_limit
   pub consumed : Consumes old.left now.left text
@@ -158,7 +158,7 @@ module _ (work : Work) (old now : Ends) (ending : Ending) (number : ℕ) where
 pub done-answer : (work : Work) (old now : Ends) (ending : Ending) (taken so_far : List ℕ) (status : Status)
     → HasTaken old now taken ending
     → first_fault work (is_end ending) (acted_part taken) ≡ None
-    → given_text work (is_end ending) (acted_part taken) ≡ so_far → Appends old.written now.written so_far
+    → acted_text work (is_end ending) (acted_part taken) ≡ so_far → Appends old.written now.written so_far
     → now.writes ≡ old.writes
     → IsEnding ending status → HasAnswered (task_of work) old now status
 done-answer work old now ending taken so_far status took none gives written unfailed is = (
@@ -169,7 +169,7 @@ done-answer work old now ending taken so_far status took none gives written unfa
     verdict = subst (λ f. IsVerdict ending f status) (sym none) is;
     near = subst (λ f. IsNear (length taken) f) (sym none) tt;
     written = subst (λ o. Appends old.written now.written o)
-        (sym (ap (λ f. given_text work (is_end ending) (acted_part taken) ++ refused_text work f) none ∙ append-nil _
+        (sym (ap (λ f. acted_text work (is_end ending) (acted_part taken) ++ refused_text work f) none ∙ append-nil _
         ∙ gives)) written;
     unfailed = unfailed;
   },

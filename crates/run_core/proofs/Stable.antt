@@ -10,7 +10,7 @@ use Rattle.run_core.specs.Work.{Work, Fault}
 use Rattle.run_core.specs.Lines.{lines_in, part_line}
 use Rattle.run_core.specs.Opening.{Opening, opening_at, unopened_fault}
 use Rattle.run_core.specs.Reading.{newline_in}
-use Rattle.run_core.specs.Acted.{Telling, reading, part_fault, fault_with, fault_of, given_with, given_of, table_fault, table_given, opened_fault, opened_given, first_fault, given_text, refused_text, output_of}
+use Rattle.run_core.specs.Acted.{Telling, reading, part_fault, fault_with, fault_of, given_with, given_of, table_fault, table_given, opened_fault, opened_given, first_fault, acted_text, refused_text, output_of}
 use Rattle.run_core.specs.Laws.{Begins, TasksAreStable}
 use Rattle.run_core.proofs.LineCuts.{first-line, FirstLine, Splits, split, split-lines, split-part}
 use Rattle.run_core.proofs.Openings.{opening-more, opening-none, opening-size}
@@ -245,20 +245,20 @@ unfolding first_fault
 fault-stays work front more ended found is = (grows work front more ended).fault found is
 
 given-begins : (work : Work) (front more : List ℕ) (ended : Bool)
-    → Begins (given_text work false front) (given_text work ended (front ++ more))
-unfolding given_text
+    → Begins (acted_text work false front) (acted_text work ended (front ++ more))
+unfolding acted_text
 given-begins work front more ended = (grows work front more ended).begins
 
 given-stays : (work : Work) (front more : List ℕ) (ended : Bool) (found : Fault)
-    → first_fault work false front ≡ Some found → given_text work ended (front ++ more) ≡ given_text work false front
-unfolding given_text first_fault
+    → first_fault work false front ≡ Some found → acted_text work ended (front ++ more) ≡ acted_text work false front
+unfolding acted_text first_fault
 given-stays work front more ended found is = (grows work front more ended).same found is
 
 output-stays : (work : Work) (front more : List ℕ) (ended : Bool) (found : Fault)
     → first_fault work false front ≡ Some found → output_of work ended (front ++ more) ≡ output_of work false front
 output-stays work front more ended found is =
     ap (λ g. g ++ refused_text work (first_fault work ended (front ++ more))) (given-stays work front more ended found is)
-    ∙ ap (λ f. given_text work false front ++ refused_text work f) (fault-stays work front more ended found is ∙ sym is)
+    ∙ ap (λ f. acted_text work false front ++ refused_text work f) (fault-stays work front more ended found is ∙ sym is)
 
 begins-by : (work : Work) (front more : List ℕ) (ended : Bool) (fault : Option Fault)
     → first_fault work false front ≡ fault → Begins (output_of work false front) (output_of work ended (front ++ more))
@@ -270,10 +270,10 @@ begins-by work front more ended (Some found) is = (
 begins-by work front more ended None is =
     let b = given-begins work front more ended in
     let refused = refused_text work (first_fault work ended (front ++ more)) in
-    let now : output_of work false front ≡ given_text work false front = ap
-    (λ f. given_text work false front ++ refused_text work f) is ∙ append-nil (given_text work false front) in (
+    let now : output_of work false front ≡ acted_text work false front = ap
+    (λ f. acted_text work false front ++ refused_text work f) is ∙ append-nil (acted_text work false front) in (
       b.0 ++ refused,
-      ap (λ g. g ++ refused) b.1 ∙ append_assoc (given_text work false front) b.0 refused
+      ap (λ g. g ++ refused) b.1 ∙ append_assoc (acted_text work false front) b.0 refused
           ∙ ap (λ g. g ++ (b.0 ++ refused)) (sym now),
     )
 

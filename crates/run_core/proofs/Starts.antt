@@ -13,7 +13,7 @@ use Rattle.run_core.specs.Limits.{input_limit, ring_limit}
 use Rattle.run_core.specs.Work.{Work}
 use Rattle.run_core.specs.Lines.{lines_in, part_line}
 use Rattle.run_core.specs.Opening.{Opening, opening_at}
-use Rattle.run_core.specs.Acted.{first_fault, given_text, fault_of, given_of, table_fault, table_given, opened_fault, opened_given}
+use Rattle.run_core.specs.Acted.{first_fault, acted_text, fault_of, given_of, table_fault, table_given, opened_fault, opened_given}
 use Rattle.run_core.specs.Run.{Ends, ends, source_end, at_end, failed, stopped, HasRun, task_of}
 use Rattle.run_core.specs.Running.{IsAt, IsFilled}
 use Rattle.run_core.specs.Searched.{IsTable, IsHeld, IsLast}
@@ -33,8 +33,8 @@ unfolding first_fault
 fault-of-opening work ended text opening is = ap (opened_fault work ended text) is
 
 given-of-opening : (work : Work) (ended : Bool) (text : List ℕ) (opening : Option Opening)
-    → opening_at 0 1 (lines_in ended text) ≡ opening → given_text work ended text ≡ opened_given work text opening
-unfolding given_text
+    → opening_at 0 1 (lines_in ended text) ≡ opening → acted_text work ended text ≡ opened_given work text opening
+unfolding acted_text
 given-of-opening work ended text opening is = ap (opened_given work text) is
 
 nothing-written : (before now : Option (List ℕ)) → now ≡ before → Appends before now []
@@ -65,7 +65,7 @@ module _ (work : Work) (old now : Ends) (input : Input) (size number : ℕ) (fil
 
   found-given : (ended : Bool) (more : List ℕ) (opened : Option Reason) → IsTable input.ring.items size number
       → work.opened (take size input.ring.items) ≡ opened
-      → given_text work ended (input.ring.items ++ more) ≡ table_given opened
+      → acted_text work ended (input.ring.items ++ more) ≡ table_given opened
       (given_of (work.told (take size input.ring.items)) [] (lines_in ended (drop (size + 4) input.ring.items ++ more)))
   found-given ended more opened found is =
       given-of-opening work ended (input.ring.items ++ more) _ (found.opened ended more)
@@ -115,7 +115,7 @@ module _ (work : Work) (old now : Ends) (input : Input) (size number : ℕ) (fil
         later = None;
         more = [];
         fault = ap (first_fault work false) all ∙ found-fault false [] (Some why) found is;
-        gives = ap (given_text work false) all ∙ found-given false [] (Some why) found is;
+        gives = ap (acted_text work false) all ∙ found-given false [] (Some why) found is;
         near = omega (arith, fits);
         within = short;
         consumed = filled.consumed;
@@ -158,7 +158,7 @@ module _ (work : Work) (old now : Ends) (input : Input) (size number : ℕ) (fil
       (ap (first_fault work true) part ∙ fault-of-opening work true input.ring.items _ last.opened
       ∙ ap (λ o. table_fault number o (fault_of (work.told (take size input.ring.items)) [] (number + 1)
       (size + 4) [] [])) is)
-      (ap (given_text work true) part ∙ given-of-opening work true input.ring.items _ last.opened
+      (ap (acted_text work true) part ∙ given-of-opening work true input.ring.items _ last.opened
       ∙ ap (λ o. table_given o []) is)
       (nothing-written old.written now.written filled.written) filled.writes refl
 
@@ -223,7 +223,7 @@ failed-answer work old now input taken consumed written writes rose none short w
     let test : nat_le ring_limit (length input.ring.items) ≡ false = grind (arith, nat_tests) in
     done-answer work old now failed input.ring.items [] ReadFault (record { consumed = consumed; ended = (rose, fits) })
     (ap (first_fault work false) part ∙ fault-of-opening work false input.ring.items None none ∙ rw test refl)
-    (ap (given_text work false) part ∙ given-of-opening work false input.ring.items None none)
+    (ap (acted_text work false) part ∙ given-of-opening work false input.ring.items None none)
     (nothing-written old.written now.written written) writes refl
 
 -- memory was not found before the first read

@@ -10,7 +10,7 @@ use Rattle.run_core.specs.declared.status.Status.TheVariants.{Done, ReadFault, T
 use Rattle.run_core.specs.Limits.{input_limit, line_limit, ring_limit}
 use Rattle.run_core.specs.Work.{Work}
 use Rattle.run_core.specs.Lines.{lines_in, part_line}
-use Rattle.run_core.specs.Acted.{first_fault, given_text, reading, part_fault, fault_with, fault_of, given_with, given_of}
+use Rattle.run_core.specs.Acted.{first_fault, acted_text, reading, part_fault, fault_with, fault_of, given_with, given_of}
 use Rattle.run_core.specs.Reading.{HasGrown, newline_in}
 use Rattle.run_core.specs.Acting.{HasActedAs}
 use Rattle.run_core.specs.Run.{Ends, ends, sink_end, source_end, at_end, failed, full, stopped, HasRun, task_of}
@@ -37,7 +37,7 @@ module _ (work : Work) (table : List ℕ) (number : ℕ) (old : Ends) where
         fault = λ ended more. ap (first_fault work ended) (append_assoc a.text piece more) ∙ a.fault ended (piece ++ more)
             ∙ ap (λ xs. fault_of (work.told table) a.past number a.start (lines_in ended xs) (part_line ended xs))
             (same more);
-        gives = λ ended more. ap (given_text work ended) (append_assoc a.text piece more) ∙ a.gives ended (piece ++ more)
+        gives = λ ended more. ap (acted_text work ended) (append_assoc a.text piece more) ∙ a.gives ended (piece ++ more)
             ∙ ap (λ xs. a.so_far ++ given_of (work.told table) a.past (lines_in ended xs)) (same more);
         place = (let p = a.place in let i = ap length g.items ∙ length-append input.ring.items piece in
             let t = length-append a.text piece in omega (arith, p, i, t));
@@ -111,13 +111,13 @@ module _ (work : Work) (table : List ℕ) (number : ℕ) (old : Ends) where
     whole : (ended : Bool) (a : IsAt work table stands number old now input)
         → (first_fault work ended a.text ≡ fault_of (work.told table) a.past number a.start
         (lines_in ended input.ring.items) (part_line ended input.ring.items))
-        × (given_text work ended a.text ≡ a.so_far ++ given_of (work.told table) a.past (lines_in ended input.ring.items))
+        × (acted_text work ended a.text ≡ a.so_far ++ given_of (work.told table) a.past (lines_in ended input.ring.items))
     whole ended a =
         let text = sym (append-nil a.text) in
         let items = append-nil input.ring.items in (
           ap (first_fault work ended) text ∙ a.fault ended []
               ∙ ap (λ xs. fault_of (work.told table) a.past number a.start (lines_in ended xs) (part_line ended xs)) items,
-          ap (given_text work ended) text ∙ a.gives ended []
+          ap (acted_text work ended) text ∙ a.gives ended []
               ∙ ap (λ xs. a.so_far ++ given_of (work.told table) a.past (lines_in ended xs)) items,
         )
 
@@ -137,7 +137,7 @@ module _ (work : Work) (table : List ℕ) (number : ℕ) (old : Ends) where
           fault = ap (first_fault work false) (sym (append-nil a.text)) ∙ a.fault false []
               ∙ ap (λ ls. fault_of (work.told table) a.past number a.start ls part)
               (lines-cut false e input.ring.items [] found ∙ ap (λ l. l ∷ later) (sym is));
-          gives = ap (given_text work false) (sym (append-nil a.text)) ∙ a.gives false []
+          gives = ap (acted_text work false) (sym (append-nil a.text)) ∙ a.gives false []
               ∙ ap (λ ls. a.so_far ++ given_of (work.told table) a.past ls)
               (lines-cut false e input.ring.items [] found ∙ ap (λ l. l ∷ later) (sym is));
           near = (let p = a.place in omega (arith, p, fits));
@@ -213,7 +213,7 @@ module _ (work : Work) (table : List ℕ) (number : ℕ) (old : Ends) where
         (ap (first_fault work true) part ∙ both.0 ∙ ap
         (λ ls. fault_of (work.told table) a.past number a.start ls []) lines
         ∙ line-fault a.past a.start line [] [] text acted.read_is)
-        (ap (given_text work true) part ∙ both.1 ∙ ap (λ ls. a.so_far ++ given_of (work.told table) a.past ls) lines
+        (ap (acted_text work true) part ∙ both.1 ∙ ap (λ ls. a.so_far ++ given_of (work.told table) a.past ls) lines
         ∙ ap (λ g. a.so_far ++ g) (line-gives a.past line [] text acted.read_is ∙ append-nil text))
         (Appends-trans _ _ _ _ _ a.written acted.written) (acted.unfailed ∙ a.writes) refl
 
@@ -228,14 +228,14 @@ module _ (work : Work) (table : List ℕ) (number : ℕ) (old : Ends) where
         done-answer work old now at_end a.text a.so_far Done
         (record { consumed = a.consumed; ended = (end, a.reads, short) })
         (ap (first_fault work true) part ∙ both.0 ∙ ap (λ ls. fault_of (work.told table) a.past number a.start ls []) lines)
-        (ap (given_text work true) part ∙ both.1 ∙ ap (λ ls. a.so_far ++ given_of (work.told table) a.past ls) lines
+        (ap (acted_text work true) part ∙ both.1 ∙ ap (λ ls. a.so_far ++ given_of (work.told table) a.past ls) lines
         ∙ append-nil a.so_far)
         a.written a.writes refl
 
     -- no line is whole, and the part line is no fault
     open-part : (a : IsAt work table stands number old now input) → newline_in input.ring.items ≡ None
         → length input.ring.items ≤ line_limit
-        → (first_fault work false a.text ≡ None) × (given_text work false a.text ≡ a.so_far)
+        → (first_fault work false a.text ≡ None) × (acted_text work false a.text ≡ a.so_far)
     open-part a none short =
         let both = whole false a in
         let lines = no-line input.ring.items none in
@@ -262,7 +262,7 @@ module _ (work : Work) (table : List ℕ) (number : ℕ) (old : Ends) where
           ended =
               ((let same = a.reads in omega (arith, rose, same)), fits);
         })
-        (ap (first_fault work false) part ∙ open'.0) (ap (given_text work false) part ∙ open'.1) a.written a.writes refl
+        (ap (first_fault work false) part ∙ open'.0) (ap (acted_text work false) part ∙ open'.1) a.written a.writes refl
 
     -- a byte past the limit came
     pub full-run : (left : Option (List ℕ)) (reads byte : ℕ) → IsAt work table stands number old now input
@@ -279,4 +279,4 @@ module _ (work : Work) (table : List ℕ) (number : ℕ) (old : Ends) where
           ended =
               (same ∙ a.reads, length-append a.text (byte ∷ []) ∙ ap (λ n. n + 1) size);
         })
-        (ap (first_fault work false) part ∙ open'.0) (ap (given_text work false) part ∙ open'.1) a.written a.writes refl
+        (ap (first_fault work false) part ∙ open'.0) (ap (acted_text work false) part ∙ open'.1) a.written a.writes refl

@@ -68,8 +68,8 @@ unfoldable pub first_fault : Work → Bool → List ℕ → Option Fault
 first_fault work ended text = opened_fault work ended text (opening_at 0 1 (lines_in ended text))
 
 -- what the lines acted on give
-unfoldable pub given_text : Work → Bool → List ℕ → List ℕ
-given_text work ended text = opened_given work text (opening_at 0 1 (lines_in ended text))
+unfoldable pub acted_text : Work → Bool → List ℕ → List ℕ
+acted_text work ended text = opened_given work text (opening_at 0 1 (lines_in ended text))
 
 abbrev pub refused_text : Work → Option Fault → List ℕ
 refused_text work None = []
@@ -77,4 +77,4 @@ refused_text work (Some fault) = work.refusal fault.line fault.reason
 
 -- the output: what the lines acted on give, and the refusal of the first fault
 abbrev pub output_of : Work → Bool → List ℕ → List ℕ
-output_of work ended text = given_text work ended text ++ refused_text work (first_fault work ended text)
+output_of work ended text = acted_text work ended text ++ refused_text work (first_fault work ended text)

@@ -5,7 +5,7 @@ use Rattle.run_core.specs.declared.input.Input.{Input}
 use Rattle.run_core.specs.Work.{Work}
 use Rattle.run_core.specs.Lines.{lines_in, part_line}
 use Rattle.run_core.specs.Opening.{opening_at}
-use Rattle.run_core.specs.Acted.{first_fault, given_text, fault_of, given_of}
+use Rattle.run_core.specs.Acted.{first_fault, acted_text, fault_of, given_of}
 use Rattle.run_core.specs.Run.{Ends}
 
 -- The actor stands for the lines acted on. The bytes taken are `text`; those that are not yet acted
@@ -21,7 +21,7 @@ pub record IsAt (work : Work) (table : List ℕ) (stands : List (List ℕ) → T
   pub fault : (ended : Bool) (more : List ℕ) → first_fault work ended (text ++ more)
       ≡ fault_of (work.told table) past number start (lines_in ended (input.ring.items ++ more))
       (part_line ended (input.ring.items ++ more))
-  pub gives : (ended : Bool) (more : List ℕ) → given_text work ended (text ++ more)
+  pub gives : (ended : Bool) (more : List ℕ) → acted_text work ended (text ++ more)
       ≡ so_far ++ given_of (work.told table) past (lines_in ended (input.ring.items ++ more))
   pub place : start + length input.ring.items ≡ length text
   pub taken : input.taken ≡ length text
