@@ -19,7 +19,7 @@ const MOST_FIRST_ROOM: usize = 64;
 pub fn reports(alloc: Global, payload: &[u8]) -> Result<Vec<Report>, AllocError>
     ensures { IfOk result (λ found. found.items ≡ reports_of payload.now) }
 {
-    let mut reader = Reader::new(alloc, first_room(payload));
+    let mut reader = Reader::new(alloc, first_room(payload))?;
     let mut rest = payload;
     while let [x, y, z, more @ ..] = rest {
         reader.take_three(*x, *y, *z)?;

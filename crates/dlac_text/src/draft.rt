@@ -33,6 +33,15 @@ impl Draft {
         }
     }
 
+    /// A text without characters, with room for a number of them.
+    pub(crate) fn with_room(alloc: Global, room: usize) -> Result<Draft, AllocError>
+        ensures { IfOk result (λ draft. draft ≡ []) }
+    {
+        Ok(Draft {
+            characters: Vec::with_capacity(alloc, room)?,
+        })
+    }
+
     /// Whether there is no character.
     pub(crate) fn is_empty(&self) -> bool
         ensures { result ≡ nat_eq (length self.now) 0 }
@@ -56,13 +65,6 @@ impl Draft {
     {
         self.characters.extend_from_slice(&characters)?;
         Ok(())
-    }
-
-    /// Makes room for a number of characters more.
-    pub(crate) fn make_room(&mut self, number: usize) -> Result<(), AllocError>
-        ensures { self.new ≡ self.old }
-    {
-        self.characters.reserve(number)
     }
 
     /// Puts a number of spaces at the end.

@@ -39,17 +39,19 @@ impl Model for Reader {
 }
 
 impl Reader {
-    /// A reader that has read no code, with the room with which texts begin.
-    pub(crate) fn new(alloc: Global, room: usize) -> Reader
-        ensures { result ≡ record { reports = []; text = []; is_tab = false } }
+    /// A reader that has read no code, with the room with which texts begin. Most payloads have one
+    /// report, for which there is room.
+    pub(crate) fn new(alloc: Global, room: usize) -> Result<Reader, AllocError>
+        ensures { IfOk result
+            (λ reader. reader ≡ record { reports = []; text = []; is_tab = false }) }
     {
-        Reader {
+        Ok(Reader {
             alloc,
             room,
-            found: Vec::new(alloc),
+            found: Vec::with_capacity(alloc, 1)?,
             text: Draft::new(alloc),
             is_tab: false,
-        }
+        })
     }
 
     /// Reads the four codes of three bytes.
@@ -132,7 +134,7 @@ impl Reader {
         ensures { self.new ≡ self.old }
     {
         if self.text.is_empty() {
-            self.text.make_room(self.room)?;
+            self.text = Draft::with_room(self.alloc, self.room)?;
         }
         Ok(())
     }

@@ -3,8 +3,8 @@ ghost use Rattle.std.specs.Prelude.{◌≡◌, IfOk, IfErr, Ok};
 ghost use Rattle.text_reports.specs.TextKey.{IsWord, text_key, text_key_cmp, words_of};
 ghost use Rattle.text_reports.specs.Views.{key_view, IsFault, third_of, IsThirdFault};
 
-use crate::word::Word;
 use crate::cut::first_word;
+use crate::word::Word;
 use life_table::LifeTable;
 use std::alloc::{AllocError, Global};
 use std::cmp::Ordering;

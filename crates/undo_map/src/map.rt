@@ -176,7 +176,14 @@ impl<K: Duplicate, V: Lasting> UndoMap<K, V> {
             → HaveMarkedPlaces K.cmp V.end ends.new.places self.new }
     {
         if self.is_marked {
-            return put_step(self.alloc, &mut self.entries, &mut self.steps, ends, key, value);
+            return put_step(
+                self.alloc,
+                &mut self.entries,
+                &mut self.steps,
+                ends,
+                key,
+                value,
+            );
         }
         let mut steps = Vec::new(self.alloc);
         put_step(self.alloc, &mut self.entries, &mut steps, ends, key, value)
