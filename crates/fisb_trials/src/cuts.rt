@@ -44,19 +44,13 @@ fn answer(size: usize) -> (Status, &'static [u8]) {
             b"refused 1 notable\n".as_slice(),
         ),
         3..=4 => (Status::Done, b"".as_slice()),
-        5..=30 => (
-            refused(2, Reason::Syntax),
-            b"refused 2 syntax\n".as_slice(),
-        ),
+        5..=30 => (refused(2, Reason::Syntax), b"refused 2 syntax\n".as_slice()),
         31..=37 => (
             refused(2, Reason::FewWords),
             b"refused 2 words\n".as_slice(),
         ),
         38..=42 => (Status::Done, b"".as_slice()),
-        43..=58 => (
-            refused(3, Reason::Syntax),
-            b"refused 3 syntax\n".as_slice(),
-        ),
+        43..=58 => (refused(3, Reason::Syntax), b"refused 3 syntax\n".as_slice()),
         59..=60 => (Status::Done, SENT),
         61..=76 => (
             refused(4, Reason::Syntax),
@@ -65,8 +59,7 @@ fn answer(size: usize) -> (Status, &'static [u8]) {
         77..=78 => (Status::Done, HEARD),
         79..=92 => (
             refused(5, Reason::Syntax),
-            b"sent 0 1700000001 0 1 15\nheard 1700000002 0 0 0 0 0 0 0 0\nrefused 5 syntax\n"
-                .as_slice(),
+            b"sent 0 1700000001 0 1 15\nheard 1700000002 0 0 0 0 0 0 0 0\nrefused 5 syntax\n".as_slice(),
         ),
         _ => (Status::Done, SHOWN),
     }

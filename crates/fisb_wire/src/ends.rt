@@ -5,8 +5,8 @@ ghost use Rattle.std.specs.Io.KnownBytes.{ReadConsumes, WriteAppends};
 ghost use Rattle.fisb_wire.specs.Faults.{HasCause};
 ghost use Rattle.fisb_wire.specs.Ends.{TakesSome, FitsSpare, SpendsTaken, IsReached};
 
-/// A read or a write that failed. Nothing was then read or written, and the source or the sink counts
-/// one fault more.
+/// A read or a write that failed. Nothing was then read or written, and the source or the sink
+/// counts one fault more.
 #[derive(Clone, Copy, Debug, PartialEq, Eq)]
 pub struct Failed;
 

@@ -36,8 +36,8 @@ impl<R: Read> Source for StdSource<R> {
 
     fn read(&mut self, room: &mut [u8]) -> Result<usize, Failed>
         ensures bound { ReadsAtMost result room.new }
-        ensures bytes { ReadConsumes (R.remaining (reader_of self.old)) (R.remaining (reader_of self.new))
-            result room.new }
+        ensures bytes { ReadConsumes (R.remaining (reader_of self.old))
+            (R.remaining (reader_of self.new)) result room.new }
         ensures cause { HasCause (counted (failed_reads self.old)) (counted (failed_reads self.new))
             result }
         ensures kept { OnOk result
@@ -89,8 +89,8 @@ impl<W: Write> Sink for StdSink<W> {
 
     fn write(&mut self, piece: &[u8]) -> Result<usize, Failed>
         ensures some { TakesSome result (length piece.now) }
-        ensures bytes { WriteAppends (W.contents (writer_of self.old)) (W.contents (writer_of self.new))
-            result piece.now }
+        ensures bytes { WriteAppends (W.contents (writer_of self.old))
+            (W.contents (writer_of self.new)) result piece.now }
         ensures spare { SpendsTaken None None result }
         ensures cause { HasCause (counted (failed_writes self.old))
             (counted (failed_writes self.new)) result }
