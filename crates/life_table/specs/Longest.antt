@@ -21,7 +21,8 @@ pub record IsLongest (table : LifeTable) (product life : ℕ) : Type 0 where
 
 -- a row of reports lives no longer than the longest life of text
 abbrev pub TextsAreWithin : Type 0
-TextsAreWithin = (table : LifeTable) (word : List ℕ) (row : TextRow) → text_row table word ≡ Some row
+TextsAreWithin = (table : LifeTable) (word : List ℕ) (row : TextRow)
+    → text_row table word ≡ Some row
     → (life : ℕ) × (longest table text_product ≡ Some life) × (row.life ≤ life)
 
 -- a row of radar, in a table that keeps the rules, lives no longer than the longest life of its

@@ -70,7 +70,8 @@ taken_reasons table a taken.Waits = []
 taken_reasons table a taken.Again = []
 taken_reasons table a taken.Stale = Stale ∷ []
 
--- an information frame that does not arrive, or what is passed on of the payload that it makes whole
+-- an information frame that does not arrive, or what is passed on of the payload that it makes
+-- whole
 abbrev pub frame_reasons : LifeTable → List Arrival → Result Arrival UnreadReason
     → List UnreadReason
 frame_reasons table before (Err reason) = reason ∷ []
