@@ -9,3 +9,5 @@ pub mod CellDigits
 pub mod FieldRanges
 pub mod RadarRanges
 pub mod LineRanges
+pub mod PrintLines
+pub mod PrintLists

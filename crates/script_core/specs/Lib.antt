@@ -2,3 +2,4 @@ pub mod Script
 pub mod Fields
 pub mod LineView
 pub mod Laws
+pub mod Printed

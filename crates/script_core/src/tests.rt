@@ -1,4 +1,6 @@
-use crate::{Line, LineFault, ranges_of_lines, read_line};
+use crate::{Line, LineFault, print_lost, print_noapp, print_sent, ranges_of_lines, read_line};
+use fisb_time::Moment;
+use ground_core::AirFrame;
 use radar_core::BlockKey;
 use std::alloc::{AllocError, Global};
 use std::process::Abort;
@@ -329,6 +331,30 @@ fn frame_is_1104_hexadecimal_digits(rt: HostRuntime) -> Result<(), Fail> {
     }
     let early = format!(in rt.alloc(); "rx 946684799 {digits}")?;
     check_refused(&rt, rt.alloc(), early.as_str());
+    Ok(())
+}
+
+#[test]
+fn frames_are_printed(rt: HostRuntime) -> Result<(), Fail> {
+    let moment = Moment::new(1_700_000_001).ok_or("moment")?;
+    let frame = AirFrame {
+        moment,
+        slot: 31,
+        bodies: 2,
+        used: 48,
+        air: [0xA5; 552],
+    };
+    let sent = print_sent(rt.alloc(), 65_535, &frame, false)?;
+    assert_eq!(rt; sent.all(), b"sent 65535 1700000001 31 2 48\n".as_slice());
+    let digits = repeated(rt.alloc(), "a5", 552)?;
+    let digits = digits.as_str();
+    let line = format!(in rt.alloc(); "sent 0 1700000001 31 2 48 {digits}\n")?;
+    let with_air = print_sent(rt.alloc(), 0, &frame, true)?;
+    assert_eq!(rt; with_air.all(), line.as_str().as_bytes());
+    let lost = print_lost(rt.alloc(), moment, 5)?;
+    assert_eq!(rt; lost.all(), b"lost 1700000001 5\n".as_slice());
+    let noapp = print_noapp(rt.alloc(), moment)?;
+    assert_eq!(rt; noapp.all(), b"noapp 1700000001\n".as_slice());
     Ok(())
 }
 
