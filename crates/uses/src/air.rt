@@ -1,0 +1,21 @@
+//! A payload that goes through the air.
+ghost use Rattle.std.specs.Prelude.{◌≡◌, ◌<◌, Ok};
+
+use uplink_weave::{Lost, burst_gives_payload, unweave, weave};
+
+/// Sends a payload as a frame in which one byte is heard wrong, and gives what is received. It is
+/// the payload: no block is lost.
+pub fn payload_through_air(payload: &[u8; 432], place: usize, heard: u8) -> Result<[u8; 432], Lost>
+    requires { place < 552 }
+    ensures { result ≡ Ok payload.now }
+{
+    burst_gives_payload();
+    let mut air = [0; 552];
+    weave(payload, &mut air);
+    air[place] = heard;
+    let mut received = [0; 432];
+    match unweave(&air, &mut received) {
+        Ok(_) => Ok(received),
+        Err(lost) => Err(lost),
+    }
+}
