@@ -7,8 +7,8 @@ use fisb_app::{
     Ear, Reason, Status, run_gdl, run_ground, run_link, run_link_over, run_make, run_receive,
 };
 use fisb_time::Moment;
-use gdl90_core::{Deframer, Framed};
 use fisb_wire::{Bytes, FaithfulSource, MemorySink, MemorySource, Numbers, PieceSource};
+use gdl90_core::{Deframer, Framed};
 use life_table::LifeTable;
 use picture_core::Entries;
 use receiver_core::{HearFault, Heard, Receiver, ShowFault};
@@ -152,7 +152,10 @@ fn a_frame_of_a_ground_is_received(rt: HostRuntime) -> Result<(), Fail> {
     let script = frame_script(rt.alloc(), b"show 1700000003\n")?;
     let mut source = FaithfulSource::new(Bytes::of(script));
     let mut sink = MemorySink::new(rt.alloc(), 4096, numbers(rt.alloc(), &[])?)?;
-    assert_eq!(rt; run_receive(rt.alloc(), &mut source, &mut sink), Status::Done);
+    assert_eq!(rt;
+        run_receive(rt.alloc(), &mut source, &mut sink),
+        Status::Done
+    );
     assert_eq!(rt; sink.taken(), RECEIVED);
     Ok(())
 }
