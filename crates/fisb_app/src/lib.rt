@@ -9,7 +9,6 @@ mod in_order;
 pub mod laws;
 mod line_kinds;
 mod link;
-mod number;
 mod party;
 mod printing;
 mod receiver_alone;
