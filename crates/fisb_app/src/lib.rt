@@ -11,7 +11,6 @@ mod line_kinds;
 mod link;
 mod number;
 mod party;
-mod printing;
 mod receiver_alone;
 mod relay;
 mod sender;
