@@ -10,7 +10,6 @@ pub mod laws;
 mod line_kinds;
 mod link;
 mod party;
-mod printing;
 mod receiver_alone;
 mod relay;
 mod sender;
