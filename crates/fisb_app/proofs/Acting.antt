@@ -8,6 +8,7 @@ use Rattle.life_table.specs.LifeTable.{LifeTable}
 use Rattle.receiver_core.specs.Reception.{Reception, received_picture}
 use Rattle.receiver_core.specs.Answers.{HasShown}
 use Rattle.script_core.specs.Script.{Line, empty, hear, show}
+use Rattle.script_core.specs.Printed.{picture_text}
 use Rattle.refusal_core.specs.declared.reason.Reason.{Reason}
 use Rattle.refusal_core.specs.declared.reason.Reason.TheVariants.{Clock}
 use Rattle.run_core.specs.declared.stop.Stop.{Stop}
@@ -16,7 +17,7 @@ use Rattle.fisb_app.specs.declared.link.Link.{Link}
 use Rattle.fisb_app.specs.declared.party.Party.TheVariants.{Link as LinkParty}
 use Rattle.fisb_app.specs.Past.{sent_frames, air_heard, reception_from, received_frame, receptions}
 use Rattle.fisb_app.specs.Reading.{frame_refusal, receiver_refusal, own_refusal}
-use Rattle.fisb_app.specs.Output.{heard_text, heard_frame, heard_picture, picture_text, given_text}
+use Rattle.fisb_app.specs.Output.{heard_text, heard_frame, heard_picture, given_text}
 use Rattle.fisb_app.specs.Stands.{Sends, Hears, Holds, LinkHolds, HasTried, IsFound, sent_view, aired_view}
 use Rattle.fisb_app.proofs.Receiving.{HasReceived}
 

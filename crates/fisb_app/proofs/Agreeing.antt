@@ -6,6 +6,7 @@ use Rattle.life_table.specs.TableIn.{table_in}
 use Rattle.life_table.specs.Fault.{Fault as TableFault}
 use Rattle.life_table.specs.Rules.{IsTable}
 use Rattle.script_core.specs.Script.{Line, show}
+use Rattle.script_core.specs.Printed.{picture_text}
 use Rattle.script_core.specs.Fields.{line_of}
 use Rattle.script_core.specs.LineView.{HasRanges}
 use Rattle.script_core.specs.Laws.{LinesHaveRanges}
@@ -21,7 +22,7 @@ use Rattle.run_core.specs.Run.{task_of}
 use Rattle.fisb_app.specs.declared.party.Party.{Party}
 use Rattle.fisb_app.specs.Past.{lines_of}
 use Rattle.fisb_app.specs.Reading.{refusal_of}
-use Rattle.fisb_app.specs.Output.{Shows, given_text, picture_text}
+use Rattle.fisb_app.specs.Output.{Shows, given_text}
 use Rattle.fisb_app.specs.Work.{answer, formed_answer, text_unless, opening_table, opened_with, work_of}
 use Rattle.fisb_app.proofs.Judging.{answer-formed, lines-more}
 

@@ -2,8 +2,6 @@ pub mod Judging
 pub mod Turning
 pub mod Found
 pub mod Steps
-pub mod PrintLines
-pub mod PrintLists
 pub mod Damaged
 pub mod Sound
 pub mod Origins

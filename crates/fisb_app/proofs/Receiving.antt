@@ -13,9 +13,10 @@ use Rattle.receiver_core.specs.declared.heard.Heard.{Heard}
 use Rattle.refusal_core.specs.declared.reason.Reason.TheVariants.{Clock}
 use Rattle.run_core.specs.declared.stop.Stop.{Stop}
 use Rattle.run_core.specs.declared.stop.Stop.TheVariants.{Refused, NoMemory}
+use Rattle.script_core.specs.Printed.{heard_lines}
 use Rattle.fisb_app.specs.Past.{reception_from, reception_by}
 use Rattle.fisb_app.specs.Reading.{receiver_refusal}
-use Rattle.fisb_app.specs.Output.{heard_text, heard_by, heard_payload, heard_lines}
+use Rattle.fisb_app.specs.Output.{heard_text, heard_by, heard_payload}
 use Rattle.fisb_app.specs.Stands.{HasTried, HasUnheard}
 
 no-clock : (last : Option ℕ) (rest : Option HearRefusal) → option_or (option_map clock last) rest ≡ None → option_map Clock last ≡ None

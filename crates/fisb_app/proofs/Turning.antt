@@ -1,5 +1,5 @@
 -- A frame more that was sent.
-use Rattle.std.proofs.Common.{◌≡◌, ℕ, ◌+◌, true, false, List, [], ◌∷◌, ◌++◌, length, map, refl, sym, ap, ◌∙◌, decimal, codes, arith}
+use Rattle.std.proofs.Common.{◌≡◌, ℕ, ◌+◌, Bool, true, false, List, [], ◌∷◌, ◌++◌, length, map, refl, sym, ap, ◌∙◌, arith}
 use Rattle.std.proofs.lemmas.Bool.{or_parts, true≢false}
 use Rattle.std.proofs.lemmas.List.{length-map}
 use Rattle.uplink_frame.specs.declared.station.StationId.{StationId}
@@ -7,15 +7,14 @@ use Rattle.uplink_frame.specs.Station.{same_station}
 use Rattle.uplink_frame.specs.Laws.{StationsAreTold}
 use Rattle.life_table.specs.LifeTable.{LifeTable}
 use Rattle.ground_core.specs.History.{Event}
-use Rattle.ground_core.specs.Airing.{Frame, frame_after}
+use Rattle.ground_core.specs.Airing.{Frame, frame_after, used_room}
 use Rattle.ground_core.specs.Broadcast.{history_of, frames}
 use Rattle.ground_core.specs.OnAir.{IsOnAir}
 use Rattle.ground_core.specs.declared.air_frame.AirFrame.{AirFrame}
 use Rattle.script_core.specs.Script.{Line, empty, turn}
-use Rattle.refusal_core.specs.Refusal.{spaced}
-use Rattle.hex.specs.Hex.{encode_lower}
-use Rattle.fisb_app.specs.Past.{events, station_of, sent_frames, air_of, has_begun}
-use Rattle.fisb_app.specs.Output.{sent_words}
+use Rattle.script_core.specs.Printed.{sent_line}
+use Rattle.fisb_app.specs.Past.{events, station_of, sent_frames, has_begun}
+use Rattle.fisb_app.specs.Output.{sent_frame}
 use Rattle.fisb_app.specs.Stands.{Aired, aired_view}
 
 -- all events of a station are its history
@@ -53,22 +52,15 @@ kept-more told table acted moment slot kept frame is on =
     ∙ sym (map-last aired_view (sent_frames table acted) sent)
     ∙ ap (map aired_view) (sym (frames-more told table acted moment slot))
 
--- the numbers that are written are those of the frame
-abbrev pub air_words : ℕ → AirFrame → List (List ℕ)
-air_words index frame = codes "sent" ∷ decimal index ∷ decimal frame.moment ∷ decimal frame.slot ∷ decimal frame.bodies ∷ decimal frame.used ∷ []
-
-pub words-alike : (index : ℕ) (sent : Frame) (frame : AirFrame) → IsOnAir sent frame → air_words index frame ≡ sent_words index sent
-words-alike index sent air is =
-    ap (λ m. codes "sent" ∷ decimal index ∷ decimal m ∷ decimal air.slot ∷ decimal air.bodies ∷ decimal air.used ∷ []) is.moment
-    ∙ ap (λ s. codes "sent" ∷ decimal index ∷ decimal sent.moment ∷ decimal s ∷ decimal air.bodies ∷ decimal air.used ∷ []) is.slot
-    ∙ ap (λ b. codes "sent" ∷ decimal index ∷ decimal sent.moment ∷ decimal sent.slot ∷ decimal b ∷ decimal air.used ∷ []) is.bodies
-    ∙ ap (λ u. codes "sent" ∷ decimal index ∷ decimal sent.moment ∷ decimal sent.slot ∷ decimal (length sent.segments) ∷ decimal u ∷ []) is.used
-
-pub air_text-alike : (index : ℕ) (sent : Frame) (frame : AirFrame) → IsOnAir sent frame
-    → spaced (air_words index frame ++ encode_lower frame.air ∷ []) ≡ spaced (sent_words index sent ++ encode_lower (air_of sent) ∷ [])
-air_text-alike index sent frame is =
-    ap (λ words. spaced (words ++ encode_lower frame.air ∷ [])) (words-alike index sent frame is)
-    ∙ ap (λ bytes. spaced (sent_words index sent ++ encode_lower bytes ∷ [])) is.air
+-- what is written of a frame is what the definitions say of it
+pub line-alike : (index : ℕ) (with_air : Bool) (sent : Frame) (frame : AirFrame) → IsOnAir sent frame
+    → sent_line index frame with_air ≡ sent_line index (sent_frame sent) with_air
+line-alike index with_air sent frame is =
+    ap (λ m. sent_line index (record { moment = m; slot = frame.slot; bodies = frame.bodies; used = frame.used; air = frame.air }) with_air) is.moment
+    ∙ ap (λ s. sent_line index (record { moment = sent.moment; slot = s; bodies = frame.bodies; used = frame.used; air = frame.air }) with_air) is.slot
+    ∙ ap (λ b. sent_line index (record { moment = sent.moment; slot = sent.slot; bodies = b; used = frame.used; air = frame.air }) with_air) is.bodies
+    ∙ ap (λ u. sent_line index (record { moment = sent.moment; slot = sent.slot; bodies = length sent.segments; used = u; air = frame.air }) with_air) is.used
+    ∙ ap (λ a. sent_line index (record { moment = sent.moment; slot = sent.slot; bodies = length sent.segments; used = used_room sent; air = a }) with_air) is.air
 
 -- as many were kept as were sent
 pub count-alike : {A B C : Type 0} (f : A → C) (g : B → C) (xs : List A) (ys : List B) → map f xs ≡ map g ys → length xs ≡ length ys

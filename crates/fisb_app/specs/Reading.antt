@@ -8,8 +8,8 @@ use Rattle.text_reports.specs.TextKey.{KeyFault, few_words, unlisted}
 use Rattle.ground_core.specs.Update as updates
 use Rattle.ground_core.specs.History.{items}
 use Rattle.ground_core.specs.Airing.{Frame}
-use Rattle.ground_core.specs.Refusal.{GiveRefusal, bad_text, no_key, coarse, ahead, expired}
-use Rattle.ground_core.specs.Refusal.{not_newer, no_file, give_refusal}
+use Rattle.ground_core.specs.Refusal.{GiveRefusal, bad_text, no_key, bad_block, coarse, ahead}
+use Rattle.ground_core.specs.Refusal.{expired, not_newer, no_file, give_refusal}
 use Rattle.segment_core.specs.Store.{last_above}
 use Rattle.ground_core.specs.OnAir.{clock_of}
 use Rattle.receiver_core.specs.Reception.{Reception}
@@ -19,7 +19,7 @@ use Rattle.script_core.specs.Script.{unbuilt}
 use Rattle.refusal_core.specs.declared.reason.Reason.{Reason}
 use Rattle.refusal_core.specs.declared.reason.Reason.TheVariants.{NotHere, Station, Clock, NoFrame}
 use Rattle.refusal_core.specs.declared.reason.Reason.TheVariants.{Late, Frames, BadCharacter}
-use Rattle.refusal_core.specs.declared.reason.Reason.TheVariants.{TextLong, FewWords, Unlisted}
+use Rattle.refusal_core.specs.declared.reason.Reason.TheVariants.{TextLong, FewWords, Unlisted, BadBlock}
 use Rattle.refusal_core.specs.declared.reason.Reason.TheVariants.{Coarse, Ahead, Expired, NotNewer}
 use Rattle.refusal_core.specs.declared.reason.Reason.TheVariants.{NoFile, NotBuilt}
 use Rattle.fisb_app.specs.declared.party.Party.{Party}
@@ -95,6 +95,7 @@ reason_of_key unlisted = Unlisted
 abbrev pub reason_of_update : GiveRefusal → Reason
 reason_of_update (bad_text cause) = reason_of_text cause
 reason_of_update (no_key fault) = reason_of_key fault
+reason_of_update bad_block = BadBlock
 reason_of_update coarse = Coarse
 reason_of_update ahead = Ahead
 reason_of_update expired = Expired

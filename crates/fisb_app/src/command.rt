@@ -3,7 +3,7 @@ ghost use Rattle.std.specs.Prelude.{◌≡◌, IfSome, map, string_bytes};
 ghost use Rattle.std.specs.Str.{bytes_eq};
 ghost use Rattle.fisb_app.specs.Command.{HasCount, command_named, make_of, single_command};
 
-use crate::number::read_number;
+use script_core::read_number;
 
 /// The most minutes of traffic.
 const LAST_COUNT: u64 = 1000;

@@ -8,15 +8,14 @@ ghost use Rattle.fisb_app.specs.declared.party.Party.TheVariants.{Ground as TheG
 ghost use Rattle.fisb_app.specs.Reading.{CanCome, own_refusal};
 ghost use Rattle.fisb_app.specs.Stands.{AloneHolds, HasTried};
 
-use crate::in_order::LineActor;
+use crate::in_order::{LineActor, no_text};
 use crate::party::Party;
-use crate::printing::{no_text, print_sent_air};
 use crate::sender::Sender;
 use crate::sending::Sending;
 use fisb_time::Moment;
 use fisb_wire::Bytes;
 use run_core::Stop;
-use script_core::{Line, Reason};
+use script_core::{Line, Reason, print_sent};
 use std::alloc::{AllocError, Global};
 use uplink_frame::{StationId, stations_are_told};
 
@@ -121,7 +120,7 @@ impl<G: Sender> GroundAlone<G> {
             Err(reason) => return Err(Stop::Refused(reason)),
         };
         self.sent = index + 1;
-        match print_sent_air(alloc, index, &frame) {
+        match print_sent(alloc, index as u32, &frame, true) {
             Ok(text) => Ok(text),
             Err(AllocError) => Err(Stop::NoMemory),
         }

@@ -4,17 +4,18 @@ ghost use Rattle.std.specs.List.{cons_option};
 ghost use Rattle.life_table.specs.LifeTable.{LifeTable as Table};
 ghost use Rattle.picture_core.specs.Views.{shown_value};
 ghost use Rattle.receiver_core.specs.Reception.{Reception, received_picture};
-ghost use Rattle.fisb_app.specs.Output.{heard_text, picture_text};
+ghost use Rattle.script_core.specs.Printed.{picture_text};
+ghost use Rattle.fisb_app.specs.Output.{heard_text};
 ghost use Rattle.fisb_app.specs.Past.{reception_from};
 ghost use Rattle.fisb_app.specs.Reading.{receiver_refusal};
 ghost use Rattle.fisb_app.specs.Stands.{HasTried};
 
 use crate::ear::Ear;
-use crate::printing::{print_heard, print_picture};
 use crate::unheard::{print_unheard, stop_of_show};
 use fisb_time::Moment;
 use fisb_wire::Bytes;
 use run_core::Stop;
+use script_core::{print_heard, print_picture};
 use std::alloc::{AllocError, Global};
 
 /// Hears a frame, and answers its text.
@@ -47,7 +48,7 @@ pub(crate) fn show<E: Ear>(alloc: Global, ear: &E, moment: Moment) -> Result<Byt
         (map shown_value (received_picture table past moment))) result }
 {
     match ear.picture(alloc, moment) {
-        Ok(entries) => match print_picture(alloc, moment, entries.all()) {
+        Ok(entries) => match print_picture(alloc, moment, &entries) {
             Ok(text) => Ok(text),
             Err(AllocError) => Err(Stop::NoMemory),
         },

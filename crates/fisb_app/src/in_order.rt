@@ -14,7 +14,6 @@ ghost use Rattle.fisb_app.specs.Work.{opened_with, opening_table, refusal_by, wo
 
 use crate::line_kinds::{is_empty, is_station, is_unbuilt, moment_of, takes};
 use crate::party::Party;
-use crate::printing::no_text;
 use fisb_time::Moment;
 use fisb_wire::Bytes;
 use run_core::{Actor, Stop};
@@ -135,6 +134,13 @@ impl<P: LineActor> InOrder<P> {
         }
         self.has_begun = self.has_begun || !is_empty(line);
     }
+}
+
+/// What a line gives that writes nothing.
+pub(crate) fn no_text(alloc: Global) -> Bytes
+    ensures { result ≡ [] }
+{
+    Bytes::of(Vec::new(alloc))
 }
 
 /// What a command writes of a line that it refuses.

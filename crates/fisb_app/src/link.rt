@@ -8,7 +8,7 @@ ghost use Rattle.ground_core.specs.Airing.{Frame};
 ghost use Rattle.uplink_frame.specs.Station.{FitsStation};
 ghost use Rattle.script_core.specs.LineView.{line_view, HasRanges};
 ghost use Rattle.script_core.specs.Script.{Line as ScriptLine, hear, station, text, turn};
-ghost use Rattle.fisb_app.specs.Output.{given_text, heard_picture, heard_text, picture_text};
+ghost use Rattle.fisb_app.specs.Output.{given_text, heard_picture, heard_text};
 ghost use Rattle.fisb_app.specs.Past.{air_heard, reception_from};
 ghost use Rattle.fisb_app.specs.declared.party.Party.TheVariants.{Link as TheLink};
 ghost use Rattle.fisb_app.specs.Reading.{CanCome, own_refusal, receiver_refusal};
@@ -16,9 +16,8 @@ ghost use Rattle.fisb_app.specs.Stands.{HasTried, IsFound, LinkHolds, aired_view
 
 use crate::ear::Ear;
 use crate::hearing::{receive, show};
-use crate::in_order::LineActor;
+use crate::in_order::{LineActor, no_text};
 use crate::party::Party;
-use crate::printing::{no_text, print_sent};
 use crate::sender::Sender;
 use crate::sending::Sending;
 use crate::sent::SentFrame;
@@ -26,7 +25,7 @@ use fisb_time::Moment;
 use fisb_wire::Bytes;
 use ground_core::AirFrame;
 use run_core::Stop;
-use script_core::{Line, Reason, Wrong};
+use script_core::{Line, Reason, Wrong, print_sent};
 use std::alloc::{AllocError, Global};
 use uplink_frame::{StationId, stations_are_told};
 
@@ -146,7 +145,7 @@ impl<G: Sender, E: Ear> Link<G, E> {
         let Ok(()) = keep(&mut self.sent, &frame) else {
             return Err(Stop::NoMemory);
         };
-        match print_sent(alloc, index, &frame) {
+        match print_sent(alloc, index as u32, &frame, false) {
             Ok(text) => Ok(text),
             Err(AllocError) => Err(Stop::NoMemory),
         }

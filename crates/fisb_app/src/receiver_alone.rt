@@ -6,9 +6,8 @@ ghost use Rattle.fisb_app.specs.Stands.{EarHolds};
 
 use crate::ear::Ear;
 use crate::hearing::{receive, show};
-use crate::in_order::LineActor;
+use crate::in_order::{LineActor, no_text};
 use crate::party::Party;
-use crate::printing::no_text;
 use crate::sending::read_table;
 use fisb_wire::Bytes;
 use life_table::LifeTable;

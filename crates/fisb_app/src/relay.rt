@@ -6,9 +6,8 @@ ghost use Rattle.fisb_app.specs.declared.party.Party.TheVariants.{Gdl as TheGdl}
 ghost use Rattle.fisb_app.specs.Output.{display_bytes};
 ghost use Rattle.fisb_app.specs.Stands.{RelayHolds};
 
-use crate::in_order::LineActor;
+use crate::in_order::{LineActor, no_text};
 use crate::party::Party;
-use crate::printing::no_text;
 use crate::sending::read_table;
 use arrayvec::ArrayVec;
 use fisb_wire::Bytes;

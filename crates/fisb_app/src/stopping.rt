@@ -32,6 +32,7 @@ pub(crate) fn stop_of(fault: GiveFault) -> Stop
         GiveFault::BadText(text) => stop_of_text(text),
         GiveFault::FewWords => Stop::Refused(Reason::FewWords),
         GiveFault::Unlisted => Stop::Refused(Reason::Unlisted),
+        GiveFault::BadBlock => Stop::Refused(Reason::BadBlock),
         GiveFault::Coarse => Stop::Refused(Reason::Coarse),
         GiveFault::Ahead => Stop::Refused(Reason::Ahead),
         GiveFault::Expired => Stop::Refused(Reason::Expired),

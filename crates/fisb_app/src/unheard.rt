@@ -6,12 +6,11 @@ ghost use Rattle.receiver_core.specs.Reception.{Reception};
 ghost use Rattle.refusal_core.specs.declared.reason.Reason.TheVariants.{Clock};
 ghost use Rattle.fisb_app.specs.Stands.{HasUnheard, TellsRefusal};
 
-use crate::printing::{print_lost, print_no_application};
 use fisb_time::Moment;
 use fisb_wire::Bytes;
 use receiver_core::{HearFault, ShowFault};
 use run_core::Stop;
-use script_core::Reason;
+use script_core::{Reason, print_lost, print_noapp};
 use std::alloc::{AllocError, Global};
 
 /// The text of a frame that is not heard, or why the line is not acted on.
@@ -26,7 +25,7 @@ pub(crate) fn print_unheard(alloc: Global, moment: Moment, fault: HearFault) -> 
             Ok(text) => Ok(text),
             Err(AllocError) => Err(Stop::NoMemory),
         },
-        HearFault::NoApplication => match print_no_application(alloc, moment) {
+        HearFault::NoApplication => match print_noapp(alloc, moment) {
             Ok(text) => Ok(text),
             Err(AllocError) => Err(Stop::NoMemory),
         },

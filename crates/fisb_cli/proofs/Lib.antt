@@ -1,3 +1,2 @@
 mod FirstWord
 mod NoMemory
-mod SomeCommand

@@ -23,6 +23,10 @@ IsLinkAlone words = words ≡ codes "link" ∷ []
 abbrev pub IsGroundAlone : List (List ℕ) → Type 0
 IsGroundAlone words = words ≡ codes "ground" ∷ []
 
+-- the words are the one word `receive`
+abbrev pub IsReceiveAlone : List (List ℕ) → Type 0
+IsReceiveAlone words = words ≡ codes "receive" ∷ []
+
 -- the words are the one word `gdl`
 abbrev pub IsGdlAlone : List (List ℕ) → Type 0
 IsGdlAlone words = words ≡ codes "gdl" ∷ []

@@ -1,12 +1,14 @@
 //! The words of the command line, and the number with which the program ends.
-ghost use Rattle.std.specs.Prelude.{◌≡◌, ◌⊎◌, IfOk, IfErr, IsSomeAnd, None, map, string_bytes};
+ghost use Rattle.std.specs.Prelude.{◌≡◌, ◌⊎◌, ℕ, IfOk, IfErr, None, Some, map, string_bytes};
 ghost use Rattle.std.specs.IoError.{error_kind};
 ghost use Rattle.std.specs.Vec.Iter.{into_iter_items};
-ghost use Rattle.fisb_app.specs.Command.{command_named, RefusesInWriting};
+ghost use Rattle.fisb_app.specs.Command.{command_named};
+ghost use Rattle.fisb_app.specs.declared.command.Command.{Command};
+ghost use Rattle.fisb_app.specs.Origin.{IsOrigin, Origin};
 ghost use Rattle.fisb_app.specs.Unbuilt.{HasRefused};
-ghost use Rattle.fisb_app.specs.Work.{ground_work, link_work, promised_work};
+ghost use Rattle.fisb_app.specs.Work.{gdl_work, ground_work, link_work, origin_work, promised_work, receive_work};
 ghost use Rattle.run_core.specs.Run.{HasRun, IsDecided, ends, sink_end, task_of};
-ghost use Rattle.fisb_cli.specs.Ending.{EndsAs, IsGdlAlone, IsGroundAlone, IsLinkAlone, number_without_words, words_of};
+ghost use Rattle.fisb_cli.specs.Ending.{EndsAs, IsGdlAlone, IsGroundAlone, IsLinkAlone, IsReceiveAlone, number_without_words, words_of};
 
 use fisb_app::{Status, run};
 use fisb_wire::{Sink, Source};
@@ -34,13 +36,12 @@ pub fn run_args<S: Source, K: Sink>(
         command_named (map string_bytes (words_of (into_iter_items args))) ≡ None
         → (result ≡ 2) ⊎ (result ≡ 7)) }
     ensures untouched { result ≡ 2 → (source.new ≡ source.old) × (sink.new ≡ sink.old) }
-    ensures unbuilt { IfOk args (λ args. IsSomeAnd
-        (command_named (map string_bytes (words_of (into_iter_items args)))) RefusesInWriting
+    ensures unbuilt { IfOk args (λ args. (count seed : ℕ)
+        → command_named (map string_bytes (words_of (into_iter_items args)))
+        ≡ Some (Command.Make count seed)
         → (source.new ≡ source.old) × EndsAs result (HasRefused
         (sink_end (K.written sink.old) (K.faults sink.old))
         (sink_end (K.written sink.new) (K.faults sink.new)))) }
-    ensures gdl { IfOk args (λ args. IsGdlAlone (map string_bytes (words_of (into_iter_items args)))
-        → (source.new ≡ source.old) × (sink.new ≡ sink.old) × ((result ≡ 3) ⊎ (result ≡ 7))) }
     ensures link { IfOk args (λ args.
         IsLinkAlone (map string_bytes (words_of (into_iter_items args)))
         → EndsAs result (λ status. HasRun (task_of promised_work)
@@ -58,6 +59,27 @@ pub fn run_args<S: Source, K: Sink>(
         (ends (S.left source.new) (S.faults source.new) (K.written sink.new) (K.faults sink.new))
         status
         × IsDecided (task_of ground_work)
+        (ends (S.left source.old) (S.faults source.old) (K.written sink.old) (K.faults sink.old))
+        (ends (S.left source.new) (S.faults source.new) (K.written sink.new) (K.faults sink.new))
+        status)) }
+    ensures receive { IfOk args (λ args.
+        IsReceiveAlone (map string_bytes (words_of (into_iter_items args)))
+        → EndsAs result (λ status. ((origin : Origin) → IsOrigin origin
+        → HasRun (task_of (origin_work origin))
+        (ends (S.left source.old) (S.faults source.old) (K.written sink.old) (K.faults sink.old))
+        (ends (S.left source.new) (S.faults source.new) (K.written sink.new) (K.faults sink.new))
+        status)
+        × IsDecided (task_of receive_work)
+        (ends (S.left source.old) (S.faults source.old) (K.written sink.old) (K.faults sink.old))
+        (ends (S.left source.new) (S.faults source.new) (K.written sink.new) (K.faults sink.new))
+        status)) }
+    ensures gdl { IfOk args (λ args.
+        IsGdlAlone (map string_bytes (words_of (into_iter_items args)))
+        → EndsAs result (λ status. HasRun (task_of gdl_work)
+        (ends (S.left source.old) (S.faults source.old) (K.written sink.old) (K.faults sink.old))
+        (ends (S.left source.new) (S.faults source.new) (K.written sink.new) (K.faults sink.new))
+        status
+        × IsDecided (task_of gdl_work)
         (ends (S.left source.old) (S.faults source.old) (K.written sink.old) (K.faults sink.old))
         (ends (S.left source.new) (S.faults source.new) (K.written sink.new) (K.faults sink.new))
         status)) }

@@ -2,4 +2,8 @@
 #![tactic(auto)]
 
 #[cfg(test)]
-mod tests;
+mod radar;
+#[cfg(test)]
+mod steps;
+#[cfg(test)]
+mod texts;

@@ -71,23 +71,23 @@ pub(crate) fn is_word(field: &[u8], word: &str) -> bool
 }
 
 /// The number that a field spells in decimal digits, where it is one from `low` to `high`.
-pub(crate) fn read_number(field: &[u8], low: u64, high: u64) -> Option<u64>
-    requires { high < 2 ^ 40 }
+pub fn read_number(field: &[u8], low: u64, high: u64) -> Option<u64>
     ensures number { result ≡ number_within low high field.now }
-    ensures high { IfSome result (λ number. number ≤ high) }
+    ensures range { IfSome result (λ number. (low ≤ number) × (number ≤ high)) }
 {
     if has_leading_zero(field) || field.is_empty() {
         return None;
     }
-    let mut value = 0;
+    let most = u128::from(high);
+    let mut value: u128 = 0;
     for digit in field {
-        if !digit.is_ascii_digit() || value > high {
+        if !digit.is_ascii_digit() || value > most {
             return None;
         }
-        value = 10 * value + u64::from(*digit - b'0');
+        value = 10 * value + u128::from(*digit - b'0');
     }
-    if low <= value && value <= high {
-        Some(value)
+    if u128::from(low) <= value && value <= most {
+        Some(value as u64)
     } else {
         None
     }

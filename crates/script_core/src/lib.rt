@@ -12,6 +12,7 @@ mod reading;
 mod script_line;
 mod wrong;
 
+pub use fields::read_number;
 pub use frame_text::{print_heard, print_lost, print_noapp, print_sent};
 pub use laws::ranges_of_lines;
 pub use picture_text::print_picture;

@@ -1,22 +1,22 @@
-use Rattle.std.proofs.Common.{IsSomeAnd, map, string_bytes, refl, sym, ◌∙◌, subst}
-use Rattle.fisb_app.specs.Command.{command_named, RefusesInWriting}
+use Rattle.std.proofs.Common.{◌≡◌, Some, map, string_bytes, refl, sym, ◌∙◌, subst}
+use Rattle.fisb_app.specs.Command.{command_named}
+use Rattle.fisb_app.specs.declared.command.Command.TheVariants.{Make}
 use Rattle.run_core.specs.Run.{ends, task_of}
-use Rattle.fisb_app.specs.Work.{link_work, ground_work, promised_work}
+use Rattle.fisb_app.specs.Work.{link_work, ground_work, promised_work, receive_work, origin_work, gdl_work}
 use Rattle.run_core.specs.declared.status.Status.TheVariants.{NoMemory}
 use Rattle.fisb_cli.proofs.NoMemory.{unbegun-run, decided-without-memory}
-use Rattle.fisb_cli.proofs.SomeCommand.{of-the-value}
 use Rattle.fisb_cli.proofs.ending.run_args.Goals as goal
 
 pub returns-in-Ok-words-clause-unbuilt : goal.returns-in-Ok-words-clause-unbuilt
 returns-in-Ok-words-clause-unbuilt g c =
-    rw c.in-Ok.is (λ is_unbuilt.
+    rw c.in-Ok.is (λ count seed named.
     let words = c.as_slice.ensures.value ∙ c.in-Ok-words.ensures in
-    let refused = of-the-value _ c.run.ensures.unbuilt (subst (λ ws. IsSomeAnd (command_named (map string_bytes ws)) RefusesInWriting) (sym words) is_unbuilt) in
+    let refused = c.run.ensures.unbuilt count seed (subst (λ ws. command_named (map string_bytes ws) ≡ Some (Make count seed)) (sym words) named) in
     (refused.0, (c.run.result, c.code.ensures, refused.1)))
 
 pub returns-in-Err-words-clause-unbuilt : goal.returns-in-Err-words-clause-unbuilt
 returns-in-Err-words-clause-unbuilt g c =
-    rw c.in-Ok.is (λ is_unbuilt. (refl, (NoMemory, c.code-in-Err-words.ensures, (refl, refl))))
+    rw c.in-Ok.is (λ count seed named. (refl, (NoMemory, c.code-in-Err-words.ensures, (refl, refl))))
 
 pub returns-in-Err-words-clause-link : goal.returns-in-Err-words-clause-link
 returns-in-Err-words-clause-link g c =
@@ -27,3 +27,13 @@ pub returns-in-Err-words-clause-ground_alone : goal.returns-in-Err-words-clause-
 returns-in-Err-words-clause-ground_alone g c =
     let e = ends (g.S.Source.left c.args.source.now) (g.S.Source.faults c.args.source.now) (g.K.Sink.written c.args.sink.now) (g.K.Sink.faults c.args.sink.now) in
     rw c.in-Ok.is (λ alone. (NoMemory, c.code-in-Err-words.ensures, (unbegun-run (task_of ground_work) e, decided-without-memory (task_of ground_work) e)))
+
+pub returns-in-Err-words-clause-receive : goal.returns-in-Err-words-clause-receive
+returns-in-Err-words-clause-receive g c =
+    let e = ends (g.S.Source.left c.args.source.now) (g.S.Source.faults c.args.source.now) (g.K.Sink.written c.args.sink.now) (g.K.Sink.faults c.args.sink.now) in
+    rw c.in-Ok.is (λ alone. (NoMemory, c.code-in-Err-words.ensures, ((λ origin from. unbegun-run (task_of (origin_work origin)) e), decided-without-memory (task_of receive_work) e)))
+
+pub returns-in-Err-words-clause-gdl : goal.returns-in-Err-words-clause-gdl
+returns-in-Err-words-clause-gdl g c =
+    let e = ends (g.S.Source.left c.args.source.now) (g.S.Source.faults c.args.source.now) (g.K.Sink.written c.args.sink.now) (g.K.Sink.faults c.args.sink.now) in
+    rw c.in-Ok.is (λ alone. (NoMemory, c.code-in-Err-words.ensures, (unbegun-run (task_of gdl_work) e, decided-without-memory (task_of gdl_work) e)))

@@ -1,16 +1,15 @@
-use Rattle.std.proofs.Common.{◌+◌, [], ◌∷◌, ◌++◌, ap, sym, ◌∙◌, length}
-use Rattle.refusal_core.specs.Refusal.{spaced}
+use Rattle.std.proofs.Common.{◌+◌, true, ◌∷◌, ap, sym, ◌∙◌, length}
 use Rattle.script_core.specs.Script.{turn}
-use Rattle.hex.specs.Hex.{encode_lower}
+use Rattle.script_core.specs.Printed.{sent_line}
 use Rattle.ground_core.specs.Airing.{frame_after}
-use Rattle.fisb_app.specs.Past.{events, station_of, sent_frames, air_of}
+use Rattle.fisb_app.specs.Past.{events, station_of, sent_frames}
 use Rattle.fisb_app.specs.Reading.{turn_refusal}
-use Rattle.fisb_app.specs.Output.{sent_words}
-use Rattle.fisb_app.proofs.Turning.{air_text-alike, frames-more, length-last}
+use Rattle.fisb_app.specs.Output.{sent_frame}
+use Rattle.fisb_app.proofs.Turning.{frames-more, length-last, line-alike}
 use Rattle.fisb_app.proofs.ground_alone.GroundAlone.turn.Goals as goal
 
-pub returns-in-Ok-print_sent_air : goal.returns-in-Ok-print_sent_air
-returns-in-Ok-print_sent_air g c = λ bytes acted can h.
+pub returns-in-Ok-print_sent : goal.returns-in-Ok-print_sent
+returns-in-Ok-print_sent g c = λ bytes acted can h.
     let table = c.args.self.now.sending.table in
     let index = h.sent in
     let on = c.in-Ok.ensures.frame bytes acted h.holds in
@@ -19,8 +18,8 @@ returns-in-Ok-print_sent_air g c = λ bytes acted can h.
     let more = frames-more c.stations_are_told.ensures table acted c.args.moment c.args.slot in (
       ap (λ i. turn_refusal i acted c.args.moment) (sym index) ∙ c.in-Ok.ensures.in_time bytes acted h.holds,
       (
-        c.in-Ok-print_sent_air.ensures ∙ air_text-alike c.args.self.now.sent sent c.in-Ok.frame on
-            ∙ ap (λ i. spaced (sent_words i sent ++ encode_lower (air_of sent) ∷ [])) index,
+        c.in-Ok-print_sent.ensures ∙ line-alike c.args.self.now.sent true sent c.in-Ok.frame on
+            ∙ ap (λ i. sent_line i (sent_frame sent) true) index,
         record {
           holds = c.in-Ok.ensures.filled bytes acted h.holds;
           sent = ap (λ n. n + 1) index ∙ sym (length-last (sent_frames table acted) sent) ∙ ap length (sym more)

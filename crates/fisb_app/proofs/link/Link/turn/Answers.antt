@@ -1,12 +1,12 @@
-use Rattle.std.proofs.Common.{◌≡◌, ◌∷◌, ap, sym, ◌∙◌, length, map, arith, subst}
-use Rattle.refusal_core.specs.Refusal.{spaced}
+use Rattle.std.proofs.Common.{◌≡◌, false, ◌∷◌, ap, sym, ◌∙◌, length, map, arith, subst}
 use Rattle.script_core.specs.Script.{turn}
+use Rattle.script_core.specs.Printed.{sent_line}
 use Rattle.ground_core.specs.Airing.{frame_after}
 use Rattle.fisb_app.specs.Past.{events, station_of, sent_frames, receptions}
 use Rattle.fisb_app.specs.Reading.{turn_refusal}
-use Rattle.fisb_app.specs.Output.{sent_words}
+use Rattle.fisb_app.specs.Output.{sent_frame}
 use Rattle.fisb_app.specs.Stands.{aired_view, sent_view}
-use Rattle.fisb_app.proofs.Turning.{count-alike, kept-more, words-alike}
+use Rattle.fisb_app.proofs.Turning.{count-alike, kept-more, line-alike}
 use Rattle.fisb_app.proofs.link.Link.turn.Goals as goal
 
 pub returns-in-Ok-print_sent : goal.returns-in-Ok-print_sent
@@ -19,7 +19,7 @@ returns-in-Ok-print_sent g c = λ bytes acted can h.
     let same = c.in-Ok.ensures.table in (
       ap (λ i. turn_refusal i acted c.args.moment) (sym index) ∙ c.in-Ok.ensures.in_time bytes acted h.holds,
       (
-        c.in-Ok-print_sent.ensures ∙ ap spaced (words-alike c.len-index.result sent c.in-Ok.frame on) ∙ ap (λ i. spaced (sent_words i sent)) index,
+        c.in-Ok-print_sent.ensures ∙ line-alike c.len-index.result false sent c.in-Ok.frame on ∙ ap (λ i. sent_line i (sent_frame sent) false) index,
         record {
           holds = c.in-Ok.ensures.filled bytes acted h.holds;
           sent = c.in-Ok-keep.ensures ∙ kept-more c.stations_are_told.ensures table acted c.args.moment c.args.slot _ c.in-Ok.frame h.sent on
