@@ -17,7 +17,9 @@ use Rattle.receiver_core.specs.Hearing.{HearRefusal, clock, lost, no_application
 use Rattle.receiver_core.specs.declared.unread.UnreadReason.{UnreadReason}
 use Rattle.receiver_core.specs.declared.unread.UnreadReason.TheVariants.{Kind, Short, Flagged}
 use Rattle.receiver_core.specs.declared.unread.UnreadReason.TheVariants.{Segment, Product, NoRow}
-use Rattle.receiver_core.specs.declared.unread.UnreadReason.TheVariants.{Files, Time, Stale, Words}
+use Rattle.receiver_core.specs.declared.unread.UnreadReason.TheVariants.{Files, Time, Stale}
+use Rattle.receiver_core.specs.declared.unread.UnreadReason.TheVariants.{RadarShort, Scale, Runs}
+use Rattle.receiver_core.specs.declared.unread.UnreadReason.TheVariants.{High, Bitmap, Words}
 use Rattle.receiver_core.specs.declared.unread.UnreadReason.TheVariants.{Unlisted}
 use Rattle.gdl90_core.specs.Framing.{framed}
 use Rattle.fisb_link.specs.LinkPicture.{link_picture}
@@ -69,6 +71,11 @@ unread_word NoRow = codes "norow"
 unread_word Files = codes "files"
 unread_word Time = codes "time"
 unread_word Stale = codes "stale"
+unread_word RadarShort = codes "radarshort"
+unread_word Scale = codes "scale"
+unread_word Runs = codes "runs"
+unread_word High = codes "high"
+unread_word Bitmap = codes "bitmap"
 unread_word Words = codes "words"
 unread_word Unlisted = codes "unlisted"
 

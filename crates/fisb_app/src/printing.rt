@@ -136,6 +136,11 @@ fn unread_word(reason: UnreadReason) -> &'static str
         UnreadReason::Files => "files",
         UnreadReason::Time => "time",
         UnreadReason::Stale => "stale",
+        UnreadReason::RadarShort => "radarshort",
+        UnreadReason::Scale => "scale",
+        UnreadReason::Runs => "runs",
+        UnreadReason::High => "high",
+        UnreadReason::Bitmap => "bitmap",
         UnreadReason::Words => "words",
         UnreadReason::Unlisted => "unlisted",
     }

@@ -4,4 +4,6 @@
 #[cfg(test)]
 mod many_reports;
 #[cfg(test)]
+mod radar;
+#[cfg(test)]
 mod tests;

@@ -17,7 +17,7 @@ const NO_POSITION: &str = "000000000000a000";
 const SITE_3: &str = "000000000000a030";
 
 /// A frame with the report `METAR KSEA` of 22:13.
-const METAR_KSEA: &str = "0680067458d03455014a02d3141000";
+pub(crate) const METAR_KSEA: &str = "0680067458d03455014a02d3141000";
 
 /// The same report in two segments of file 1, the first of 3 bytes.
 const FIRST_SEGMENT: &str = "0500067658d0040401345501";
@@ -36,12 +36,15 @@ const TAF_KSEA: &str = "0580067458d05011a02d314100";
 
 const SPECI_KSEA: &str = "0680067458e04d01432602d3141000";
 
-/// A frame of product 63 without a block.
-const RADAR: &str = "020000fc58d0";
+/// A frame of product 63 with one blank block.
+const RADAR: &str = "040000fc58d00186a000";
+
+/// A frame of product 64 with one blank block.
+const CONUS_BLOCK: &str = "0400010058d00186a000";
 
 /// What is asked of a receiver, and what it has to answer.
 #[derive(Clone, Copy)]
-enum Step {
+pub(crate) enum Step {
     /// To hear these application data at a moment, of which all is read.
     Hear(u64, &'static str),
     /// The same, of the other site.
@@ -56,7 +59,7 @@ enum Step {
     ShowEarly(u64, u64),
 }
 
-fn moment_of(seconds: u64) -> Result<Moment, Fail> {
+pub(crate) fn moment_of(seconds: u64) -> Result<Moment, Fail> {
     let moment = Moment::new(seconds).ok_or("a moment")?;
     Ok(moment)
 }
@@ -160,7 +163,7 @@ fn is_answered(alloc: Global, receiver: &mut Receiver, step: Step) -> Result<boo
 }
 
 /// The place of the first step that is answered otherwise.
-fn first_wrong(
+pub(crate) fn first_wrong(
     alloc: Global,
     receiver: &mut Receiver,
     steps: &[Step],
@@ -174,7 +177,7 @@ fn first_wrong(
 }
 
 /// The same for a receiver by the default table that heard nothing.
-fn first_wrong_of_new(alloc: Global, steps: &[Step]) -> Result<Option<usize>, Fail> {
+pub(crate) fn first_wrong_of_new(alloc: Global, steps: &[Step]) -> Result<Option<usize>, Fail> {
     let mut receiver = new_receiver(alloc)?;
     first_wrong(alloc, &mut receiver, steps)
 }
@@ -260,8 +263,8 @@ fn headers_that_are_just_in_order_are_read(rt: HostRuntime) -> Result<(), Fail> 
     let steps = [
         Step::Hear(NOW, "0200067458d0"),
         Step::Hear(NOW, "0380067658d0000402"),
-        Step::Hear(NOW, "020000fc58d0"),
-        Step::Hear(NOW, "0200010058d0"),
+        Step::Hear(NOW, RADAR),
+        Step::Hear(NOW, CONUS_BLOCK),
         Step::Hear(NOW, "0380067658d0008001"),
         Step::Hear(NOW, "020006745cd0"),
     ];
@@ -309,7 +312,12 @@ fn frames_of_other_types_and_products_are_passed_on(rt: HostRuntime) -> Result<(
 }
 
 /// Whether an entry is this report of this version.
-fn is_report(alloc: Global, entry: &Entry, text: &str, version: u64) -> Result<bool, Fail> {
+pub(crate) fn is_report(
+    alloc: Global,
+    entry: &Entry,
+    text: &str,
+    version: u64,
+) -> Result<bool, Fail> {
     match &entry.value {
         Shown::Cells(_) => Ok(false),
         Shown::Text(report) => {
@@ -343,7 +351,7 @@ fn has_reports(
 }
 
 /// The version of most reports.
-const SHOWN: u64 = 1_699_999_980;
+pub(crate) const SHOWN: u64 = 1_699_999_980;
 
 #[test]
 fn the_newest_version_of_a_key_is_kept(rt: HostRuntime) -> Result<(), Fail> {
@@ -383,7 +391,11 @@ const NO_RADAR: &str =
 fn a_product_without_a_row_is_passed_on(rt: HostRuntime) -> Result<(), Fail> {
     let table = LifeTable::read(rt.alloc(), NO_RADAR.as_bytes())?;
     let mut receiver = Receiver::new(rt.alloc(), table);
-    let steps = [Step::Pass(NOW, RADAR, UnreadReason::NoRow, 63, 4)];
+    let steps = [
+        Step::Pass(NOW, RADAR, UnreadReason::NoRow, 63, 8),
+        Step::Pass(NOW, CONUS_BLOCK, UnreadReason::NoRow, 64, 8),
+        Step::Show(NOW, 0),
+    ];
     assert_eq!(rt; first_wrong(rt.alloc(), &mut receiver, &steps)?, None);
     Ok(())
 }
@@ -394,7 +406,7 @@ fn a_frame_is_stale_once_the_longest_life_of_its_product_has_passed(
 ) -> Result<(), Fail> {
     let steps = [
         Step::Hear(1_700_001_179, RADAR),
-        Step::Pass(1_700_001_180, RADAR, UnreadReason::Stale, 63, 4),
+        Step::Pass(1_700_001_180, RADAR, UnreadReason::Stale, 63, 8),
     ];
     assert_eq!(rt; first_wrong_of_new(rt.alloc(), &steps)?, None);
     Ok(())
