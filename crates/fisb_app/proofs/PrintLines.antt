@@ -37,3 +37,15 @@ heard_line slot site {moment' = moment'} counts p six =
     ap (λ (m : ℕ). heard_pieces m slot site (get_or counts 0 0) (get_or counts 1 0) (get_or counts 2 0) (get_or counts 3 0) (get_or counts 4 0) (get_or counts 5 0)) p
     ∙ (simp append_assoc)
     ∙ ap (λ (cs : List ℕ). spaced (codes "heard" ∷ decimal moment' ∷ decimal slot ∷ decimal site ∷ map decimal cs)) (sym (six_listed counts six))
+
+-- a line of a block
+abbrev pub radar_pieces : ℕ → ℕ → List ℕ → ℕ → ℕ → List ℕ → List ℕ
+radar_pieces product scale hemisphere number version digits =
+    (codes "radar " ++ (decimal product ++ (codes " " ++ (decimal scale ++ (codes " " ++ (hemisphere ++ (codes " " ++ (decimal number ++ (codes " " ++ (decimal version ++ (codes " " ++ digits))))))))))) ++ codes "\n"
+
+pub radar_line : (product scale number : ℕ) {hemisphere hemisphere' : List ℕ} {version version' : ℕ} {digits digits' : List ℕ} → hemisphere ≡ hemisphere' → version ≡ version' → digits ≡ digits'
+    → radar_pieces product scale hemisphere number version digits
+    ≡ spaced (codes "radar" ∷ decimal product ∷ decimal scale ∷ hemisphere' ∷ decimal number ∷ decimal version' ∷ digits' ∷ [])
+radar_line product scale number {hemisphere' = hemisphere'} {version = version} {version' = version'} {digits = digits} h v d =
+    ap (λ (t : List ℕ). radar_pieces product scale t number version digits) h ∙ ap (λ (m : ℕ). radar_pieces product scale hemisphere' number m digits) v
+    ∙ ap (λ (t : List ℕ). radar_pieces product scale hemisphere' number version' t) d ∙ simp append_assoc

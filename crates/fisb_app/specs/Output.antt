@@ -1,5 +1,5 @@
 -- The texts that lines give.
-use Rattle.std.specs.Prelude.{ℕ, Bool, if◌then◌else◌, List, [], ◌∷◌, ◌++◌, length, map, flat_map}
+use Rattle.std.specs.Prelude.{ℕ, ◌+◌, Bool, if◌then◌else◌, List, [], ◌∷◌, ◌++◌, length, map, flat_map}
 use Rattle.std.specs.Prelude.{Option, Some, None, slice_get, codes, decimal}
 use Rattle.hex.specs.Hex.{encode_lower}
 use Rattle.dlac_text.specs.Plain.{plain_text}
@@ -44,9 +44,18 @@ abbrev pub third_words : Option (List ℕ) → List (List ℕ)
 third_words None = []
 third_words (Some word) = word ∷ []
 
--- no radar is sent yet
+-- the hemisphere of a block, and the intensities of its cells, a digit each
+abbrev pub hemisphere_word : Bool → List ℕ
+hemisphere_word south = if south then codes "s" else codes "n"
+
+abbrev pub cell_digits : List ℕ → List ℕ
+cell_digits intensities = map (λ cell. 48 + cell) intensities
+
 abbrev pub entry_text : Key → ℕ → Value → List ℕ
-entry_text (radar_block key) version value = []
+entry_text (radar_block key) version (cells intensities) = spaced (codes "radar"
+    ∷ decimal key.product ∷ decimal key.scale ∷ hemisphere_word key.south ∷ decimal key.number
+    ∷ decimal version ∷ cell_digits intensities ∷ [])
+entry_text (radar_block key) version (report chars) = []
 entry_text (text_report key) version (cells intensities) = []
 entry_text (text_report key) version (report chars) = spaced (codes "text" ∷ key.kind ∷ key.place
     ∷ (third_words key.third ++ decimal version ∷ plain_text chars ∷ []))

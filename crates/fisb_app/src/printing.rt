@@ -4,22 +4,27 @@ ghost use Rattle.hex.specs.Hex.{encode_lower};
 ghost use Rattle.picture_core.specs.Views.{entry_view};
 ghost use Rattle.receiver_core.specs.Hearing.{unread_view};
 ghost use Rattle.refusal_core.specs.Refusal.{spaced};
-ghost use Rattle.picture_core.specs.Key.{text_report};
-ghost use Rattle.picture_core.specs.Entry.{report as report_value};
+ghost use Rattle.picture_core.specs.Key.{radar_block, text_report};
+ghost use Rattle.picture_core.specs.Entry.{cells as cells_value, report as report_value};
 ghost use Rattle.text_reports.specs.Views.{key_view};
-ghost use Rattle.fisb_app.specs.Output.{entry_text, heard_lines, picture_text, shown_entry, unread_text, unread_word};
+ghost use Rattle.fisb_app.specs.Output.{cell_digits, entry_text, heard_lines, hemisphere_word, picture_text, shown_entry};
+ghost use Rattle.fisb_app.specs.Output.{unread_text, unread_word};
 
 use dlac_text::{Report, plain};
 use fisb_time::Moment;
 use fisb_wire::Bytes;
 use ground_core::AirFrame;
 use picture_core::{Entry, Key, Shown};
+use radar_core::{BlockKey, Cells};
 use receiver_core::{Heard, Unread, UnreadReason};
 use std::alloc::{AllocError, Global};
 use text_reports::TextKey;
 
 /// Room for what stands beside the report in an entry's line: a key of three words of some letters, and a version.
 const ENTRY_ROOM: usize = 64;
+
+/// How many cells a block has.
+const CELLS: usize = 128;
 
 /// What a line gives that writes nothing.
 pub(crate) fn no_text(alloc: Global) -> Bytes
@@ -193,12 +198,50 @@ fn entry_line(alloc: Global, entry: &Entry) -> Result<String, AllocError>
     ensures { IfOk result (λ s. string_bytes s ≡ shown_entry (entry_view entry.now)) }
 {
     match &entry.key {
-        Key::Radar(_) => Ok(String::new(alloc)),
+        Key::Radar(key) => match &entry.value {
+            Shown::Cells(cells) => radar_line(alloc, key, entry.version, cells),
+            Shown::Text(_) => Ok(String::new(alloc)),
+        },
         Key::Text(key) => match &entry.value {
             Shown::Cells(_) => Ok(String::new(alloc)),
             Shown::Text(report) => text_line(alloc, key, entry.version, report),
         },
     }
+}
+
+fn radar_line(
+    alloc: Global,
+    key: &BlockKey,
+    version: Moment,
+    cells: &Cells,
+) -> Result<String, AllocError>
+    ensures { IfOk result (λ s. string_bytes s
+        ≡ entry_text (radar_block key.now) version (cells_value cells.now)) }
+{
+    let product = key.product;
+    let scale = key.scale;
+    let hemisphere = hemisphere_word(key.south);
+    let number = key.number;
+    let version = version.seconds();
+    let digits = cell_digits(alloc, cells)?;
+    format!(in alloc; "radar {product} {scale} {hemisphere} {number} {version} {digits}\n")
+}
+
+fn hemisphere_word(south: bool) -> &'static str
+    ensures { result.now ≡ hemisphere_word south }
+{
+    if south { "s" } else { "n" }
+}
+
+/// The intensities of the cells, a digit each.
+fn cell_digits(alloc: Global, cells: &Cells) -> Result<String, AllocError>
+    ensures { IfOk result (λ s. string_bytes s ≡ cell_digits cells.now) }
+{
+    let mut digits = String::with_capacity(alloc, CELLS)?;
+    for place in 0..CELLS {
+        digits.push(char::from(b'0' + cells.at(place)))?;
+    }
+    Ok(digits)
 }
 
 fn text_line(
