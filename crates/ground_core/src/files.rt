@@ -2,6 +2,7 @@
 ghost use Rattle.std.specs.Prelude.{◌≡◌, ◌<◌, ◌+◌, ◌&&◌, ◌==◌, ℕ, true, false, nat_le, nat_lt};
 ghost use Rattle.std.specs.Prelude.{length, if◌then◌else◌, OnOk};
 ghost use Rattle.std.specs.Bool.{OnTrue, OnFalse};
+ghost use Rattle.apdu_core.specs.Apdu.{file_numbers};
 ghost use Rattle.segment_core.specs.File as of_file;
 
 use crate::item::SentItem;
@@ -70,7 +71,7 @@ impl Files {
         requires room { of_file.is_segmented item.now.form item.now.payload ≡ true
             → HasRoomToCount self.old item.now.version item.now.product }
         requires few { of_file.is_segmented item.now.form item.now.payload ≡ true
-            → count_at self.old item.now.version item.now.product < 1024 }
+            → count_at self.old item.now.version item.now.product < file_numbers }
         ensures { (v p : ℕ) → count_at self.new v p ≡ count_at self.old v p
             + (if of_file.is_segmented item.now.form item.now.payload
             && (item.now.version == v) && (item.now.product == p) then 1 else 0) }
@@ -83,7 +84,7 @@ impl Files {
     /// Counts one more of a version and a product that there is room for.
     fn count(&mut self, version: Moment, product: u16)
         requires room { HasRoomToCount self.old version product }
-        requires few { count_at self.old version product < 1024 }
+        requires few { count_at self.old version product < file_numbers }
         ensures { (v p : ℕ) → count_at self.new v p
             ≡ count_at self.old v p + (if version == v && product == p then 1 else 0) }
     {
