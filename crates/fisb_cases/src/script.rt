@@ -8,7 +8,7 @@ use std::alloc::{AllocError, Global};
 pub(crate) fn script_of(alloc: Global, lines: &str) -> Result<Vec<u8>, AllocError> {
     let mut script = Vec::new(alloc);
     for line in lines.split('\n') {
-        let (count, line) = counted(line);
+        let (count, line) = count_and_line(line);
         for index in 0..count {
             add_line(alloc, line, index, &mut script)?;
         }
@@ -17,7 +17,7 @@ pub(crate) fn script_of(alloc: Global, lines: &str) -> Result<Vec<u8>, AllocErro
 }
 
 /// How often a line stands there, and the line.
-fn counted(line: &str) -> (u32, &str) {
+fn count_and_line(line: &str) -> (u32, &str) {
     let Some(rest) = line.strip_prefix("{{") else {
         return (1, line);
     };
@@ -73,7 +73,7 @@ fn filling(alloc: Global, inside: &str, index: u32) -> Result<Vec<u8>, AllocErro
         return Vec::from_slice(alloc, &[byte]);
     }
     let number = inside.parse::<u32>().unwrap_or(0).saturating_add(index);
-    Ok(padded(alloc, number, inside.len())?.into_bytes())
+    Ok(padded_number(alloc, number, inside.len())?.into_bytes())
 }
 
 /// So many copies of a text.
@@ -84,7 +84,7 @@ pub(crate) fn copies(alloc: Global, text: &str, count: usize) -> Result<String, 
 }
 
 /// A number in decimal digits, with zeros before it up to a width.
-pub(crate) fn padded(alloc: Global, number: u32, width: usize) -> Result<String, AllocError>
+pub(crate) fn padded_number(alloc: Global, number: u32, width: usize) -> Result<String, AllocError>
     ensures { IfOk result (λ s. string_bytes s
         ≡ repeat (width - length (decimal number)) (48 ∷ []) ++ decimal number) }
 {

@@ -6,15 +6,15 @@ use std::alloc::{AllocError, Global};
 use std::test::Fail;
 
 // Its lines end after 4, 42, 60, 78 and 94 bytes.
-const SCRIPT: &[u8] =
-    b"---\ntext 1700000000 1699999980 METAR KSEA\nturn 1700000001 0\nhear 1700000002 0\nshow 1700000003\n";
+const SCRIPT: &[u8] = b"---\ntext 1700000000 1699999980 METAR KSEA\nturn 1700000001 0\n\
+    hear 1700000002 0\nshow 1700000003\n";
 
 const SENT: &[u8] = b"sent 0 1700000001 0 1 15\n";
 
 const HEARD: &[u8] = b"sent 0 1700000001 0 1 15\nheard 1700000002 0 0 0 0 0 0 0 0\n";
 
-const SHOWN: &[u8] =
-    b"sent 0 1700000001 0 1 15\nheard 1700000002 0 0 0 0 0 0 0 0\npicture 1700000003 1\ntext METAR KSEA 1699999980 METAR KSEA\n";
+const SHOWN: &[u8] = b"sent 0 1700000001 0 1 15\nheard 1700000002 0 0 0 0 0 0 0 0\n\
+    picture 1700000003 1\ntext METAR KSEA 1699999980 METAR KSEA\n";
 
 // What `link` answers and writes over a source.
 fn link_over<S: Source>(alloc: Global, source: &mut S) -> Result<(Status, Vec<u8>), AllocError> {
@@ -31,7 +31,7 @@ fn link_of_front(alloc: Global, size: usize) -> Result<(Status, Vec<u8>), AllocE
     link_over(alloc, &mut source)
 }
 
-fn refused(line: u64, reason: Reason) -> Status {
+fn refusal(line: u64, reason: Reason) -> Status {
     Status::Refused { line, reason }
 }
 
@@ -40,26 +40,28 @@ fn refused(line: u64, reason: Reason) -> Status {
 fn answer(size: usize) -> (Status, &'static [u8]) {
     match size {
         0..=2 => (
-            refused(1, Reason::NoTable),
+            refusal(1, Reason::NoTable),
             b"refused 1 notable\n".as_slice(),
         ),
         3..=4 => (Status::Done, b"".as_slice()),
-        5..=30 => (refused(2, Reason::Syntax), b"refused 2 syntax\n".as_slice()),
+        5..=30 => (refusal(2, Reason::Syntax), b"refused 2 syntax\n".as_slice()),
         31..=37 => (
-            refused(2, Reason::FewWords),
+            refusal(2, Reason::FewWords),
             b"refused 2 words\n".as_slice(),
         ),
         38..=42 => (Status::Done, b"".as_slice()),
-        43..=58 => (refused(3, Reason::Syntax), b"refused 3 syntax\n".as_slice()),
+        43..=58 => (refusal(3, Reason::Syntax), b"refused 3 syntax\n".as_slice()),
         59..=60 => (Status::Done, SENT),
         61..=76 => (
-            refused(4, Reason::Syntax),
+            refusal(4, Reason::Syntax),
             b"sent 0 1700000001 0 1 15\nrefused 4 syntax\n".as_slice(),
         ),
         77..=78 => (Status::Done, HEARD),
         79..=92 => (
-            refused(5, Reason::Syntax),
-            b"sent 0 1700000001 0 1 15\nheard 1700000002 0 0 0 0 0 0 0 0\nrefused 5 syntax\n".as_slice(),
+            refusal(5, Reason::Syntax),
+            b"sent 0 1700000001 0 1 15\nheard 1700000002 0 0 0 0 0 0 0 0\n\
+                refused 5 syntax\n"
+                .as_slice(),
         ),
         _ => (Status::Done, SHOWN),
     }

@@ -15,23 +15,24 @@ use receiver_core::{HearFault, Heard, Receiver, ShowFault};
 use std::alloc::{AllocError, Global};
 use std::test::Fail;
 
-const SCRIPT: &[u8] =
-    b"---\ntext 1700000000 1699999980 METAR KSEA\nturn 1700000001 0\nhear 1700000002 0\nshow 1700000003\n";
+const SCRIPT: &[u8] = b"---\ntext 1700000000 1699999980 METAR KSEA\nturn 1700000001 0\n\
+    hear 1700000002 0\nshow 1700000003\n";
 
 const SENT: &[u8] = b"sent 0 1700000001 0 1 15\n";
 
 const HEARD: &[u8] = b"sent 0 1700000001 0 1 15\nheard 1700000002 0 0 0 0 0 0 0 0\n";
 
-const SHOWN: &[u8] =
-    b"sent 0 1700000001 0 1 15\nheard 1700000002 0 0 0 0 0 0 0 0\npicture 1700000003 1\ntext METAR KSEA 1699999980 METAR KSEA\n";
+const SHOWN: &[u8] = b"sent 0 1700000001 0 1 15\nheard 1700000002 0 0 0 0 0 0 0 0\n\
+    picture 1700000003 1\ntext METAR KSEA 1699999980 METAR KSEA\n";
 
 // The first lines of the script.
 const GIVEN: &[u8] = b"---\ntext 1700000000 1699999980 METAR KSEA\nturn 1700000001 0\n";
 
-const RECEIVED: &[u8] =
-    b"heard 1700000002 0 0 0 0 0 0 0 0\npicture 1700000003 1\ntext METAR KSEA 1699999980 METAR KSEA\n";
+const RECEIVED: &[u8] = b"heard 1700000002 0 0 0 0 0 0 0 0\npicture 1700000003 1\n\
+    text METAR KSEA 1699999980 METAR KSEA\n";
 
-// Message 7, an unknown time, a header, and an information frame of a header at 22:13 and the METAR.
+// Message 7, an unknown time, a header, and an information frame of a header at 22:13 and the
+// METAR.
 const MESSAGE_FRONT: [u8; 27] = [
     0x07, 0xff, 0xff, 0xff, 0x00, 0x00, 0x00, 0x00, 0x00, 0x00, 0xa0, 0x00, 0x06, 0x80, 0x06, 0x74,
     0x58, 0xd0, 0x34, 0x55, 0x01, 0x4a, 0x02, 0xd3, 0x14, 0x10, 0x00,
@@ -266,7 +267,8 @@ impl Ear for Deaf {
 #[test]
 fn a_frame_goes_to_the_receiver_with_its_wrong_bytes(rt: HostRuntime) -> Result<(), Fail> {
     let script =
-        b"---\ntext 1700000000 1699999980 METAR KSEA\nturn 1700000001 0\nhear 1700000002 0\nhear 1700000002 0 0=5A\n";
+        b"---\ntext 1700000000 1699999980 METAR KSEA\nturn 1700000001 0\nhear 1700000002 0\n\
+        hear 1700000002 0 0=5A\n";
     let mut source = FaithfulSource::new(Bytes::of(Vec::from_slice(rt.alloc(), script)?));
     let mut sink = MemorySink::new(rt.alloc(), 1024, numbers(rt.alloc(), &[])?)?;
     let status = run_link_over::<FaithfulSource, MemorySink, Deaf>(

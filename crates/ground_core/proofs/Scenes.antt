@@ -23,7 +23,8 @@ long version = record {
 abbrev first_long : Item
 first_long = item_of default_table no_station 1700000000 [] (long 1699999980)
 
--- the first file has number 0, and the next of its version number 1; a file of another version has number 0 too
+-- the first file has number 0, and the next of its version number 1; a file of another version has
+-- number 0 too
 pub first-number : first_long.number ≡ Some 0
 unfolding free_number default_table
 first-number = refl
@@ -36,7 +37,8 @@ pub other-version : number_for default_table 1700000060 (first_long ∷ []) (lon
 unfolding free_number default_table
 other-version = refl
 
--- the number is free again once version and longest life of the product have passed, and not a second before
+-- the number is free again once version and longest life of the product have passed, and not a
+-- second before
 pub not_yet-free : number_for default_table 1700086379 (first_long ∷ []) (long 1699999980) ≡ Some 1
 unfolding free_number default_table
 not_yet-free = refl
@@ -46,7 +48,8 @@ unfolding free_number default_table
 freed = refl
 
 -- what is sent whole has no number
-pub whole-number : (item_of default_table no_station 1700000000 [] (record (long 1699999980) { payload = replicate {A = ℕ} 418 65 })).number ≡ None
+pub whole-number : (item_of default_table no_station 1700000000 []
+    (record (long 1699999980) { payload = replicate {A = ℕ} 418 65 })).number ≡ None
 unfolding free_number default_table
 whole-number = refl
 
@@ -55,7 +58,12 @@ abbrev key_at : List ℕ → Key
 key_at place = text_report (record { kind = codes "METAR"; place = place; third = None })
 
 abbrev entry_at : List ℕ → ℕ → Entry
-entry_at place version = record { key = key_at place; version = version; until = version + 7200; value = report [] }
+entry_at place version = record {
+  key = key_at place;
+  version = version;
+  until = version + 7200;
+  value = report [];
+}
 
 abbrev weather : ℕ → List Entry → Weather
 weather version entries = record {
@@ -68,7 +76,8 @@ weather version entries = record {
 }
 
 abbrev of_two_keys : Weather
-of_two_keys = weather 1699999980 (entry_at (codes "KAAA") 1699999980 ∷ entry_at (codes "KBBB") 1699999980 ∷ [])
+of_two_keys = weather 1699999980
+    (entry_at (codes "KAAA") 1699999980 ∷ entry_at (codes "KBBB") 1699999980 ∷ [])
 
 abbrev newer_at : List ℕ → Weather
 newer_at place = weather 1700000040 (entry_at place 1700000040 ∷ [])
@@ -79,15 +88,19 @@ given ws = items_made default_table no_station 1700000050 [] ws
 abbrev item_of_two : Item
 item_of_two = item_of default_table no_station 1700000050 [] of_two_keys
 
-pub one-superseded : is_live (given (of_two_keys ∷ newer_at (codes "KAAA") ∷ [])) 1700000060 item_of_two ≡ true
+pub one-superseded : is_live (given (of_two_keys ∷ newer_at (codes "KAAA") ∷ [])) 1700000060
+    item_of_two ≡ true
 unfolding free_number default_table
 one-superseded = refl
 
-pub other-superseded : is_live (given (of_two_keys ∷ newer_at (codes "KBBB") ∷ [])) 1700000060 item_of_two ≡ true
+pub other-superseded : is_live (given (of_two_keys ∷ newer_at (codes "KBBB") ∷ [])) 1700000060
+    item_of_two ≡ true
 unfolding free_number default_table
 other-superseded = refl
 
-pub both-superseded : is_live (given (of_two_keys ∷ newer_at (codes "KAAA") ∷ newer_at (codes "KBBB") ∷ [])) 1700000060 item_of_two ≡ false
+pub both-superseded :
+    is_live (given (of_two_keys ∷ newer_at (codes "KAAA") ∷ newer_at (codes "KBBB") ∷ []))
+    1700000060 item_of_two ≡ false
 unfolding free_number default_table
 both-superseded = refl
 

@@ -2,7 +2,7 @@
 use Rattle.std.proofs.Common.{◌≡◌, ℕ, ◌+◌, ◌-◌, ◌*◌, ◌<◌, ◌≤◌, Bool, true, false, nat_le, cond, if◌then◌else◌, List, [], ◌∷◌, ◌++◌, length, get_or, map, filter, take, drop, min, refl, sym, ap, subst, ◌∙◌, inl, inr, arith, length-append, append-nil, append_assoc}
 use Rattle.std.specs.List.{range_with_len}
 use Rattle.std.proofs.lemmas.Bool.{cases_Bool, leb-true}
-use Rattle.std.proofs.lemmas.List.{map-append, length-map, length-take, take-append-le}
+use Rattle.std.proofs.lemmas.List.{map-append, length-map, length-take, nil_from_length, take-append-le}
 use Rattle.std.proofs.lemmas.List.FromFn.{map-range_with_len_more}
 use Rattle.std.proofs.lemmas.List.Elements.{filter-append}
 use Rattle.list_members.specs.Membership.{IsIn}
@@ -238,16 +238,12 @@ turned_stops live start turns frames sent now new aired h s =
       | inr t ↦ stop_step live frames now h.seen h.ahead h.line t
     ])))
 
-no_more : (xs : List Piece) → length xs ≡ 0 → xs ≡ []
-no_more [] h = refl
-no_more (x ∷ xs) h = absurd (omega arith)
-
 pub turned_ends : (live : Piece → Bool) (start : List Piece) (turns : ℕ) (frames : List InformationFrame) (now : List Piece) (aired : ℕ)
     → IsTurned live start turns frames now aired → length start ≤ turns → IsDone live start frames now aired
 turned_ends live start turns frames now aired h le =
     let size : length start ≡ length h.seen + length h.ahead = ap length h.start_is ∙ length-append h.seen h.ahead in
     let none : length h.ahead ≡ 0 = omega (arith, h.turns_are) in
-    done live start turns frames now aired h (ap (λ l. fitting_pieces (424 - used_by frames) (filter live l)) (no_more h.ahead none))
+    done live start turns frames now aired h (ap (λ l. fitting_pieces (424 - used_by frames) (filter live l)) (nil_from_length h.ahead none))
 
 pub turns_left : (places : List Place) (turns : ℕ) → length places ≤ turns → length (map place_view places) ≤ turns
 turns_left places turns h = subst (λ n. n ≤ turns) (sym (length-map places place_view)) h

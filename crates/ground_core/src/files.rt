@@ -2,6 +2,7 @@
 ghost use Rattle.std.specs.Prelude.{◌≡◌, ◌<◌, ◌+◌, ◌&&◌, ◌==◌, ℕ, true, false, nat_le, nat_lt};
 ghost use Rattle.std.specs.Prelude.{length, if◌then◌else◌, OnOk};
 ghost use Rattle.std.specs.Bool.{OnTrue, OnFalse};
+ghost use Rattle.apdu_core.specs.Apdu.{file_numbers};
 ghost use Rattle.segment_core.specs.File as of_file;
 
 use crate::item::SentItem;
@@ -17,7 +18,7 @@ pub(crate) struct Files {
 
 impl Files {
     ghost use Rattle.ground_core.specs.Views.{count_at};
-    ghost use Rattle.ground_core.specs.Counts.{HasCount};
+    ghost use Rattle.ground_core.specs.Counts.{HasRoomToCount};
 
     /// Nothing was given.
     pub(crate) fn new(alloc: Global) -> Files
@@ -42,7 +43,7 @@ impl Files {
     pub(crate) fn reserve(&mut self, item: &SentItem) -> Result<(), AllocError>
         ensures same { (v p : ℕ) → count_at self.new v p ≡ count_at self.old v p }
         ensures room { OnOk result (of_file.is_segmented item.now.form item.now.payload ≡ true
-            → HasCount self.new item.now.version item.now.product) }
+            → HasRoomToCount self.new item.now.version item.now.product) }
     {
         if item.is_segmented() {
             return self.make_room(item.version, item.product);
@@ -53,7 +54,7 @@ impl Files {
     /// Makes room for a version and a product.
     fn make_room(&mut self, version: Moment, product: u16) -> Result<(), AllocError>
         ensures same { (v p : ℕ) → count_at self.new v p ≡ count_at self.old v p }
-        ensures room { OnOk result (HasCount self.new version product) }
+        ensures room { OnOk result (HasRoomToCount self.new version product) }
     {
         let name = (version.seconds(), product);
         if self.counts.contains_key(&name) {
@@ -68,9 +69,9 @@ impl Files {
     /// Counts an item, whose version and product there is room for, where it is sent in segments.
     pub(crate) fn count_item(&mut self, item: &SentItem)
         requires room { of_file.is_segmented item.now.form item.now.payload ≡ true
-            → HasCount self.old item.now.version item.now.product }
+            → HasRoomToCount self.old item.now.version item.now.product }
         requires few { of_file.is_segmented item.now.form item.now.payload ≡ true
-            → count_at self.old item.now.version item.now.product < 1024 }
+            → count_at self.old item.now.version item.now.product < file_numbers }
         ensures { (v p : ℕ) → count_at self.new v p ≡ count_at self.old v p
             + (if of_file.is_segmented item.now.form item.now.payload
             && (item.now.version == v) && (item.now.product == p) then 1 else 0) }
@@ -82,8 +83,8 @@ impl Files {
 
     /// Counts one more of a version and a product that there is room for.
     fn count(&mut self, version: Moment, product: u16)
-        requires room { HasCount self.old version product }
-        requires few { count_at self.old version product < 1024 }
+        requires room { HasRoomToCount self.old version product }
+        requires few { count_at self.old version product < file_numbers }
         ensures { (v p : ℕ) → count_at self.new v p
             ≡ count_at self.old v p + (if version == v && product == p then 1 else 0) }
     {

@@ -4,6 +4,8 @@ ghost use Rattle.std.specs.Prelude.{None, true, length, map, IfOk, IfErr, OnOk, 
 ghost use Rattle.fisb_time.specs.Moment.{IsMoment};
 ghost use Rattle.life_table.specs.LifeTable.{LifeTable as Table, greatest_life};
 ghost use Rattle.uplink_frame.specs.declared.station.StationId.{StationId as Place};
+ghost use Rattle.apdu_core.specs.Apdu.{file_numbers};
+ghost use Rattle.uplink_frame.specs.UplinkFrame.{frame_room};
 ghost use Rattle.uplink_frame.specs.Station.{FitsStation};
 ghost use Rattle.ground_core.specs.History.{Event, accepted, fill, items};
 ghost use Rattle.segment_core.specs.File as of_file;
@@ -264,7 +266,7 @@ impl Ground {
             ≡ Some (kept_told fault)) }
         ensures same { OnErr result (self.new ≡ self.old) }
 
-        ensures room { IfOk result (λ frame. frame.used ≤ 424) }
+        ensures room { IfOk result (λ frame. frame.used ≤ frame_room) }
     {
         apdu_reads_back();
         keys_are_ordered();
@@ -310,7 +312,7 @@ impl Ground {
         ensures item { IfOk result (λ item. AreItemsOf (count_at self.now.files) self.now.given
             (weather_of self.now.table (text_update version text.now)) (item ∷ [])) }
         ensures few { IfOk result (λ item. of_file.is_segmented item.form item.payload ≡ true
-            → count_at self.now.files item.version item.product < 1024) }
+            → count_at self.now.files item.version item.product < file_numbers) }
         ensures in_range { OnOk result (IsMoment version) }
         ensures none { OnOk result (refusal_by self.now.table (latest_at self.now.newest)
             (count_at self.now.files)
@@ -422,7 +424,7 @@ impl Ground {
     /// Puts an item behind what waits. Whatever takes memory comes before what counts is changed.
     fn put(&mut self, moment: Moment, item: SentItem) -> Result<(), GiveFault>
         requires { of_file.is_segmented item.form item.payload ≡ true
-            → count_at self.old.files item.version item.product < 1024 }
+            → count_at self.old.files item.version item.product < file_numbers }
         ensures ok { OnOk result (IsPut self.old moment (item ∷ []) self.new) }
         ensures err { IfErr result (λ fault. fault ≡ GiveFault.NoMemory) }
         ensures unchanged { OnErr result (IsAsBefore self.old self.new) }

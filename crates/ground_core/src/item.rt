@@ -1,6 +1,7 @@
 //! An item that is sent.
 ghost use Rattle.std.specs.Prelude.{◌≡◌, ◌<◌, ◌≤◌, length, IsTrue};
 ghost use Rattle.fisb_time.specs.TimeForm.{shows};
+ghost use Rattle.apdu_core.specs.Apdu.{file_numbers};
 ghost use Rattle.segment_core.specs.File.{parts};
 ghost use Rattle.segment_core.specs.File as of_file;
 
@@ -28,7 +29,7 @@ pub(crate) struct SentItem {
     pub(crate) payload: Bytes,
     ghost shown: { IsTrue (shows form version) },
     ghost known: { product < 2048 },
-    ghost numbered: { file < 1024 },
+    ghost numbered: { file < file_numbers },
     ghost counted: { count ≡ length (parts form payload) },
     ghost some: { 1 ≤ count },
     ghost few: { count < 512 },

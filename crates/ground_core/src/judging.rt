@@ -4,6 +4,7 @@ ghost use Rattle.std.specs.Prelude.{List, length, IfOk, IfErr, IfSome, IfNone, O
 ghost use Rattle.std.specs.Prelude.{if◌then◌else◌, ◌&&◌};
 ghost use Rattle.std.specs.List.{list_all};
 ghost use Rattle.std.specs.Str.{chars};
+ghost use Rattle.apdu_core.specs.Apdu.{file_numbers};
 ghost use Rattle.fisb_time.specs.TimeForm.{shows};
 ghost use Rattle.dlac_text.specs.Payload.{text_payload};
 ghost use Rattle.life_table.specs.LifeTable.{thirty_days, radar, radar_row};
@@ -191,7 +192,7 @@ pub(crate) fn file_number(
 ) -> Result<u16, GiveFault>
     ensures number { IfOk result (λ number. number
         ≡ (if is_segmented then count_at files.now version product else 0)) }
-    ensures few { IfOk result (λ number. number < 1024) }
+    ensures few { IfOk result (λ number. number < file_numbers) }
     ensures none { (w : Weather) → is_segmented ≡ items.is_segmented w
         → OnOk result (count_refusal w (count_at files.now version product) ≡ None) }
     ensures fault { (w : Weather) → is_segmented ≡ items.is_segmented w
@@ -207,7 +208,7 @@ pub(crate) fn file_number(
 /// The file number of a payload in segments, by how many items in segments there were before.
 fn number_of_segmented(count: u64) -> Result<u16, GiveFault>
     ensures number { IfOk result (λ number. number ≡ count) }
-    ensures few { IfOk result (λ number. number < 1024) }
+    ensures few { IfOk result (λ number. number < file_numbers) }
     ensures none { (w : Weather) → true ≡ items.is_segmented w
         → OnOk result (count_refusal w count ≡ None) }
     ensures fault { (w : Weather) → true ≡ items.is_segmented w

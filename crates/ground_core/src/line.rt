@@ -3,7 +3,7 @@ ghost use Rattle.std.specs.Prelude.{◌≡◌, ℕ, ◌+◌, ◌-◌, ◌*◌, �
 ghost use Rattle.std.specs.Prelude.{filter, drop, take, flat_map, IfOk, OnOk, OnErr};
 ghost use Rattle.std.specs.List.{range_with_len};
 ghost use Rattle.list_members.specs.Membership.{IsIn};
-ghost use Rattle.uplink_frame.specs.UplinkFrame.{fisb_frame};
+ghost use Rattle.uplink_frame.specs.UplinkFrame.{fisb_frame, frame_room};
 ghost use Rattle.ground_core.specs.Views.{latest_at, piece_at};
 ghost use Rattle.ground_core.specs.Putting.{pieces_at, values_of};
 ghost use Rattle.picture_core.specs.Key.{Key};
@@ -121,15 +121,16 @@ impl Line {
     pub(crate) fn air(&mut self, newest: &mut Newest, moment: Moment, frames: &mut AppData) -> usize
         requires { frames.old ≡ [] }
         ensures number { result
-            ≡ length (fitting_pieces 424 (filter (live_by (latest_at newest.old) moment)
+            ≡ length (fitting_pieces frame_room (filter (live_by (latest_at newest.old) moment)
             (pieces_in self.old))) }
         ensures frames { frames.new ≡ map (λ p. fisb_frame (body_of_piece p))
-            (fitting_pieces 424 (filter (live_by (latest_at newest.old) moment)
+            (fitting_pieces frame_room (filter (live_by (latest_at newest.old) moment)
             (pieces_in self.old))) }
-        ensures few { 2 * result ≤ 424 }
+        ensures few { 2 * result ≤ frame_room }
         ensures line { filter (live_by (latest_at newest.old) moment) (pieces_in self.new)
-            ≡ left_pieces 424 (filter (live_by (latest_at newest.old) moment) (pieces_in self.old))
-            ++ fitting_pieces 424 (filter (live_by (latest_at newest.old) moment)
+            ≡ left_pieces frame_room (filter (live_by (latest_at newest.old) moment)
+            (pieces_in self.old))
+            ++ fitting_pieces frame_room (filter (live_by (latest_at newest.old) moment)
             (pieces_in self.old)) }
         ensures among { (p : Piece) → IsIn p (pieces_in self.new) → IsIn p (pieces_in self.old) }
         ensures kept { (key : Key)

@@ -2,7 +2,7 @@
 ghost use Rattle.std.specs.Prelude.{◌≡◌, ◌≤◌, ◌<◌, ◌+◌, ◌-◌, ◌∷◌, [], ◌++◌, nat_lt, nat_le, length};
 ghost use Rattle.std.specs.Prelude.{drop, IsTrue};
 ghost use Rattle.std.specs.Bool.{OnTrue, OnFalse};
-ghost use Rattle.uplink_frame.specs.UplinkFrame.{fisb_frame, spelled_frames};
+ghost use Rattle.uplink_frame.specs.UplinkFrame.{fisb_frame, frame_room, spelled_frames};
 
 use crate::item::SentItem;
 use crate::newest::Newest;
@@ -74,7 +74,7 @@ impl Place {
     pub(crate) fn is_pushed(&self, room: &mut [u8; 422], frames: &mut AppData) -> bool
         ensures answer { result
             ≡ nat_le (room_of_piece (place_view self.now))
-            (424 - length (spelled_frames frames.old)) }
+            (frame_room - length (spelled_frames frames.old)) }
         ensures pushed { OnTrue result (frames.new ≡ frames.old
             ++ fisb_frame (body_of_piece (place_view self.now)) ∷ []) }
         ensures used { OnTrue result (length (spelled_frames frames.new)

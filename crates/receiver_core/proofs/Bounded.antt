@@ -16,7 +16,7 @@ use Rattle.receiver_core.specs.Reception.{Reception, arrivals, contents}
 use Rattle.receiver_core.specs.StandsFor.{Held, StandsFor, moment_now, longest_lives}
 use Rattle.receiver_core.proofs.Completing.{completed_weight}
 use Rattle.receiver_core.proofs.FewEntries.{live_contents}
-use Rattle.receiver_core.proofs.FrameArrivals.{NamesNear}
+use Rattle.receiver_core.proofs.FrameArrivals.{ReadsFrames}
 use Rattle.receiver_core.proofs.ReceptionSums.{are_numbered, bytes_sum, lives_now, room_sum, segments_sum}
 use Rattle.receiver_core.proofs.Segmented.{is_segment, length_of_both, stands_for_segments}
 use Rattle.receiver_core.proofs.Weights.{sum_of_filter}
@@ -28,7 +28,7 @@ EntriesAreBounded = (now : ℕ) (contents kept : List Entry) → IsStore now con
 
 -- the laws of the crates below that this rests on
 pub record HasLaws : Type 0 where
-  pub names : NamesNear
+  pub frames : ReadsFrames
   pub texts : TextsAreWithin
   pub radars : RadarsAreWithin
   pub told : StationsAreTold
@@ -52,7 +52,7 @@ module _ (laws : HasLaws) (table : LifeTable) (heard : List Reception) (held : H
       let same = ap (λ l. sum_by (λ (a : Arrival). length a.payload) (live_arrivals l moment (arrivals table heard))) lives in
       let weighs = sum_of_filter (λ (a : Arrival). length a.payload)
       (λ a. is_live (longest_lives table) moment a.product a.version) (arrivals table heard) in
-      let most = bytes_sum laws.names table moment heard stands.receptions in
+      let most = bytes_sum laws.frames table moment heard stands.receptions in
       omega (arith, bound, same, weighs, most)
 
   few_numbers : length held.joiner.store.pieces ≤ 47 * alive
@@ -63,7 +63,7 @@ module _ (laws : HasLaws) (table : LifeTable) (heard : List Reception) (held : H
       let same = ap (λ l. length (live_arrivals l moment segments)) lives in
       let weighs = length_of_both (λ a. is_live (longest_lives table) moment a.product a.version) is_segment
       (arrivals table heard) in
-      let most = segments_sum laws.names table moment heard stands.receptions in
+      let most = segments_sum laws.frames table moment heard stands.receptions in
       omega (arith, bound, same, weighs, most)
 
   last_is : moment_now heard ≡ moment
@@ -76,9 +76,9 @@ module _ (laws : HasLaws) (table : LifeTable) (heard : List Reception) (held : H
       let bound = laws.entries moment (contents table heard) held.picture.entries shows in
       let kept = ap length purged.entries in
       let whole = live_contents laws.texts laws.radars table rules moment (whole_payloads (arrivals table heard)) in
-      let once = completed_weight laws.told (lives_now laws.names table moment) (arrivals table heard)
-      (are_numbered laws.names table heard) in
-      let most = room_sum laws.names table moment heard stands.receptions in
+      let once = completed_weight laws.told (lives_now laws.frames table moment) (arrivals table heard)
+      (are_numbered laws.frames table heard) in
+      let most = room_sum laws.frames table moment heard stands.receptions in
       omega (arith, bound, kept, whole, once, most)
 
   pub bounded : IsBounded table heard held

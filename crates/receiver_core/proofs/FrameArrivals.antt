@@ -39,15 +39,8 @@ long_header DayMinute = omega arith
 long_header DaySecond = omega arith
 
 -- a header has four bytes at least
-least_header : (form : TimeForm) (segmented : Bool) → 4 ≤ header_length form segmented
-least_header Minute true = omega arith
-least_header Minute false = omega arith
-least_header Second true = omega arith
-least_header Second false = omega arith
-least_header DayMinute true = omega arith
-least_header DayMinute false = omega arith
-least_header DaySecond true = omega arith
-least_header DaySecond false = omega arith
+abbrev pub HeadersAreLong : Type 0
+HeadersAreLong = (form : TimeForm) (segmented : Bool) → 4 ≤ header_length form segmented
 
 numbered_by : (b : Bool) (s : Seg) → (b && is_bad s) ≡ false → IsNumbered (cond b (Some s) None)
 numbered_by false s fine = tt
@@ -62,11 +55,11 @@ segmented_by : (b : Bool) (s : Seg) → is_some (cond b (Some s) None) ≡ true 
 segmented_by true s some = refl
 segmented_by false s some = absurd (cc)
 
-header_leaves : (form : TimeForm) (segmented : Bool) (body : List ℕ) (a : Apdu)
+header_leaves : HeadersAreLong → (form : TimeForm) (segmented : Bool) (body : List ℕ) (a : Apdu)
     → header_length form segmented ≤ length body
     → apdu_of_header form segmented (take (header_length form segmented) body) (drop (header_length form segmented) body)
     ≡ Ok a → IsWithin body a.segmentation a.payload
-header_leaves form segmented body a fits is =
+header_leaves headers form segmented body a fits is =
     let bytes = header_length form segmented in
     let s = segmentation_in form (take bytes body) in
     let read = ok_behind (segmented && is_bad s) _ _ a is in
@@ -74,7 +67,7 @@ header_leaves form segmented body a fits is =
     let same : cond segmented (Some s) None ≡ a.segmentation = (let e = read.1 in cc) in
     record {
       payload_fits =
-          let least = least_header form segmented in
+          let least = headers form segmented in
           omega (arith, least, fits, ap length same_payload, length-drop bytes body);
       header_fits = λ some.
           let own = segmented_by segmented s (ap is_some same ∙ some) in
@@ -83,19 +76,26 @@ header_leaves form segmented body a fits is =
       numbered = subst IsNumbered same (numbered_by segmented s read.0);
     }
 
-body_leaves : (body : List ℕ) (a : Apdu) → apdu_of body ≡ Ok a → IsWithin body a.segmentation a.payload
+body_leaves : HeadersAreLong → (body : List ℕ) (a : Apdu) → apdu_of body ≡ Ok a
+    → IsWithin body a.segmentation a.payload
 unfolding apdu_of
-body_leaves body a is =
+body_leaves headers body a is =
     let long = ok_behind (nat_lt (length body) 4) _ _ a is in
     let unflagged = ok_behind (not (_ == 0)) _ _ a long.1 in
     let bytes = header_length (form_in body) (is_segmented_in body) in
     let whole = ok_behind (nat_lt (length body) bytes) _ _ a unflagged.1 in
-    header_leaves (form_in body) (is_segmented_in body) body a (ltb-false (length body) bytes whole.0) whole.1
+    header_leaves headers (form_in body) (is_segmented_in body) body a
+    (ltb-false (length body) bytes whole.0) whole.1
 
 -- a time names no moment that lies more than a minute after its reception
 abbrev pub NamesNear : Type 0
 NamesNear = (form : TimeForm) (fields : TimeFields) (received moment : ℕ) → named form fields received ≡ Some moment
     → moment ≤ received + 60
+
+-- the laws of times and of headers
+pub record ReadsFrames : Type 0 where
+  pub near : NamesNear
+  pub headers : HeadersAreLong
 
 -- what an arrival is by its frame
 pub record IsOfFrame (received : ℕ) (frame : InformationFrame) (a : Arrival) : Type 0 where
@@ -104,14 +104,14 @@ pub record IsOfFrame (received : ℕ) (frame : InformationFrame) (a : Arrival) :
   pub numbered : IsNumbered a.segmentation
   pub near : a.version ≤ received + 60
 
-module _ (names : NamesNear) (station : StationId) (received : ℕ) (frame : InformationFrame) (a : Arrival) where
+module _ (laws : ReadsFrames) (station : StationId) (received : ℕ) (frame : InformationFrame) (a : Arrival) where
   by_name : (apdu : Apdu) (life : ℕ) (o : Option ℕ) → named apdu.form apdu.time received ≡ o
       → arrival_with_version station received apdu life o ≡ Ok a → IsWithin frame.body apdu.segmentation apdu.payload
       → IsOfFrame received frame a
   by_name apdu life None is arrives within = absurd (cc)
   by_name apdu life (Some version) is arrives within =
       let read = ok_before (nat_lt received (version + life)) _ _ a arrives in
-      let near = names apdu.form apdu.time received version is in
+      let near = laws.near apdu.form apdu.time received version is in
       let same_payload : apdu.payload ≡ a.payload = cc in
       let same : apdu.segmentation ≡ a.segmentation = cc in
       let same_version : version ≡ a.version = cc in
@@ -134,7 +134,7 @@ module _ (names : NamesNear) (station : StationId) (received : ℕ) (frame : Inf
   by_apdu table (Err fault) is arrives = absurd (cc)
   by_apdu table (Ok apdu) is arrives =
       by_row apdu (longest table apdu.product) (ok_before (is_read_product apdu.product) _ _ a arrives)
-      (body_leaves frame.body apdu is)
+      (body_leaves laws.headers frame.body apdu is)
 
   pub arrives_of_frame : (table : LifeTable) → arrival_in table station received frame ≡ Ok a → IsOfFrame received frame a
   arrives_of_frame table arrives =

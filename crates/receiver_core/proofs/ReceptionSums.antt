@@ -16,7 +16,7 @@ use Rattle.receiver_core.specs.Hearing.{AreReceptions}
 use Rattle.receiver_core.specs.Reception.{Reception, arrival_in, arrivals, arrivals_in, station_heard}
 use Rattle.receiver_core.specs.StandsFor.{longest_lives}
 use Rattle.receiver_core.proofs.Completing.{AreNumbered, IsNumbered}
-use Rattle.receiver_core.proofs.FrameArrivals.{NamesNear, arrives_of_frame}
+use Rattle.receiver_core.proofs.FrameArrivals.{ReadsFrames, arrives_of_frame}
 use Rattle.receiver_core.proofs.FrameSizes.{frame_size, frames_size}
 use Rattle.receiver_core.proofs.Weights.{sum_none}
 
@@ -59,7 +59,7 @@ longest_by lives true q = omega arith
 longest_by lives false true = omega arith
 longest_by lives false false = omega arith
 
-module _ (names : NamesNear) (table : LifeTable) (moment : ℕ) where
+module _ (laws : ReadsFrames) (table : LifeTable) (moment : ℕ) where
   abbrev pub lives_now : ℕ → ℕ → Bool
   lives_now product version = is_live (longest_lives table) moment product version
 
@@ -83,7 +83,7 @@ module _ (names : NamesNear) (table : LifeTable) (moment : ℕ) where
       let sum = sum_made (λ frame. result_ok (arrival_in table (station_heard heard) heard.moment frame)) k
       (λ a. cond (lives_now a.product a.version) (w a) 0) (λ frame. cond may (frame_size frame) 0) frames
       (λ frame a is.
-      let of = arrives_of_frame names (station_heard heard) heard.moment frame a table
+      let of = arrives_of_frame laws (station_heard heard) heard.moment frame a table
       (ok_from (arrival_in table (station_heard heard) heard.moment frame) a is) in
       gate k (lives_now a.product a.version) may (w a) (frame_size frame)
       (lives_by heard a.product a.version of.near) (each frame a of.payload_fits of.header_fits)) in
@@ -167,11 +167,11 @@ numbered_made : {A : Type 0} (f : A → Option Arrival) (xs : List A)
 numbered_made f [] each = tt
 numbered_made f (x ∷ xs) each = numbered_one (f x) (filter_map f xs) (each x) (numbered_made f xs each)
 
-pub are_numbered : NamesNear → (table : LifeTable) (past : List Reception) → AreNumbered (arrivals table past)
-are_numbered names table [] = tt
-are_numbered names table (heard ∷ past) =
-    numbered_joined (arrivals table past) (arrivals_in table heard) (are_numbered names table past)
+pub are_numbered : ReadsFrames → (table : LifeTable) (past : List Reception) → AreNumbered (arrivals table past)
+are_numbered laws table [] = tt
+are_numbered laws table (heard ∷ past) =
+    numbered_joined (arrivals table past) (arrivals_in table heard) (are_numbered laws table past)
     (numbered_made (λ frame. result_ok (arrival_in table (station_heard heard) heard.moment frame))
     (information_frames heard.payload) (λ frame a is.
-    (arrives_of_frame names (station_heard heard) heard.moment frame a table
+    (arrives_of_frame laws (station_heard heard) heard.moment frame a table
     (ok_from (arrival_in table (station_heard heard) heard.moment frame) a is)).numbered))

@@ -6,6 +6,7 @@ ghost use Rattle.receiver_core.specs.Bound.{ReceiversAreBounded};
 ghost use Rattle.receiver_core.specs.Laws.{FramesAreReception, KeepsReception};
 ghost use Rattle.std.specs.Prelude.{◌≡◌, ℕ, List, []};
 
+use apdu_core::apdu_reads_back;
 use fisb_time::named_is_greatest;
 use life_table::longest_is_greatest;
 use picture_core::laws::{life_of_entries, store_is_bounded, store_may_forget, store_of_entries};
@@ -47,6 +48,7 @@ pub(crate) fn forgets_once()
 pub(crate) fn receivers_are_bounded()
     ensures { ReceiversAreBounded }
 {
+    apdu_reads_back();
     named_is_greatest();
     longest_is_greatest();
     stations_are_told();

@@ -77,4 +77,5 @@ refused_text work (Some fault) = work.refusal fault.line fault.reason
 
 -- the output: what the lines acted on give, and the refusal of the first fault
 abbrev pub output_of : Work → Bool → List ℕ → List ℕ
-output_of work ended text = acted_text work ended text ++ refused_text work (first_fault work ended text)
+output_of work ended text =
+    acted_text work ended text ++ refused_text work (first_fault work ended text)

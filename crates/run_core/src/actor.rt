@@ -21,7 +21,8 @@ pub trait Actor: Drop {
     fn new(alloc: Global, table: &[u8]) -> Result<Self, Stop>
         ensures { HasOpened (work.opened table.now) (stands table.now []) result };
 
-    /// Acts on a line after the lines acted on, and answers the text that it gives.
+    /// Acts on a line after the lines acted on, and answers the text that it gives. After an `Err`
+    /// nothing is said of the actor: the run ends and lets it go.
     fn act(&mut self, alloc: Global, line: &[u8]) -> Result<Bytes, Stop>
         requires { length line.now ≤ line_limit }
         ensures { (table : List ℕ) (past : List (List ℕ)) → stands table past self.old

@@ -1,6 +1,7 @@
 //! Laws of runs and of tasks, for the crates above: each is the contract of a function that does
 //! nothing.
-ghost use Rattle.run_core.specs.Laws.{DecidedAgrees, RunAgrees, RunsComplete, RunsDecide, TasksAreStable};
+ghost use Rattle.run_core.specs.Laws.{DecidedAgrees, RunAgrees, RunsComplete, RunsDecide};
+ghost use Rattle.run_core.specs.Laws.{TasksAreStable};
 
 /// A run of a task is a run of each task that has the same faults and the same outputs.
 #[inline]

@@ -1,12 +1,12 @@
 -- A run over a source that never fails and a new sink with room.
-use Rattle.std.proofs.Common.{◌≡◌, ◌≢◌, ℕ, ◌<◌, ◌≤◌, ◌++◌, true, nat_le, if◌then◌else◌, List, [], Option, Some, None, length, refl, sym, subst, ap, ◌∙◌, inl, inr, arith}
-use Rattle.std.proofs.lemmas.Bool.Decides.{nat_tests}
+use Rattle.std.proofs.Common.{◌≡◌, ◌≢◌, ℕ, ◌<◌, ◌≤◌, ◌++◌, List, [], Option, Some, None, length, refl, sym, subst, ap, ◌∙◌, inl, inr, arith}
+use Rattle.std.proofs.lemmas.Bool.{cond-true, le-leb}
 use Rattle.fisb_wire.specs.Faults.{Rose, counted}
 use Rattle.fisb_wire.specs.Memory.{Store, store_reach}
 use Rattle.run_core.specs.declared.status.Status.{Status}
 use Rattle.run_core.specs.declared.status.Status.TheVariants.{Done, ReadFault, WriteFault, NoMemory}
 use Rattle.run_core.specs.Limits.{input_limit}
-use Rattle.run_core.specs.Run.{Task, Ending, Ends, at_end, full, ends, IsComplete, IsJudged, IsVerdict, ending_of, taken_fault, taken_output}
+use Rattle.run_core.specs.Run.{Task, Ends, at_end, full, ends, IsComplete, IsJudged, IsVerdict, ending_of, taken_fault, taken_output}
 use Rattle.run_trials.specs.Whole.{IsWhole}
 
 -- a new sink with so much room
@@ -43,9 +43,6 @@ module _ (task : Task) (input source : List ℕ) (room : ℕ) (fails : List ℕ)
       (ap store_reach is ∙ fresh-reach room fails none) still small in
       (all.0, all.1, whole-by empty all.2)
 
-within : (size limit : ℕ) (one other : Ending) → size ≤ limit → (if nat_le size limit then one else other) ≡ one
-within size limit one other fits = let test : nat_le size limit ≡ true = grind (arith, nat_tests) in rw test refl
-
 done-by : (task : Task) (input taken : List ℕ) (status : Status) → taken_fault task input at_end ≡ None
     → status ≢ NoMemory → IsWhole task at_end input status taken
     → (status ≡ Done) × (taken ≡ taken_output task input at_end)
@@ -58,7 +55,8 @@ pub done : (task : Task) (input taken : List ℕ) (status : Status) (room : ℕ)
     → (length (taken_output task input (ending_of input)) < room → IsWhole task (ending_of input) input status taken)
     → status ≢ NoMemory → (status ≡ Done) × (taken ≡ taken_output task input at_end)
 done task input taken status room fits clean small whole found =
-    let is : ending_of input ≡ at_end = within (length input) input_limit at_end full fits in
+    let is : ending_of input ≡ at_end =
+    cond-true _ at_end full (le-leb (length input) input_limit fits) in
     done-by task input taken status clean found
     (subst (λ e. IsWhole task e input status taken) is
     (whole (subst (λ e. length (taken_output task input e) < room) (sym is) small)))

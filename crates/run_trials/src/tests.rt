@@ -25,7 +25,7 @@ fn numbers(alloc: Global, items: &[u32]) -> Result<Numbers, AllocError> {
 }
 
 // `before`, the byte so many times, and `after`.
-fn filled(
+fn long_input(
     alloc: Global,
     before: &[u8],
     byte: u8,
@@ -63,7 +63,7 @@ fn status_of(alloc: Global, input: Bytes) -> Result<Status, AllocError> {
     Ok(run_over(alloc, &mut source)?.0)
 }
 
-fn refused(line: u64, reason: Reason) -> Status {
+fn refusal(line: u64, reason: Reason) -> Status {
     Status::Refused { line, reason }
 }
 
@@ -124,7 +124,7 @@ fn a_script_may_be_cut_after_each_byte(rt: HostRuntime) -> Result<(), Fail> {
         let mut source = FaithfulSource::new(bytes(rt.alloc(), SCRIPT.split_at(end).0)?);
         let ran = run_over(rt.alloc(), &mut source)?;
         if end < 3 {
-            assert_eq!(rt; ran.0, refused(1, Reason::NoTable));
+            assert_eq!(rt; ran.0, refusal(1, Reason::NoTable));
             assert_eq!(rt; ran.1.as_slice(), b"refused 1 notable\n".as_slice());
         } else {
             assert_eq!(rt; ran.0, Status::Done);
@@ -164,10 +164,10 @@ fn an_input_may_be_read_at_once(rt: HostRuntime) -> Result<(), Fail> {
 
 #[test]
 fn nothing_is_read_after_a_refused_line(rt: HostRuntime) -> Result<(), Fail> {
-    let input = filled(rt.alloc(), b"---\nbad\n", b'#', 8000, b"")?;
+    let input = long_input(rt.alloc(), b"---\nbad\n", b'#', 8000, b"")?;
     let mut source = in_pieces(rt.alloc(), input, 1, 8008)?;
     let ran = run_over(rt.alloc(), &mut source)?;
-    assert_eq!(rt; ran.0, refused(2, Reason::Syntax));
+    assert_eq!(rt; ran.0, refusal(2, Reason::Syntax));
     assert_eq!(rt; ran.1.as_slice(), b"refused 2 syntax\n".as_slice());
     assert_eq!(rt; source.rest().len(), 8000);
     Ok(())
@@ -181,35 +181,35 @@ fn lines_and_tables_have_a_greatest_length(rt: HostRuntime) -> Result<(), Fail> 
             b'a',
             32_769,
             b"".as_slice(),
-            refused(2, Reason::LineLong),
+            refusal(2, Reason::LineLong),
         ),
         (
             b"---\n".as_slice(),
             b'a',
             32_769,
             b"\n".as_slice(),
-            refused(2, Reason::LineLong),
+            refusal(2, Reason::LineLong),
         ),
         (
             b"---\n".as_slice(),
             b'a',
             32_768,
             b"\n".as_slice(),
-            refused(2, Reason::Syntax),
+            refusal(2, Reason::Syntax),
         ),
         (
             b"".as_slice(),
             b'#',
             65_541,
             b"".as_slice(),
-            refused(1, Reason::TableLong),
+            refusal(1, Reason::TableLong),
         ),
         (
             b"".as_slice(),
             b'#',
             65_540,
             b"".as_slice(),
-            refused(1, Reason::NoTable),
+            refusal(1, Reason::NoTable),
         ),
         (
             b"".as_slice(),
@@ -230,18 +230,18 @@ fn lines_and_tables_have_a_greatest_length(rt: HostRuntime) -> Result<(), Fail> 
             b'#',
             65_536,
             b"\n---\n".as_slice(),
-            refused(1, Reason::TableLong),
+            refusal(1, Reason::TableLong),
         ),
         (
             b"".as_slice(),
             b'#',
             65_536,
             b"\n---".as_slice(),
-            refused(1, Reason::NoTable),
+            refusal(1, Reason::NoTable),
         ),
     ];
     for (before, byte, count, after, status) in rows {
-        let input = filled(rt.alloc(), before, byte, count, after)?;
+        let input = long_input(rt.alloc(), before, byte, count, after)?;
         assert_eq!(rt; status_of(rt.alloc(), input)?, status);
     }
     Ok(())
@@ -257,10 +257,10 @@ fn without_read(alloc: Global, input: Bytes, number: u32) -> Result<(Status, Vec
 fn a_part_line_that_is_too_long_is_refused_before_a_failed_read(
     rt: HostRuntime,
 ) -> Result<(), Fail> {
-    let input = filled(rt.alloc(), b"---\n", b'a', 32_769, b"")?;
+    let input = long_input(rt.alloc(), b"---\n", b'a', 32_769, b"")?;
     let ran = without_read(rt.alloc(), input, 9)?;
-    assert_eq!(rt; ran.0, refused(2, Reason::LineLong));
-    let input = filled(rt.alloc(), b"---\n", b'a', 32_768, b"")?;
+    assert_eq!(rt; ran.0, refusal(2, Reason::LineLong));
+    let input = long_input(rt.alloc(), b"---\n", b'a', 32_768, b"")?;
     let ran = without_read(rt.alloc(), input, 9)?;
     assert_eq!(rt; ran.0, Status::ReadFault);
     Ok(())
@@ -268,10 +268,10 @@ fn a_part_line_that_is_too_long_is_refused_before_a_failed_read(
 
 #[test]
 fn a_table_that_is_too_long_is_refused_before_a_failed_read(rt: HostRuntime) -> Result<(), Fail> {
-    let input = filled(rt.alloc(), b"", b'#', 65_541, b"")?;
+    let input = long_input(rt.alloc(), b"", b'#', 65_541, b"")?;
     let ran = without_read(rt.alloc(), input, 17)?;
-    assert_eq!(rt; ran.0, refused(1, Reason::TableLong));
-    let input = filled(rt.alloc(), b"", b'#', 65_540, b"")?;
+    assert_eq!(rt; ran.0, refusal(1, Reason::TableLong));
+    let input = long_input(rt.alloc(), b"", b'#', 65_540, b"")?;
     let ran = without_read(rt.alloc(), input, 17)?;
     assert_eq!(rt; ran.0, Status::ReadFault);
     Ok(())
@@ -281,7 +281,7 @@ fn a_table_that_is_too_long_is_refused_before_a_failed_read(rt: HostRuntime) -> 
 fn a_line_is_refused_before_a_failed_read(rt: HostRuntime) -> Result<(), Fail> {
     let input = bytes(rt.alloc(), b"---\n+one\nbad\n+tw")?;
     let ran = without_read(rt.alloc(), input, 1)?;
-    assert_eq!(rt; ran.0, refused(3, Reason::Syntax));
+    assert_eq!(rt; ran.0, refusal(3, Reason::Syntax));
     assert_eq!(rt; ran.1.as_slice(), b"+one\nrefused 3 syntax\n".as_slice());
     Ok(())
 }
@@ -333,7 +333,10 @@ fn a_sink_may_take_one_byte_a_call(rt: HostRuntime) -> Result<(), Fail> {
 /// A source of a script without a table, each of whose lines begins with `#`. It has no end.
 #[derive(Drop)]
 struct Endless {
-    has_begun: bool,
+    // The most bytes that one read asked for.
+    longest: usize,
+    // How many bytes were given.
+    given: usize,
 }
 
 impl Source for Endless {
@@ -345,7 +348,7 @@ impl Source for Endless {
 
     fn read(&mut self, room: &mut [u8]) -> Result<usize, Failed> {
         let size = room.len();
-        let piece: &[u8] = if self.has_begun { b"###\n" } else { b"---\n" };
+        let piece: &[u8] = if self.given > 0 { b"###\n" } else { b"---\n" };
         room.fill(b'#');
         if size >= 8 {
             room[..4].copy_from_slice(piece);
@@ -353,16 +356,23 @@ impl Source for Endless {
         if let Some(last) = room.last_mut() {
             *last = b'\n';
         }
-        self.has_begun = true;
+        self.longest = self.longest.max(size);
+        self.given = self.given.saturating_add(size);
         Ok(size)
     }
 }
 
 #[test]
 fn an_input_has_at_most_67108864_bytes(rt: HostRuntime) -> Result<(), Fail> {
-    let ran = run_over(rt.alloc(), &mut Endless { has_begun: false })?;
+    let mut source = Endless {
+        longest: 0,
+        given: 0,
+    };
+    let ran = run_over(rt.alloc(), &mut source)?;
     assert_eq!(rt; ran.0, Status::TooLong);
     assert_eq!(rt; ran.1.as_slice(), b"".as_slice());
+    assert_eq!(rt; source.longest, 4_096);
+    assert_eq!(rt; source.given, 67_108_865);
     Ok(())
 }
 

@@ -13,7 +13,7 @@ use Rattle.workload.specs.Texts.{word, two_digits, report}
 use Rattle.workload.specs.Hearings.{place_on_air, block_changes, changes}
 use Rattle.workload.specs.Step.{FitsStep}
 use Rattle.workload.specs.Workload.{Part, nothing, step, ◌>>◌, each_from, metar, taf, block, blanks, blocks, hearing, second, moment_of, metar_in, taf_in, radar_in, minute, workload}
-use Rattle.workload.specs.Progress.{picture, turns, after_metars, rest_of_minute, rest, still_to_come}
+use Rattle.workload.specs.Progress.{picture_in, turns, after_metars, rest_of_minute, rest, still_to_come}
 use Rattle.workload.proofs.Transitions.{minute-is}
 
 -- whatever the draws, each step of the part is in its ranges
@@ -143,13 +143,13 @@ fits-radar_in : (i : ℕ) → Fits (radar_in i)
 unfolding radar_in
 fits-radar_in i = fits-if (eqb (i % 5) 0) (blocks (moment_of i) [] 99900 900) (fits-blocks (moment_of i) 99900 900 [])
 
-fits-picture : (i : ℕ) → Fits (picture i)
-unfolding picture
+fits-picture : (i : ℕ) → Fits (picture_in i)
+unfolding picture_in
 fits-picture i state = one (Show (moment_of i + 59)) tt
 
 fits-turns : (i c : ℕ) → Fits (turns i c)
 unfolding turns
-fits-turns i c = fits-then (each_from c (60 - c) (second (moment_of i))) (picture i) (fits-each c (60 - c) (second (moment_of i)) (fits-second (moment_of i))) (fits-picture i)
+fits-turns i c = fits-then (each_from c (60 - c) (second (moment_of i))) (picture_in i) (fits-each c (60 - c) (second (moment_of i)) (fits-second (moment_of i))) (fits-picture i)
 
 fits-after_metars : (i : ℕ) → Fits (after_metars i)
 unfolding after_metars
@@ -164,7 +164,7 @@ fits-rest_of_minute i listed (Block number) = fits-then (blocks (moment_of i) li
 fits-rest_of_minute i listed (Turn c) = fits-turns i c
 fits-rest_of_minute i listed (Hearing c) =
     let more : Part = each_from (c + 1) (60 - (c + 1)) (second (moment_of i)) in
-    fits-then (hearing (moment_of i + c) >> more) (picture i)
+    fits-then (hearing (moment_of i + c) >> more) (picture_in i)
     (fits-then (hearing (moment_of i + c)) more (fits-hearing (moment_of i + c)) (fits-each (c + 1) (60 - (c + 1)) (second (moment_of i)) (fits-second (moment_of i)))) (fits-picture i)
 fits-rest_of_minute i listed Picture = fits-picture i
 

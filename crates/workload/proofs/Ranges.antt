@@ -1,5 +1,5 @@
 -- The ranges of the phases.
-use Rattle.std.proofs.Common.{◌≡◌, ℕ, ◌+◌, ◌*◌, ◌%◌, ◌<◌, Bool, true, false, cond, eqb, List, [], ◌∷◌, length, refl, arith, ap, subst, sym}
+use Rattle.std.proofs.Common.{◌≡◌, ℕ, ◌+◌, ◌*◌, ◌%◌, ◌<◌, Bool, true, false, cond, eqb, List, [], arith, ap, subst, sym}
 use Rattle.std.specs.Prelude.{Result, Ok, Err, OnErr}
 use Rattle.workload.specs.declared.progress.Phase.{Phase}
 use Rattle.workload.specs.declared.progress.Phase.TheVariants.{Block, Turn, Taf}
@@ -28,11 +28,6 @@ distance-after_taf i phase after = let P : Phase → Type 0 = λ p. distance_in_
 
 pub distance-within : (p : Progress) (phase : Phase) → p.phase ≡ Taf → distance_in_minute phase < 1024 → p.left * 1100 + distance_in_minute phase < p.left * 1100 + distance_in_minute p.phase
 distance-within p phase at h = let far : distance_in_minute p.phase ≡ 1024 = ap distance_in_minute at in omega arith
-
--- a list of length 0
-pub empty-list : (xs : List ℕ) → length xs ≡ 0 → xs ≡ []
-empty-list [] h = refl
-empty-list (x ∷ xs) h = absurd (omega arith)
 
 -- what holds in any case holds of an error
 pub on_error : {A E : Type 0} {P : Type 0} (r : Result A E) → P → OnErr r P

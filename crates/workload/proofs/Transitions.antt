@@ -8,7 +8,7 @@ use Rattle.workload.specs.declared.progress.Progress.{Progress}
 use Rattle.workload.specs.declared.progress.Phase.TheVariants.{Metar, Taf, Block, Turn, Hearing, Picture}
 use Rattle.workload.specs.Draws.{state_after, number_from}
 use Rattle.workload.specs.Workload.{Part, nothing, ◌>>◌, each_from, metar, taf, block, blanks, blocks, hearing, second, moment_of, metar_in, taf_in, radar_in, minute}
-use Rattle.workload.specs.Progress.{picture, turns, after_metars, rest_of_minute, phase_after_taf, rest, still_to_come}
+use Rattle.workload.specs.Progress.{picture_in, turns, after_metars, rest_of_minute, phase_after_taf, rest, still_to_come}
 use Rattle.workload.proofs.PartLemmas.{ne-eqb}
 
 -- The part `before`, from a state, is these steps and then the part `after`, from another state.
@@ -75,7 +75,7 @@ still_to_come-none p h = let none : p.left ≡ 0 = omega arith in rw none refl
 
 -- a whole minute is what comes from its first METAR on
 pub minute-is : (i : ℕ) → rest_of_minute i [] (Metar 0) ≡ minute i
-unfolding rest_of_minute after_metars turns picture minute
+unfolding rest_of_minute after_metars turns picture_in minute
 minute-is i = refl
 
 pub rest-start : (count i : ℕ) → rest count i [] (Metar 0) ≡ each_from i count minute
@@ -84,7 +84,7 @@ rest-start zero i = sym (each_from-zero i minute)
 rest-start (suc more) i = rw (each_from-suc i more minute, minute-is i) refl
 
 picture-goes : (i state : ℕ) (more : Part) → ((rest_of_minute i [] Picture >> more) state).0 ≡ show_step (moment_of i + 59) ∷ (more state).0
-unfolding rest_of_minute picture
+unfolding rest_of_minute picture_in
 picture-goes i state more = refl
 
 -- from one minute to the next
@@ -212,12 +212,12 @@ unfolding rest_of_minute turns
 turns-next i c moment state listed h at =
     let more : Part = each_from (c + 1) (60 - (c + 1)) (second (moment_of i)) in
     rw (each_from-next c 60 (second (moment_of i)) h, at)
-    (goes-then (second (moment_of i) c >> more) (hearing (moment_of i + c) >> more) (picture i) state state (turn_step (moment_of i + c) (c % 32) ∷ [])
+    (goes-then (second (moment_of i) c >> more) (hearing (moment_of i + c) >> more) (picture_in i) state state (turn_step (moment_of i + c) (c % 32) ∷ [])
     (goes-then (second (moment_of i) c) (hearing (moment_of i + c)) more state state (turn_step (moment_of i + c) (c % 32) ∷ []) (second-goes (moment_of i) c state)))
 
 pub turns-end : (i c state : ℕ) (listed : List ℕ) → 60 ≤ c → Goes (rest_of_minute i listed (Turn c)) state [] (rest_of_minute i listed Picture) state
 unfolding rest_of_minute turns
-turns-end i c state listed h = goes-on c 60 state (second (moment_of i)) (picture i) h
+turns-end i c state listed h = goes-on c 60 state (second (moment_of i)) (picture_in i) h
 
 -- the hearings
 pub hearings-next : (i c moment state next : ℕ) (listed : List ℕ) (handed : List Step) → moment ≡ moment_of i + c → hearing moment state ≡ (handed, next)
@@ -226,4 +226,4 @@ unfolding rest_of_minute turns
 hearings-next i c moment state next listed handed at is =
     let heard : hearing (moment_of i + c) state ≡ (handed, next) = rw (← at) is in
     let more : Part = each_from (c + 1) (60 - (c + 1)) (second (moment_of i)) in
-    goes-then (hearing (moment_of i + c) >> more) more (picture i) state next handed (goes-first (hearing (moment_of i + c)) more state next handed heard)
+    goes-then (hearing (moment_of i + c) >> more) more (picture_in i) state next handed (goes-first (hearing (moment_of i + c)) more state next handed heard)

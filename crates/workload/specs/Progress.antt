@@ -11,12 +11,12 @@ use Rattle.workload.specs.Workload.{Part, nothing, step, ◌>>◌, each_from, mo
 use Rattle.workload.specs.Workload.{metar_in, taf_in, radar_in, blocks, hearing, second}
 
 -- the picture of minute i
-unfoldable pub picture : ℕ → Part
-picture i = step (Show (moment_of i + 59))
+unfoldable pub picture_in : ℕ → Part
+picture_in i = step (Show (moment_of i + 59))
 
 -- minute i from the turn of a second on
 unfoldable pub turns : ℕ → ℕ → Part
-turns i c = each_from c (60 - c) (second (moment_of i)) >> picture i
+turns i c = each_from c (60 - c) (second (moment_of i)) >> picture_in i
 
 -- minute i after its METARs
 unfoldable pub after_metars : ℕ → Part
@@ -32,8 +32,8 @@ rest_of_minute i listed (Block number) =
 rest_of_minute i listed (Turn c) = turns i c
 rest_of_minute i listed (Hearing c) =
     (hearing (moment_of i + c) >> each_from (c + 1) (60 - (c + 1)) (second (moment_of i)))
-    >> picture i
-rest_of_minute i listed Picture = picture i
+    >> picture_in i
+rest_of_minute i listed Picture = picture_in i
 
 -- what comes after the TAF of minute i: radar, or else the turns
 unfoldable pub phase_after_taf : ℕ → Phase

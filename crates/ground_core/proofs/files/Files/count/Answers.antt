@@ -2,7 +2,7 @@ use Rattle.std.proofs.Common.{◌≡◌, ℕ, ◌+◌, ◌&&◌, ◌==◌, if◌
 use Rattle.std.specs.BTreeMap.{get}
 use Rattle.std.specs.Option.{option_copied_mut}
 use Rattle.ground_core.specs.Views.{count_at}
-use Rattle.ground_core.specs.Counts.{HasCount}
+use Rattle.ground_core.specs.Counts.{HasRoomToCount}
 use Rattle.ground_core.proofs.MapKeys.{pair_cmp, put_count}
 use Rattle.ground_core.proofs.files.Files.count.Goals as goal
 
@@ -22,4 +22,4 @@ returns-in-Some c =
     subst (λ s. (v p : ℕ) → count_at (record { counts = c.get_mut.follows.lender (c.in-Some.count.now + 1) }) v p
     ≡ count_at c.args.self.now v p + (if (s == v) && (c.args.product == p) then 1 else 0)) c.seconds.ensures.value
     (λ v p. put_count c.seconds.result c.args.product v p c.in-Some.count.now (λ x y. get pair_cmp c.args.self.now.counts (x, y)) _ found
-    (((c.get_mut.follows.holds (c.in-Some.count.now + 1)).3 (subst (λ s. HasCount c.args.self.now s c.args.product) (sym c.seconds.ensures.value) c.requires.room)).0 (v, p)))
+    (((c.get_mut.follows.holds (c.in-Some.count.now + 1)).3 (subst (λ s. HasRoomToCount c.args.self.now s c.args.product) (sym c.seconds.ensures.value) c.requires.room)).0 (v, p)))

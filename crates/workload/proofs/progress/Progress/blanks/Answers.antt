@@ -4,7 +4,7 @@ use Rattle.std.proofs.lemmas.Bool.{eqb-true, eqb-false}
 use Rattle.workload.specs.declared.step.Step.TheVariants.{Blanks}
 use Rattle.workload.specs.Progress.{still_to_come}
 use Rattle.workload.proofs.progress.Progress.blanks.Goals as goal
-use Rattle.workload.proofs.Ranges.{empty-list}
+use Rattle.std.proofs.lemmas.List.{nil_from_length}
 use Rattle.workload.proofs.Transitions.{rest-within, blanks-none, blanks-next}
 
 pub returns-then-is_empty-clause-handed : goal.returns-then-is_empty-clause-handed
@@ -12,7 +12,7 @@ unfolding still_to_come
 returns-then-is_empty-clause-handed c =
     let last : 100800 ≤ 100800 = omega arith in
     let none : c.args.self.now.listed.items ≡ [] =
-    empty-list c.args.self.now.listed.items (sym c.args.self.now.listed.ok.0 ∙ eqb-true (vec_len c.args.self.now.listed) 0 (sym c.if-is_empty.ensures)) in
+    nil_from_length c.args.self.now.listed.items (sym c.args.self.now.listed.ok.0 ∙ eqb-true (vec_len c.args.self.now.listed) 0 (sym c.if-is_empty.ensures)) in
     rest-within _ _ _ _ _ _ _ _ _ [] c.requires.more c.requires.phase
     (blanks-none c.args.self.now.minute 100800 c.args.self.now.draws.state c.args.self.now.listed.items last none)
 
