@@ -6,10 +6,10 @@ use Rattle.life_table.specs.LifeTable.{LifeTable}
 use Rattle.script_core.specs.Script.{Line}
 use Rattle.script_core.specs.Fields.{line_of}
 use Rattle.refusal_core.specs.declared.reason.Reason.{Reason}
-use Rattle.refusal_core.specs.declared.reason.Reason.TheVariants.{Station, NotBuilt}
+use Rattle.refusal_core.specs.declared.reason.Reason.TheVariants.{Station}
 use Rattle.fisb_app.specs.declared.party.Party.{Party}
 use Rattle.fisb_app.specs.Past.{lines_of, moment_of, latest, has_begun}
-use Rattle.fisb_app.specs.Reading.{CanCome, front_refusal, built_refusal, party_refusal, station_refusal, clock_refusal, own_refusal, is_unbuilt, is_station}
+use Rattle.fisb_app.specs.Reading.{CanCome, front_refusal, party_refusal, station_refusal, clock_refusal, own_refusal, is_station}
 use Rattle.fisb_app.specs.Output.{Shows, given_text}
 use Rattle.fisb_app.specs.Work.{answer, answer_under, formed_answer, line_answer, text_unless, opening_table}
 
@@ -62,13 +62,9 @@ pub record IsClear (party : Party) (acted : List Line) (line : Line) : Type 0 wh
 pub clear : (party : Party) (acted : List Line) (line : Line) → front_refusal party (has_begun acted) (latest acted) line ≡ None → IsClear party acted line
 clear party acted line e =
     let one = or-none (party_refusal party line) _ e in
-    let two = or-none (built_refusal line) _ one.1 in
-    let three = or-none (station_refusal (has_begun acted) line) _ two.1 in
+    let two = or-none (station_refusal (has_begun acted) line) _ one.1 in
     record {
-      can = record {
-        built = none-else (is_unbuilt line) NotBuilt two.0;
-        first = both-false (is_station line) (has_begun acted) (none-else _ Station three.0);
-      };
+      can = record { first = both-false (is_station line) (has_begun acted) (none-else _ Station two.0) };
       here = one.0;
-      clock = three.1;
+      clock = two.1;
     }

@@ -9,4 +9,5 @@ pub mod Agreeing
 pub mod Promised
 pub mod Receiving
 pub mod Keeping
+pub mod Giving
 pub mod Acting

@@ -11,9 +11,11 @@ use Rattle.uplink_frame.specs.Station.{FitsStation}
 use Rattle.uplink_frame.specs.Laws.{StationsAreTold}
 use Rattle.uplink_weave.specs.Laws.{NearFrameGivesPayload}
 use Rattle.uplink_weave.specs.Functions.{payload_in, lost_block_in}
+use Rattle.fisb_time.specs.Moment.{IsMoment}
 use Rattle.life_table.specs.LifeTable.{LifeTable}
 use Rattle.life_table.specs.Rules.{IsTable}
 use Rattle.ground_core.specs.Update as updates
+use Rattle.ground_core.specs.Update.{IsUpdate}
 use Rattle.ground_core.specs.History.{Event, accepted, fill}
 use Rattle.ground_core.specs.Airing.{Frame, frame_payload}
 use Rattle.ground_core.specs.Broadcast.{StationEvent, IsBroadcast, IsNext, IsNotBefore, frames}
@@ -24,12 +26,12 @@ use Rattle.segment_core.specs.Store.{last_above}
 use Rattle.fisb_link.specs.LinkPicture.{link_picture}
 use Rattle.fisb_link.specs.Hearing.{IsInTime, IsAfterHearings, AreHeard, receptions_of, payload_sent}
 use Rattle.fisb_link.specs.PicturesAgree.{PicturesAgree, HearingsStay}
-use Rattle.script_core.specs.Script.{Line, empty, station, text, turn, hear, show}
+use Rattle.script_core.specs.Script.{Line, empty, station, text, radar, blank, turn, hear, show}
 use Rattle.script_core.specs.LineView.{HasRanges}
 use Rattle.refusal_core.specs.declared.reason.Reason.TheVariants.{Clock, Late}
 use Rattle.fisb_app.specs.declared.party.Party.TheVariants.{Link}
 use Rattle.fisb_app.specs.Past.{events, broadcast, hearings, station_of, sent_frames, air_of, air_heard, reception_from, received_frame, reception_by, receptions, latest}
-use Rattle.fisb_app.specs.Reading.{refusal_of, own_refusal, text_refusal, frame_refusal, receiver_refusal, earlier_than, reason_of_update}
+use Rattle.fisb_app.specs.Reading.{refusal_of, own_refusal, update_refusal, frame_refusal, receiver_refusal, earlier_than, reason_of_update}
 use Rattle.fisb_app.specs.Damage.{all_near, has_near_blocks, is_near_frame}
 use Rattle.fisb_app.proofs.Judging.{or-none, IsClear, clear}
 use Rattle.fisb_app.proofs.Damaged.{near-blocks}
@@ -143,23 +145,30 @@ next-event : StationsAreTold → (table : LifeTable) (acted : List Line) (event 
 next-event told table acted event s next =
     (s.station, subst (λ past. IsNext table (station_of acted) past event) (sym (history-back told (station_of acted) (events acted))) next, s.is_broadcast)
 
-sound-text : Laws → (table : LifeTable) (acted : List Line) (moment version size : ℕ) (chars : List ℕ) → HasRanges size (text moment version chars)
-    → IsClear Link acted (text moment version chars) → text_refusal table acted moment version chars ≡ None → IsSound table acted → IsSound table (text moment version chars ∷ acted)
-sound-text laws table acted moment version size chars ranges is own s =
-    let behind = not-behind moment (latest acted) is.clock in
+-- what is known of a broadcast with an update more
+record IsSoundWith (table : LifeTable) (acted : List Line) (moment : ℕ) (sent : List StationEvent) : Type 0 where
+  is_broadcast : IsBroadcast table sent
+  heard : AreHeard table.late (frames table sent) (hearings acted)
+  received_is : all_near table acted ≡ true → receptions table acted ≡ receptions_of (frames table sent) (hearings acted)
+  heard_before : (m : ℕ) → moment ≤ m → IsAfterHearings m (hearings acted)
+  sent_before : (m place : ℕ) (frame : Frame) → moment ≤ m → slice_get (frames table sent) place ≡ Some frame → frame.moment ≤ m
+
+sound-update : Laws → (table : LifeTable) (acted : List Line) (moment : ℕ) (update : updates.Update) → IsMoment moment → IsUpdate update
+    → option_map Clock (earlier_than (Some moment) (latest acted)) ≡ None → update_refusal table acted moment update ≡ None → IsSound table acted
+    → IsSoundWith table acted moment (record { station = station_of acted; event = accepted moment update } ∷ broadcast acted)
+sound-update laws table acted moment update timely is clock own s =
+    let behind = not-behind moment (latest acted) clock in
     let given = map-none reason_of_update _ (or-none (option_map Clock _) _ own).1 in
-    let b : StationEvent = record { station = station_of acted; event = accepted moment (updates.text version chars) } in
+    let b : StationEvent = record { station = station_of acted; event = accepted moment update } in
     let still = laws.stay table b (broadcast acted) (hearings acted) s.heard in
     record {
-      station = s.station;
       is_broadcast = next-event laws.told table acted _ s (record {
-        is_accepted = ((ranges.1, ranges.2), given);
-        moment_is = ranges.0;
+        is_accepted = (is, given);
+        moment_is = timely;
         not_before = s.events_before moment behind;
       });
       heard = still.still_heard;
       received_is = λ near. s.received_is near ∙ sym still.received;
-      events_before = λ m after. after;
       heard_before = λ m after. s.heard_before m (behind-past m moment (latest acted) after behind);
       sent_before = λ m place frame after found. s.sent_before m place frame (behind-past m moment (latest acted) after behind) (sent-same place frame found);
     }
@@ -248,7 +257,41 @@ sound-line laws table acted empty size rules ranges e s = record { station = s.s
 sound-line laws table acted (station named) size rules ranges e s =
     sound-station table acted named ranges (clear Link acted _ (or-none _ _ e).0) s
 sound-line laws table acted (text moment version chars) size rules ranges e s =
-    sound-text laws table acted moment version size chars ranges (clear Link acted _ (or-none _ _ e).0) (or-none _ _ e).1 s
+    let with = sound-update laws table acted moment (updates.text version chars) ranges.0 (ranges.1, ranges.2)
+    (clear Link acted (text moment version chars) (or-none _ _ e).0).clock (or-none _ _ e).1 s in
+    record {
+      station = s.station;
+      is_broadcast = with.is_broadcast;
+      heard = with.heard;
+      received_is = with.received_is;
+      events_before = λ m after. after;
+      heard_before = with.heard_before;
+      sent_before = with.sent_before;
+    }
+sound-line laws table acted (radar moment version key cells) size rules ranges e s =
+    let with = sound-update laws table acted moment (updates.block version key cells) ranges.0 (ranges.1, ranges.3)
+    (clear Link acted (radar moment version key cells) (or-none _ _ e).0).clock (or-none _ _ e).1 s in
+    record {
+      station = s.station;
+      is_broadcast = with.is_broadcast;
+      heard = with.heard;
+      received_is = with.received_is;
+      events_before = λ m after. after;
+      heard_before = with.heard_before;
+      sent_before = with.sent_before;
+    }
+sound-line laws table acted (blank moment version product scale south numbers) size rules ranges e s =
+    let with = sound-update laws table acted moment (updates.blanks version product scale south numbers) ranges.0 ranges.1
+    (clear Link acted (blank moment version product scale south numbers) (or-none _ _ e).0).clock (or-none _ _ e).1 s in
+    record {
+      station = s.station;
+      is_broadcast = with.is_broadcast;
+      heard = with.heard;
+      received_is = with.received_is;
+      events_before = λ m after. after;
+      heard_before = with.heard_before;
+      sent_before = with.sent_before;
+    }
 sound-line laws table acted (turn moment slot) size rules ranges e s =
     sound-turn laws table acted moment slot size ranges (clear Link acted _ (or-none _ _ e).0) s
 sound-line laws table acted (hear moment number wrong) size rules ranges e s =

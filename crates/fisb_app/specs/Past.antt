@@ -34,6 +34,9 @@ station_of (line ∷ past) = station_named line (station_of past)
 -- its history: what it was given, and the frames that it filled
 abbrev pub event_of : Line → Option Event
 event_of (text moment version chars) = Some (accepted moment (updates.text version chars))
+event_of (radar moment version key cells) = Some (accepted moment (updates.block version key cells))
+event_of (blank moment version product scale south numbers) =
+    Some (accepted moment (updates.blanks version product scale south numbers))
 event_of (turn moment slot) = Some (fill moment slot)
 event_of line = None
 

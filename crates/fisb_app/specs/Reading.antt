@@ -15,13 +15,12 @@ use Rattle.ground_core.specs.OnAir.{clock_of}
 use Rattle.receiver_core.specs.Reception.{Reception}
 use Rattle.receiver_core.specs.Hearing as heard
 use Rattle.script_core.specs.Script.{Line, empty, station, text, radar, blank, turn, hear, rx, show}
-use Rattle.script_core.specs.Script.{unbuilt}
 use Rattle.refusal_core.specs.declared.reason.Reason.{Reason}
 use Rattle.refusal_core.specs.declared.reason.Reason.TheVariants.{NotHere, Station, Clock, NoFrame}
 use Rattle.refusal_core.specs.declared.reason.Reason.TheVariants.{Late, Frames, BadCharacter}
 use Rattle.refusal_core.specs.declared.reason.Reason.TheVariants.{TextLong, FewWords, Unlisted, BadBlock}
 use Rattle.refusal_core.specs.declared.reason.Reason.TheVariants.{Coarse, Ahead, Expired, NotNewer}
-use Rattle.refusal_core.specs.declared.reason.Reason.TheVariants.{NoFile, NotBuilt}
+use Rattle.refusal_core.specs.declared.reason.Reason.TheVariants.{NoFile}
 use Rattle.fisb_app.specs.declared.party.Party.{Party}
 use Rattle.fisb_app.specs.declared.party.Party.TheVariants.{Link, Ground, Receive, Gdl}
 use Rattle.fisb_app.specs.Past.{events, station_of, sent_frames, receptions, moment_of, latest}
@@ -50,15 +49,12 @@ is_taken Gdl line = false
 abbrev pub party_refusal : Party → Line → Option Reason
 party_refusal party line = if is_taken party line then None else Some NotHere
 
--- a line that nothing acts on yet
-abbrev pub is_unbuilt : Line → Bool
-is_unbuilt (radar moment version key cells) = true
-is_unbuilt (blank moment version product scale south numbers) = true
-is_unbuilt unbuilt = true
-is_unbuilt line = false
-
-abbrev pub built_refusal : Line → Option Reason
-built_refusal line = if is_unbuilt line then Some NotBuilt else None
+-- a line that gives the ground an update
+abbrev pub is_update : Line → Bool
+is_update (text moment version chars) = true
+is_update (radar moment version key cells) = true
+is_update (blank moment version product scale south numbers) = true
+is_update line = false
 
 -- a station is named before any other line is acted on, the empty ones left out
 abbrev pub is_station : Line → Bool
@@ -80,8 +76,8 @@ clock_refusal own last = option_map Clock (earlier_than own last)
 -- the reasons that do not look at the content of a line
 abbrev pub front_refusal : Party → Bool → Option ℕ → Line → Option Reason
 front_refusal party begun last line =
-    option_or (party_refusal party line) (option_or (built_refusal line)
-    (option_or (station_refusal begun line) (clock_refusal (moment_of line) last)))
+    option_or (party_refusal party line)
+    (option_or (station_refusal begun line) (clock_refusal (moment_of line) last))
 
 -- the reason of a refused update
 abbrev pub reason_of_text : TextRefusal → Reason
@@ -104,12 +100,11 @@ reason_of_update no_file = NoFile
 
 -- a ground takes nothing before its last event, and a receiver nothing before its last reception;
 -- the clock of the script keeps both
-abbrev pub text_refusal : LifeTable → List Line → ℕ → ℕ → List ℕ → Option Reason
-text_refusal table acted moment version chars =
+abbrev pub update_refusal : LifeTable → List Line → ℕ → updates.Update → Option Reason
+update_refusal table acted moment update =
     option_or (option_map Clock (last_above (clock_of (events acted)) moment))
     (option_map reason_of_update
-    (give_refusal table (items table (station_of acted) (events acted)) moment
-    (updates.text version chars)))
+    (give_refusal table (items table (station_of acted) (events acted)) moment update))
 
 abbrev pub turn_refusal : ℕ → List Line → ℕ → Option Reason
 turn_refusal count acted moment = if nat_lt count frame_limit
@@ -132,7 +127,11 @@ reception_refusal party past moment = receiver_refusal past moment
 -- what stands against the content of a line
 abbrev pub own_refusal : Party → LifeTable → List Line → Line → Option Reason
 own_refusal party table acted (text moment version chars) =
-    text_refusal table acted moment version chars
+    update_refusal table acted moment (updates.text version chars)
+own_refusal party table acted (radar moment version key cells) =
+    update_refusal table acted moment (updates.block version key cells)
+own_refusal party table acted (blank moment version product scale south numbers) =
+    update_refusal table acted moment (updates.blanks version product scale south numbers)
 own_refusal party table acted (turn moment slot) =
     turn_refusal (length (sent_frames table acted)) acted moment
 own_refusal party table acted (hear moment frame wrong) =
@@ -149,7 +148,6 @@ refusal_of party table acted line =
     option_or (front_refusal party (has_begun acted) (latest acted) line)
     (own_refusal party table acted line)
 
--- a line that is built, and a station only before any other line
+-- a station is named only before any other line
 pub record CanCome (acted : List Line) (line : Line) : Type 0 where
-  pub built : is_unbuilt line ≡ false
   pub first : is_station line ≡ true → has_begun acted ≡ false

@@ -1,12 +1,21 @@
 -- What an actor keeps, against the lines acted on, and what it answers to a line.
-use Rattle.std.specs.Prelude.{◌≡◌, ℕ, List, length, map, Option, Some, None, Result, Ok, Err}
+use Rattle.std.specs.Prelude.{◌≡◌, ℕ, List, ◌∷◌, length, map, Option, Some, None, Result, Ok, Err}
+use Rattle.std.specs.Prelude.{OnOk, IfErr, option_map}
+use Rattle.std.specs.Option.{option_or}
 use Rattle.uplink_frame.specs.declared.station.StationId.{StationId}
 use Rattle.life_table.specs.LifeTable.{LifeTable}
-use Rattle.ground_core.specs.History.{Event}
+use Rattle.ground_core.specs.Update.{Update}
+use Rattle.ground_core.specs.History.{Event, accepted, items}
+use Rattle.ground_core.specs.Refusal.{GiveRefusal, give_refusal}
+use Rattle.ground_core.specs.Told.{IsToldAt}
+use Rattle.ground_core.specs.OnAir.{clock_of}
+use Rattle.ground_core.specs.declared.fault.GiveFault.{GiveFault}
+use Rattle.segment_core.specs.Store.{last_above}
 use Rattle.ground_core.specs.Airing.{Frame}
 use Rattle.receiver_core.specs.Reception.{Reception}
 use Rattle.script_core.specs.Script.{Line}
 use Rattle.refusal_core.specs.declared.reason.Reason.{Reason}
+use Rattle.refusal_core.specs.declared.reason.Reason.TheVariants.{Clock}
 use Rattle.run_core.specs.declared.stop.Stop.{Stop}
 use Rattle.run_core.specs.declared.stop.Stop.TheVariants.{Refused, NoMemory}
 use Rattle.fisb_app.specs.declared.sending.Sending.{Sending}
@@ -18,7 +27,7 @@ use Rattle.fisb_app.specs.declared.relay.Relay.{Relay}
 use Rattle.fisb_app.specs.declared.sent.SentFrame.{SentFrame}
 use Rattle.fisb_app.specs.Past.{lines_of, station_of, events, sent_frames, air_of, reception_from}
 use Rattle.fisb_app.specs.Past.{receptions, latest, has_begun}
-use Rattle.fisb_app.specs.Reading.{frame_refusal, receiver_refusal}
+use Rattle.fisb_app.specs.Reading.{frame_refusal, receiver_refusal, reason_of_update}
 use Rattle.fisb_app.specs.Output.{heard_text}
 use Rattle.fisb_app.specs.Work.{opening_table, opened_with}
 use Rattle.life_table.specs.Fault.{Fault}
@@ -29,6 +38,22 @@ Sends G = LifeTable → StationId → List Event → G → Type 0
 
 abbrev pub Hears : Type 0 → Type 1
 Hears E = LifeTable → List Reception → E → Type 0
+
+-- An update was given to a ground, whatever history it stands for: the update is one more event,
+-- against which nothing stood; or the fault is the first reason.
+pub record HasGiven {G A : Type 0} (sends : Sends G) (old new : G) (moment : ℕ) (update : Update)
+    (result : Result A GiveFault) : Type 0 where
+  pub newest : (table : LifeTable) (station : StationId) (history : List Event)
+      → sends table station history old
+      → OnOk result (sends table station (accepted moment update ∷ history) new)
+  pub nothing_against : (table : LifeTable) (station : StationId) (history : List Event)
+      → sends table station history old
+      → OnOk result ((last_above (clock_of history) moment ≡ None)
+      × (give_refusal table (items table station history) moment update ≡ None))
+  pub refused : (table : LifeTable) (station : StationId) (history : List Event)
+      → sends table station history old
+      → IfErr result (IsToldAt (last_above (clock_of history) moment)
+      (give_refusal table (items table station history) moment update))
 
 -- the table was read of these bytes, and the ground stands for what the lines gave it
 pub record Holds {G : Type 0} (sends : Sends G) (bytes : List ℕ) (acted : List Line)
@@ -81,6 +106,19 @@ pub record IsInOrder {P : Type 0} (holds : List ℕ → List Line → P → Type
 abbrev pub TellsRefusal : Option Reason → Stop → Type 0
 TellsRefusal refusal (Refused why) = refusal ≡ Some why
 TellsRefusal refusal NoMemory = Unit {0}
+
+-- a stop tells the fault of an update, after the last moment of a ground
+abbrev pub TellsFault : GiveFault → Stop → Type 0
+TellsFault fault stop = (last : Option ℕ) (refusal : Option GiveRefusal)
+    → IsToldAt last refusal fault
+    → TellsRefusal (option_or (option_map Clock last) (option_map reason_of_update refusal)) stop
+
+-- what is answered to an update
+abbrev pub HasAnswered : {A B : Type 0} → Result A GiveFault → Result B Stop → Type 0
+HasAnswered (Ok given) (Ok done) = Unit {0}
+HasAnswered (Ok given) (Err stop) = ⊥
+HasAnswered (Err fault) (Ok done) = ⊥
+HasAnswered (Err fault) (Err stop) = TellsFault fault stop
 
 -- something was done of which this holds, and there is no reason against it; or a stop tells the
 -- reason

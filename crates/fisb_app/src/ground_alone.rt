@@ -1,11 +1,11 @@
 //! The command `ground`: a ground alone, which writes what is on the air.
-ghost use Rattle.std.specs.Prelude.{◌≡◌, ℕ, ◌<◌, ◌^◌, ◌∷◌, List, false, length};
+ghost use Rattle.std.specs.Prelude.{◌≡◌, ℕ, ◌<◌, ◌∷◌, List, false, true};
 ghost use Rattle.uplink_frame.specs.Station.{FitsStation};
 ghost use Rattle.script_core.specs.LineView.{line_view, HasRanges};
-ghost use Rattle.script_core.specs.Script.{Line as ScriptLine, station, text, turn};
+ghost use Rattle.script_core.specs.Script.{Line as ScriptLine, station, turn};
 ghost use Rattle.fisb_app.specs.Output.{given_text, heard_picture};
 ghost use Rattle.fisb_app.specs.declared.party.Party.TheVariants.{Ground as TheGround};
-ghost use Rattle.fisb_app.specs.Reading.{CanCome, own_refusal};
+ghost use Rattle.fisb_app.specs.Reading.{CanCome, is_update, own_refusal};
 ghost use Rattle.fisb_app.specs.Stands.{AloneHolds, HasTried};
 
 use crate::in_order::{LineActor, no_text};
@@ -45,19 +45,11 @@ impl<G: Sender> LineActor for GroundAlone<G> {
 
     fn act_on(&mut self, alloc: Global, line: &Line) -> Result<Bytes, Stop> {
         match line {
-            Line::Nothing
-            | Line::Radar { .. }
-            | Line::Blank { .. }
-            | Line::Hear { .. }
-            | Line::Rx { .. }
-            | Line::Show { .. }
-            | Line::Unbuilt => Ok(no_text(alloc)),
+            Line::Nothing | Line::Hear { .. } | Line::Rx { .. } | Line::Show { .. } => {
+                Ok(no_text(alloc))
+            }
             Line::Station(station) => self.name_station(alloc, *station),
-            Line::Text {
-                moment,
-                version,
-                report,
-            } => self.give(alloc, *moment, *version, report.as_str()),
+            Line::Text { .. } | Line::Radar { .. } | Line::Blank { .. } => self.give(alloc, line),
             Line::Turn { moment, slot } => self.turn(alloc, *moment, *slot),
         }
     }
@@ -80,24 +72,18 @@ impl<G: Sender> GroundAlone<G> {
         }
     }
 
-    /// Gives a text to the ground.
-    fn give(
-        &mut self,
-        alloc: Global,
-        moment: Moment,
-        version: Moment,
-        report: &str,
-    ) -> Result<Bytes, Stop>
-        requires { length report.now < 2 ^ 32 }
+    /// Gives the update of a line to the ground.
+    fn give(&mut self, alloc: Global, line: &Line) -> Result<Bytes, Stop>
+        requires ranges { HasRanges 32768 (line_view line.now) }
+        requires update { is_update (line_view line.now) ≡ true }
         ensures { (bytes : List ℕ) (acted : List ScriptLine)
-            → CanCome acted (text moment version report.now)
             → AloneHolds G.stands bytes acted self.old
-            → HasTried (own_refusal Party.Ground self.old.sending.table acted (text moment version report.now))
+            → HasTried (own_refusal Party.Ground self.old.sending.table acted (line_view line.now))
             (λ given. (given ≡ given_text Party.Ground heard_picture self.old.sending.table acted
-            (text moment version report.now))
-            × AloneHolds G.stands bytes (text moment version report.now ∷ acted) self.new) result }
+            (line_view line.now))
+            × AloneHolds G.stands bytes (line_view line.now ∷ acted) self.new) result }
     {
-        match self.sending.give(moment, version, report) {
+        match self.sending.give(line) {
             Ok(()) => Ok(no_text(alloc)),
             Err(stop) => Err(stop),
         }

@@ -12,7 +12,7 @@ ghost use Rattle.fisb_app.specs.Reading.{CanCome, earlier_than, front_refusal, o
 ghost use Rattle.fisb_app.specs.Stands.{HasTried, IsInOrder};
 ghost use Rattle.fisb_app.specs.Work.{opened_with, opening_table, refusal_by, work_of};
 
-use crate::line_kinds::{is_empty, is_station, is_unbuilt, moment_of, takes};
+use crate::line_kinds::{is_empty, is_station, moment_of, takes};
 use crate::party::Party;
 use fisb_time::Moment;
 use fisb_wire::Bytes;
@@ -109,9 +109,6 @@ impl<P: LineActor> InOrder<P> {
     {
         if !takes(P::PARTY, line) {
             return Some(Reason::NotHere);
-        }
-        if is_unbuilt(line) {
-            return Some(Reason::NotBuilt);
         }
         if is_station(line) && self.has_begun {
             return Some(Reason::Station);

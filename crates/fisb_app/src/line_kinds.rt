@@ -2,7 +2,7 @@
 ghost use Rattle.std.specs.Prelude.{◌≡◌};
 ghost use Rattle.script_core.specs.LineView.{line_view};
 ghost use Rattle.fisb_app.specs.Past.{is_empty, moment_of};
-ghost use Rattle.fisb_app.specs.Reading.{is_station, is_taken, is_unbuilt};
+ghost use Rattle.fisb_app.specs.Reading.{is_station, is_taken};
 
 use crate::party::Party;
 use fisb_time::Moment;
@@ -23,15 +23,6 @@ pub(crate) fn takes(party: Party, line: &Line) -> bool
     }
 }
 
-pub(crate) fn is_unbuilt(line: &Line) -> bool
-    ensures { result ≡ is_unbuilt (line_view line.now) }
-{
-    matches!(
-        line,
-        Line::Radar { .. } | Line::Blank { .. } | Line::Unbuilt
-    )
-}
-
 pub(crate) fn is_station(line: &Line) -> bool
     ensures { result ≡ is_station (line_view line.now) }
 {
@@ -49,7 +40,7 @@ pub(crate) fn moment_of(line: &Line) -> Option<Moment>
     ensures { result ≡ moment_of (line_view line.now) }
 {
     match line {
-        Line::Nothing | Line::Station(_) | Line::Unbuilt => None,
+        Line::Nothing | Line::Station(_) => None,
         Line::Text { moment, .. }
         | Line::Radar { moment, .. }
         | Line::Blank { moment, .. }

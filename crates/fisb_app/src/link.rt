@@ -1,5 +1,5 @@
 //! The command `link`: a ground, a receiver, and the frames between them.
-ghost use Rattle.std.specs.Prelude.{◌≡◌, ℕ, ◌<◌, ◌^◌, ◌∷◌, [], ◌++◌, List, All, OnOk, length, map, slice_get};
+ghost use Rattle.std.specs.Prelude.{◌≡◌, ℕ, ◌<◌, ◌∷◌, [], ◌++◌, List, All, OnOk, map, slice_get, true};
 ghost use Rattle.std.specs.List.{cons_option};
 ghost use Rattle.life_table.specs.LifeTable.{LifeTable as Table};
 ghost use Rattle.picture_core.specs.Views.{shown_value};
@@ -7,11 +7,11 @@ ghost use Rattle.receiver_core.specs.Reception.{Reception, received_picture};
 ghost use Rattle.ground_core.specs.Airing.{Frame};
 ghost use Rattle.uplink_frame.specs.Station.{FitsStation};
 ghost use Rattle.script_core.specs.LineView.{line_view, HasRanges};
-ghost use Rattle.script_core.specs.Script.{Line as ScriptLine, hear, station, text, turn};
+ghost use Rattle.script_core.specs.Script.{Line as ScriptLine, hear, station, turn};
 ghost use Rattle.fisb_app.specs.Output.{given_text, heard_picture, heard_text};
 ghost use Rattle.fisb_app.specs.Past.{air_heard, reception_from};
 ghost use Rattle.fisb_app.specs.declared.party.Party.TheVariants.{Link as TheLink};
-ghost use Rattle.fisb_app.specs.Reading.{CanCome, own_refusal, receiver_refusal};
+ghost use Rattle.fisb_app.specs.Reading.{CanCome, is_update, own_refusal, receiver_refusal};
 ghost use Rattle.fisb_app.specs.Stands.{HasTried, IsFound, LinkHolds, aired_view, sent_view};
 
 use crate::ear::Ear;
@@ -62,17 +62,9 @@ impl<G: Sender, E: Ear> LineActor for Link<G, E> {
 
     fn act_on(&mut self, alloc: Global, line: &Line) -> Result<Bytes, Stop> {
         match line {
-            Line::Nothing
-            | Line::Radar { .. }
-            | Line::Blank { .. }
-            | Line::Rx { .. }
-            | Line::Unbuilt => Ok(no_text(alloc)),
+            Line::Nothing | Line::Rx { .. } => Ok(no_text(alloc)),
             Line::Station(station) => self.name_station(alloc, *station),
-            Line::Text {
-                moment,
-                version,
-                report,
-            } => self.give(alloc, *moment, *version, report.as_str()),
+            Line::Text { .. } | Line::Radar { .. } | Line::Blank { .. } => self.give(alloc, line),
             Line::Turn { moment, slot } => self.turn(alloc, *moment, *slot),
             Line::Hear {
                 moment,
@@ -102,25 +94,18 @@ impl<G: Sender, E: Ear> Link<G, E> {
         }
     }
 
-    /// Gives a text to the ground.
-    fn give(
-        &mut self,
-        alloc: Global,
-        moment: Moment,
-        version: Moment,
-        report: &str,
-    ) -> Result<Bytes, Stop>
-        requires { length report.now < 2 ^ 32 }
+    /// Gives the update of a line to the ground.
+    fn give(&mut self, alloc: Global, line: &Line) -> Result<Bytes, Stop>
+        requires ranges { HasRanges 32768 (line_view line.now) }
+        requires update { is_update (line_view line.now) ≡ true }
         ensures { (bytes : List ℕ) (acted : List ScriptLine)
-            → CanCome acted (text moment version report.now)
             → LinkHolds G.stands E.stands bytes acted self.old
-            → HasTried (own_refusal Party.Link self.old.sending.table acted (text moment version report.now))
+            → HasTried (own_refusal Party.Link self.old.sending.table acted (line_view line.now))
             (λ given. (given ≡ given_text Party.Link heard_picture self.old.sending.table acted
-            (text moment version report.now))
-            × LinkHolds G.stands E.stands bytes (text moment version report.now ∷ acted) self.new)
-            result }
+            (line_view line.now))
+            × LinkHolds G.stands E.stands bytes (line_view line.now ∷ acted) self.new) result }
     {
-        match self.sending.give(moment, version, report) {
+        match self.sending.give(line) {
             Ok(()) => Ok(no_text(alloc)),
             Err(stop) => Err(stop),
         }

@@ -53,8 +53,7 @@ impl<E: Ear> LineActor for ReceiverAlone<E> {
             | Line::Radar { .. }
             | Line::Blank { .. }
             | Line::Turn { .. }
-            | Line::Hear { .. }
-            | Line::Unbuilt => Ok(no_text(alloc)),
+            | Line::Hear { .. } => Ok(no_text(alloc)),
             Line::Rx { moment, air } => receive(alloc, &mut self.ear, *moment, air),
             Line::Show { moment } => show(alloc, &self.ear, *moment),
         }

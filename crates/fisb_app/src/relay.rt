@@ -52,8 +52,7 @@ impl LineActor for Relay {
             | Line::Blank { .. }
             | Line::Turn { .. }
             | Line::Hear { .. }
-            | Line::Show { .. }
-            | Line::Unbuilt => Ok(no_text(alloc)),
+            | Line::Show { .. } => Ok(no_text(alloc)),
             Line::Rx { air, .. } => match display_message(alloc, air) {
                 Ok(bytes) => Ok(bytes),
                 Err(AllocError) => Err(Stop::NoMemory),

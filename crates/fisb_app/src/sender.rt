@@ -1,24 +1,25 @@
 //! What gives a command its frames.
-ghost use Rattle.std.specs.Prelude.{◌≡◌, ℕ, ◌<◌, ◌^◌, ◌∷◌, [], List, None, Some, IfErr, IfOk, OnErr, OnOk, length};
+ghost use Rattle.std.specs.Prelude.{◌≡◌, ℕ, ◌<◌, ◌^◌, ◌∷◌, [], List, None, Some, IfErr, IfOk, OnOk, length};
 ghost use Rattle.life_table.specs.LifeTable.{LifeTable as Table};
 ghost use Rattle.uplink_frame.specs.declared.station.StationId.{StationId as Place};
 ghost use Rattle.uplink_frame.specs.Station.{FitsStation};
-ghost use Rattle.ground_core.specs.History.{Event, accepted, fill, items};
+ghost use Rattle.ground_core.specs.History.{Event, fill};
 ghost use Rattle.ground_core.specs.Airing.{frame_after};
-ghost use Rattle.ground_core.specs.Update.{text as text_update};
-ghost use Rattle.ground_core.specs.Refusal.{give_refusal};
-ghost use Rattle.ground_core.specs.Told.{IsToldAt, kept_told};
+ghost use Rattle.ground_core.specs.Update.{text as text_update, block as block_update, blanks as blanks_update};
+ghost use Rattle.ground_core.specs.Told.{kept_told};
 ghost use Rattle.segment_core.specs.Store.{last_above};
 ghost use Rattle.ground_core.specs.OnAir.{IsOnAir, clock_of};
 ghost use Rattle.ground_core.specs.StandsFor.{StandsFor};
+ghost use Rattle.fisb_app.specs.Stands.{HasGiven};
 
 use fisb_time::Moment;
 use ground_core::{AirFrame, FillFault, GiveFault, Ground};
 use life_table::LifeTable;
+use radar_core::{BlockKey, Cells};
 use std::alloc::Global;
 use uplink_frame::StationId;
 
-/// A ground of weather: it takes texts and fills frames.
+/// A ground of weather: it takes texts and radar, and fills frames.
 pub(crate) trait Sender: Drop {
     // The ground of a station stands for this history, the newest event first.
     ghost stands: { Table → Place → List Event → Self → Type 0 };
@@ -31,20 +32,31 @@ pub(crate) trait Sender: Drop {
     /// Gives a text of a version.
     fn give_text(&mut self, moment: Moment, version: Moment, text: &str) -> Result<(), GiveFault>
         requires { length text.now < 2 ^ 32 }
-        ensures accepted { (table : Table) (station : Place) (history : List Event)
-            → stands table station history self.old
-            → OnOk result (stands table station
-            (accepted moment (text_update version text.now) ∷ history) self.new) }
-        ensures nothing_against { (table : Table) (station : Place) (history : List Event)
-            → stands table station history self.old
-            → OnOk result ((last_above (clock_of history) moment ≡ None)
-            × (give_refusal table (items table station history) moment
-            (text_update version text.now) ≡ None)) }
-        ensures refused { (table : Table) (station : Place) (history : List Event)
-            → stands table station history self.old
-            → IfErr result (IsToldAt (last_above (clock_of history) moment)
-            (give_refusal table (items table station history) moment
-            (text_update version text.now))) };
+        ensures { HasGiven stands self.old self.new moment (text_update version text.now) result };
+
+    /// Gives the cells of a block of a version.
+    fn give_cells(
+        &mut self,
+        moment: Moment,
+        version: Moment,
+        key: &BlockKey,
+        cells: &Cells,
+    ) -> Result<(), GiveFault>
+        ensures { HasGiven stands self.old self.new moment
+            (block_update version key.now cells.now) result };
+
+    /// Gives blocks of a version whose cells are all 0, by their numbers in an area.
+    fn give_blanks(
+        &mut self,
+        moment: Moment,
+        version: Moment,
+        product: u16,
+        scale: u8,
+        south: bool,
+        numbers: &[u32],
+    ) -> Result<(), GiveFault>
+        ensures { HasGiven stands self.old self.new moment
+            (blanks_update version product scale south numbers.now) result };
 
     /// Fills the frame of a slot.
     fn fill(&mut self, moment: Moment, slot: u8) -> Result<AirFrame, FillFault>
@@ -72,6 +84,28 @@ impl Sender for Ground {
 
     fn give_text(&mut self, moment: Moment, version: Moment, text: &str) -> Result<(), GiveFault> {
         Ground::give_text(self, moment, version, text)
+    }
+
+    fn give_cells(
+        &mut self,
+        moment: Moment,
+        version: Moment,
+        key: &BlockKey,
+        cells: &Cells,
+    ) -> Result<(), GiveFault> {
+        Ground::give_cells(self, moment, version, key, cells)
+    }
+
+    fn give_blanks(
+        &mut self,
+        moment: Moment,
+        version: Moment,
+        product: u16,
+        scale: u8,
+        south: bool,
+        numbers: &[u32],
+    ) -> Result<(), GiveFault> {
+        Ground::give_blanks(self, moment, version, product, scale, south, numbers)
     }
 
     fn fill(&mut self, moment: Moment, slot: u8) -> Result<AirFrame, FillFault> {

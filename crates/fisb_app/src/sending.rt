@@ -1,22 +1,24 @@
-//! What both commands do: naming a station, giving texts and filling frames.
-ghost use Rattle.std.specs.Prelude.{◌≡◌, ℕ, ◌<◌, ◌^◌, ◌∷◌, List, [], None, Some, false, IfErr, IfOk, OnOk, length};
+//! What both commands do: naming a station, giving updates and filling frames.
+ghost use Rattle.std.specs.Prelude.{◌≡◌, ℕ, ◌<◌, ◌∷◌, List, [], None, Some, false, true, IfErr, IfOk, OnOk};
 ghost use Rattle.uplink_frame.specs.Station.{FitsStation};
 ghost use Rattle.ground_core.specs.Airing.{frame_after};
 ghost use Rattle.ground_core.specs.OnAir.{IsOnAir};
 ghost use Rattle.run_core.specs.Actor.{HasOpened};
-ghost use Rattle.script_core.specs.Script.{Line as ScriptLine, station, text, turn};
+ghost use Rattle.script_core.specs.LineView.{line_view, HasRanges};
+ghost use Rattle.script_core.specs.Script.{Line as ScriptLine, station, turn};
+ghost use Rattle.fisb_app.specs.declared.party.Party.{Party as AnyParty};
 ghost use Rattle.fisb_app.specs.Past.{events, has_begun, station_of};
-ghost use Rattle.fisb_app.specs.Reading.{text_refusal, turn_refusal};
+ghost use Rattle.fisb_app.specs.Reading.{is_update, own_refusal, turn_refusal};
 ghost use Rattle.fisb_app.specs.Stands.{HasRead, HasTried, Holds};
 ghost use Rattle.fisb_app.specs.Work.{opened_with, opening_table};
 
 use crate::sender::Sender;
-use crate::stopping::{kept_of, stop_of};
+use crate::stopping::{answer, kept_of};
 use fisb_time::Moment;
 use ground_core::AirFrame;
 use life_table::{LifeTable, TableFault};
 use run_core::Stop;
-use script_core::Reason;
+use script_core::{Line, Reason};
 use std::alloc::{AllocError, Global};
 use uplink_frame::StationId;
 
@@ -65,19 +67,47 @@ impl<G: Sender> Sending<G> {
         Ok(())
     }
 
-    /// Gives a text to the ground.
-    pub(crate) fn give(&mut self, moment: Moment, version: Moment, report: &str) -> Result<(), Stop>
-        requires { length report.now < 2 ^ 32 }
-        ensures given { (bytes : List ℕ) (acted : List ScriptLine)
+    /// Gives the update of a line to the ground.
+    pub(crate) fn give(&mut self, line: &Line) -> Result<(), Stop>
+        requires ranges { HasRanges 32768 (line_view line.now) }
+        requires update { is_update (line_view line.now) ≡ true }
+        ensures given { (party : AnyParty) (bytes : List ℕ) (acted : List ScriptLine)
             → Holds G.stands bytes acted self.old
-            → HasTried (text_refusal self.old.table acted moment version report.now)
-            (λ done. Holds G.stands bytes (text moment version report.now ∷ acted) self.new)
-            result }
+            → HasTried (own_refusal party self.old.table acted (line_view line.now))
+            (λ done. Holds G.stands bytes (line_view line.now ∷ acted) self.new) result }
         ensures table { self.new.table ≡ self.old.table }
     {
-        match self.ground.give_text(moment, version, report) {
-            Ok(()) => Ok(()),
-            Err(fault) => Err(stop_of(fault)),
+        match line {
+            Line::Text {
+                moment,
+                version,
+                report,
+            } => answer(
+                self.ground
+                    .give_text(*moment, *version, report.as_str()),
+            ),
+            Line::Radar {
+                moment,
+                version,
+                key,
+                cells,
+            } => answer(self.ground.give_cells(*moment, *version, key, cells)),
+            Line::Blank {
+                moment,
+                version,
+                product,
+                scale,
+                south,
+                numbers,
+            } => answer(self.ground.give_blanks(
+                *moment,
+                *version,
+                *product,
+                *scale,
+                *south,
+                numbers.all(),
+            )),
+            _ => Ok(()),
         }
     }
 

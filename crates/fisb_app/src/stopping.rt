@@ -1,11 +1,9 @@
 //! Why an update is not given, as a line is refused.
-ghost use Rattle.std.specs.Prelude.{◌≡◌, ℕ, Option, option_map};
-ghost use Rattle.std.specs.Option.{option_or};
+ghost use Rattle.std.specs.Prelude.{◌≡◌, Option, option_map};
 ghost use Rattle.ground_core.specs.Refusal.{GiveRefusal};
-ghost use Rattle.ground_core.specs.Told.{IsToldAt, IsToldOfText, kept_told};
-ghost use Rattle.refusal_core.specs.declared.reason.Reason.TheVariants.{Clock};
+ghost use Rattle.ground_core.specs.Told.{IsToldOfText, kept_told};
 ghost use Rattle.fisb_app.specs.Reading.{reason_of_update};
-ghost use Rattle.fisb_app.specs.Stands.{TellsRefusal};
+ghost use Rattle.fisb_app.specs.Stands.{HasAnswered, TellsFault, TellsRefusal};
 
 use dlac_text::TextFault;
 use fisb_time::Moment;
@@ -21,11 +19,19 @@ pub(crate) fn kept_of(fault: FillFault) -> Moment
     kept
 }
 
-/// Why a text is not given.
+/// What is answered to an update.
+pub(crate) fn answer(given: Result<(), GiveFault>) -> Result<(), Stop>
+    ensures { HasAnswered given result }
+{
+    match given {
+        Ok(()) => Ok(()),
+        Err(fault) => Err(stop_of(fault)),
+    }
+}
+
+/// Why an update is not given.
 pub(crate) fn stop_of(fault: GiveFault) -> Stop
-    ensures { (last : Option ℕ) (refusal : Option GiveRefusal) → IsToldAt last refusal fault
-        → TellsRefusal (option_or (option_map Clock last) (option_map reason_of_update refusal))
-        result }
+    ensures { TellsFault fault result }
 {
     match fault {
         GiveFault::Clock { kept } => Stop::Refused(Reason::Clock { kept }),

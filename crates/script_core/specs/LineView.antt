@@ -9,7 +9,7 @@ use Rattle.uplink_frame.specs.Station.{FitsStation}
 use Rattle.script_core.specs.declared.script_line.Line as rust
 use Rattle.script_core.specs.declared.script_line.Line.TheVariants as lines
 use Rattle.script_core.specs.Script.{Line, empty, station, text, radar, blank, turn, hear, rx}
-use Rattle.script_core.specs.Script.{show, unbuilt}
+use Rattle.script_core.specs.Script.{show}
 
 abbrev pub line_view : rust.Line → Line
 line_view lines.Nothing = empty
@@ -22,7 +22,6 @@ line_view (lines.Turn moment slot) = turn moment slot
 line_view (lines.Hear moment frame wrong) = hear moment frame wrong
 line_view (lines.Rx moment air) = rx moment air
 line_view (lines.Show moment) = show moment
-line_view lines.Unbuilt = unbuilt
 
 -- the ranges of the fields of a key: scale 3 too has a form, which no record can name
 pub record FitsFields (key : BlockKey) : Type 0 where
@@ -57,4 +56,3 @@ HasRanges size (hear moment frame wrong) =
     IsMoment moment × (frame < 2 ^ 32) × All (λ one. (one.0 < 552) × (one.1 < 256)) wrong
 HasRanges size (rx moment air) = IsMoment moment × IsAir air
 HasRanges size (show moment) = IsMoment moment
-HasRanges size unbuilt = Unit {0}

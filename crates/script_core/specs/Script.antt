@@ -18,5 +18,3 @@ pub data Line : Type 0 where
   -- the bytes of a frame as they are heard
   rx : (moment : ℕ) (air : List ℕ) → Line
   show : (moment : ℕ) → Line
-  -- a line of its form that nothing acts on
-  unbuilt : Line

@@ -57,8 +57,6 @@ pub enum Line {
     Show {
         moment: Moment,
     },
-    /// A line of its form that nothing acts on: `radar`, `blank` or `rx`.
-    Unbuilt,
 }
 
 /// Why a line is not read.

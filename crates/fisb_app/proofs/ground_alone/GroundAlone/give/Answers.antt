@@ -1,20 +1,23 @@
-use Rattle.std.proofs.Common.{refl, append-nil}
-use Rattle.script_core.specs.Script.{text}
-use Rattle.fisb_app.specs.Past.{sent_frames}
+use Rattle.std.proofs.Common.{refl, sym, ◌∙◌}
+use Rattle.script_core.specs.LineView.{line_view}
+use Rattle.fisb_app.specs.Output.{heard_picture}
+use Rattle.fisb_app.specs.declared.party.Party.TheVariants.{Ground as GroundParty}
 use Rattle.fisb_app.proofs.Keeping.{alone-kept}
+use Rattle.fisb_app.proofs.Giving.{update-frames, update-text}
 use Rattle.fisb_app.proofs.ground_alone.GroundAlone.give.Goals as goal
 
 pub returns-in-Ok : goal.returns-in-Ok
-returns-in-Ok g c = λ bytes acted can h.
-    let line = text c.args.moment c.args.version c.args.report.now in
-    let given = c.in-Ok.ensures.given bytes acted h.holds in (
+returns-in-Ok g c = λ bytes acted h.
+    let line = line_view c.args.line.now in
+    let is = c.requires.update in
+    let given = c.in-Ok.ensures.given GroundParty bytes acted h.holds in (
       given.0,
       (
-        c.no_text.ensures,
+        c.no_text.ensures ∙ sym (update-text GroundParty heard_picture c.args.self.now.sending.table acted line is),
         alone-kept g.G.Sender.stands bytes acted line c.args.self.now _ given.1
-            c.in-Ok.ensures.table refl (λ t. append-nil (sent_frames t acted)) h,
+            c.in-Ok.ensures.table refl (update-frames acted line is) h,
       ),
     )
 
 pub returns-in-Err : goal.returns-in-Err
-returns-in-Err g c = λ bytes acted can h. c.in-Err.ensures.given bytes acted h.holds
+returns-in-Err g c = λ bytes acted h. c.in-Err.ensures.given GroundParty bytes acted h.holds

@@ -1,8 +1,5 @@
 use Rattle.fisb_app.proofs.link.LinkLineActor.act_on.Goals as goal
 
-pub returns-in-Text : goal.returns-in-Text
-returns-in-Text g c = rw c.in-Text.is (λ bytes acted can here h. (rw c.as_str.ensures.value at c.give.ensures) bytes acted can h)
-
 pub returns-in-Turn : goal.returns-in-Turn
 returns-in-Turn g c = rw c.in-Turn.is (λ bytes acted can here h. c.turn.ensures bytes acted can h)
 
