@@ -156,8 +156,8 @@ record IsSoundWith (table : LifeTable) (acted : List Line) (moment : ℕ) (sent 
 sound-update : Laws → (table : LifeTable) (acted : List Line) (moment : ℕ) (update : updates.Update) → IsMoment moment → IsUpdate update
     → option_map Clock (earlier_than (Some moment) (latest acted)) ≡ None → update_refusal table acted moment update ≡ None → IsSound table acted
     → IsSoundWith table acted moment (record { station = station_of acted; event = accepted moment update } ∷ broadcast acted)
-sound-update laws table acted moment update timely is clock own s =
-    let behind = not-behind moment (latest acted) clock in
+sound-update laws table acted moment update timely is behind_none own s =
+    let behind = not-behind moment (latest acted) behind_none in
     let given = map-none reason_of_update _ (or-none (option_map Clock _) _ own).1 in
     let b : StationEvent = record { station = station_of acted; event = accepted moment update } in
     let still = laws.stay table b (broadcast acted) (hearings acted) s.heard in

@@ -82,10 +82,7 @@ impl<G: Sender> Sending<G> {
                 moment,
                 version,
                 report,
-            } => answer(
-                self.ground
-                    .give_text(*moment, *version, report.as_str()),
-            ),
+            } => answer(self.ground.give_text(*moment, *version, report.as_str())),
             Line::Radar {
                 moment,
                 version,
@@ -99,14 +96,10 @@ impl<G: Sender> Sending<G> {
                 scale,
                 south,
                 numbers,
-            } => answer(self.ground.give_blanks(
-                *moment,
-                *version,
-                *product,
-                *scale,
-                *south,
-                numbers.all(),
-            )),
+            } => answer(
+                self.ground
+                    .give_blanks(*moment, *version, *product, *scale, *south, numbers.all()),
+            ),
             _ => Ok(()),
         }
     }

@@ -5,3 +5,6 @@ returns-in-Turn g c = rw c.in-Turn.is (λ bytes acted can here h. c.turn.ensures
 
 pub returns-in-Hear : goal.returns-in-Hear
 returns-in-Hear g c = rw c.in-Hear.is (λ bytes acted can here h. c.hear.ensures bytes acted can h)
+
+pub returns-in-Text : goal.returns-in-Text
+returns-in-Text g c = λ bytes acted can here h. c.give.ensures bytes acted h
