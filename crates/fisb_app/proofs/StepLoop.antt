@@ -1,11 +1,13 @@
 -- The steps of a workload, one after another.
-use Rattle.std.proofs.Common.{◌≡◌, ℕ, ◌<◌, List, [], ◌∷◌, length, ap, sym, refl, ◌∙◌, arith}
-use Rattle.life_table.specs.LifeTable.{LifeTable}
+use Rattle.std.proofs.Common.{◌≡◌, ℕ, ◌<◌, List, [], ◌∷◌, length, ap, sym, ◌∙◌, arith}
+use Rattle.life_table.specs.LifeTable.{LifeTable, default_table}
 use Rattle.script_core.specs.Script.{Line}
 use Rattle.workload.specs.declared.step.Step.{Step}
 use Rattle.fisb_app.specs.declared.making.Making.{Making}
 use Rattle.fisb_app.specs.Stands.{Sends, Hears}
-use Rattle.fisb_app.specs.Make.{after_step, after_steps}
+use Rattle.fisb_app.specs.declared.counts.Counts.{Counts}
+use Rattle.workload.specs.Workload.{workload}
+use Rattle.fisb_app.specs.Make.{after_step, after_steps, counts_of, summary, summary_text}
 use Rattle.fisb_app.specs.Makes.{Makes}
 
 -- some lines were acted on, and the steps that are still to come make of them the whole
@@ -35,3 +37,8 @@ at-last sends hears table all steps making is w = ap (after_steps table w.acted)
 
 pub fewer-steps : (steps rest : List Step) (step : Step) → steps ≡ step ∷ rest → length rest < length steps
 fewer-steps steps rest step is = let many = ap length is in omega (arith, many)
+
+-- the line of the numbers of the whole workload
+pub summary-of : (count seed : ℕ) (counts : Counts) → counts ≡ counts_of default_table (after_steps default_table [] (workload count seed)) → summary_text count seed counts ≡ summary count seed
+unfolding summary
+summary-of count seed counts is = ap (summary_text count seed) is
