@@ -31,12 +31,7 @@ pub fn run_make<K: Sink>(alloc: Global, count: u32, seed: u64, sink: &mut K) -> 
 
 /// Runs `make` with any receiver: each frame that is heard goes to it, and each picture comes from
 /// it.
-pub fn run_make_over<K: Sink, E: Ear>(
-    alloc: Global,
-    count: u32,
-    seed: u64,
-    sink: &mut K,
-) -> Status
+pub fn run_make_over<K: Sink, E: Ear>(alloc: Global, count: u32, seed: u64, sink: &mut K) -> Status
     requires spare { K.spare sink.old ≡ None }
     requires count { (1 ≤ count) × (count ≤ 1000) }
     ensures made { HasMade count seed (sink_end (K.written sink.old) (K.faults sink.old))
@@ -72,24 +67,14 @@ fn counts_after<E: Ear>(alloc: Global, count: u32, seed: u64) -> Result<Counts, 
 }
 
 /// The line of a summary.
-fn print_summary(
-    alloc: Global,
-    count: u32,
-    seed: u64,
-    counts: Counts,
-) -> Result<Bytes, AllocError>
+fn print_summary(alloc: Global, count: u32, seed: u64, counts: Counts) -> Result<Bytes, AllocError>
     ensures { IfOk result (λ text. text ≡ summary_text count seed counts) }
 {
     let text = summary_line(alloc, count, seed, counts)?;
     Ok(Bytes::of(text.into_bytes()))
 }
 
-fn summary_line(
-    alloc: Global,
-    count: u32,
-    seed: u64,
-    counts: Counts,
-) -> Result<String, AllocError>
+fn summary_line(alloc: Global, count: u32, seed: u64, counts: Counts) -> Result<String, AllocError>
     ensures { IfOk result (λ text. string_bytes text ≡ summary_text count seed counts) }
 {
     let updates = counts.updates;

@@ -20,8 +20,8 @@ use crate::relay::Relay;
 use fisb_wire::{Sink, Source};
 use ground_core::Ground;
 use receiver_core::Receiver;
-use run_core::laws::runs_agree;
 use run_core::Status;
+use run_core::laws::runs_agree;
 use std::alloc::Global;
 
 /// Runs the command that the words name: `link`, `ground`, `receive`, `gdl`, or `make` with
