@@ -11,3 +11,8 @@ pub mod Receiving
 pub mod Keeping
 pub mod Giving
 pub mod Acting
+pub mod Changing
+pub mod Stepping
+pub mod StepKinds
+pub mod StepLoop
+pub mod PrintSummary

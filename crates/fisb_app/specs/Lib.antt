@@ -5,5 +5,6 @@ pub mod Damage
 pub mod Origin
 pub mod Work
 pub mod Stands
-pub mod Unbuilt
+pub mod Make
+pub mod Makes
 pub mod Command

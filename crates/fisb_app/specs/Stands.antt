@@ -1,6 +1,6 @@
 -- What an actor keeps, against the lines acted on, and what it answers to a line.
 use Rattle.std.specs.Prelude.{◌≡◌, ℕ, List, ◌∷◌, length, map, Option, Some, None, Result, Ok, Err}
-use Rattle.std.specs.Prelude.{OnOk, IfErr, option_map}
+use Rattle.std.specs.Prelude.{OnOk, OnErr, IfErr, option_map}
 use Rattle.std.specs.Option.{option_or}
 use Rattle.uplink_frame.specs.declared.station.StationId.{StationId}
 use Rattle.life_table.specs.LifeTable.{LifeTable}
@@ -54,6 +54,9 @@ pub record HasGiven {G A : Type 0} (sends : Sends G) (old new : G) (moment : ℕ
       → sends table station history old
       → IfErr result (IsToldAt (last_above (clock_of history) moment)
       (give_refusal table (items table station history) moment update))
+  pub same : (table : LifeTable) (station : StationId) (history : List Event)
+      → sends table station history old
+      → OnErr result (sends table station history new)
 
 -- the table was read of these bytes, and the ground stands for what the lines gave it
 pub record Holds {G : Type 0} (sends : Sends G) (bytes : List ℕ) (acted : List Line)

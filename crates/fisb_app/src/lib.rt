@@ -2,6 +2,7 @@
 #![tactic(auto)]
 
 mod command;
+mod counts;
 mod ear;
 mod ground_alone;
 mod hearing;
@@ -9,6 +10,8 @@ mod in_order;
 pub mod laws;
 mod line_kinds;
 mod link;
+mod make;
+mod making;
 mod party;
 mod receiver_alone;
 mod relay;
@@ -20,6 +23,7 @@ mod top;
 mod unheard;
 
 pub use ear::Ear;
+pub use make::{run_make, run_make_over};
 pub use run_core::Status;
 pub use script_core::Reason;
-pub use top::{run, run_gdl, run_ground, run_link, run_link_over, run_make, run_receive};
+pub use top::{run, run_gdl, run_ground, run_link, run_link_over, run_receive};

@@ -1,5 +1,5 @@
 //! What gives a command its frames.
-ghost use Rattle.std.specs.Prelude.{◌≡◌, ℕ, ◌<◌, ◌^◌, ◌∷◌, [], List, None, Some, IfErr, IfOk, OnOk, length};
+ghost use Rattle.std.specs.Prelude.{◌≡◌, ℕ, ◌<◌, ◌^◌, ◌∷◌, [], List, None, Some, IfErr, IfOk, OnErr, OnOk, length};
 ghost use Rattle.life_table.specs.LifeTable.{LifeTable as Table};
 ghost use Rattle.uplink_frame.specs.declared.station.StationId.{StationId as Place};
 ghost use Rattle.uplink_frame.specs.Station.{FitsStation};
@@ -72,7 +72,8 @@ pub(crate) trait Sender: Drop {
             → OnOk result (last_above (clock_of history) moment ≡ None) }
         ensures refused { (table : Table) (station : Place) (history : List Event)
             → stands table station history self.old
-            → IfErr result (λ fault. last_above (clock_of history) moment ≡ Some (kept_told fault)) };
+            → IfErr result (λ fault. last_above (clock_of history) moment ≡ Some (kept_told fault)) }
+        ensures same { OnErr result (self.new ≡ self.old) };
 }
 
 impl Sender for Ground {

@@ -4,7 +4,7 @@ ghost use Rattle.fisb_wire.specs.Faults.{Rose};
 ghost use Rattle.run_core.specs.Run.{HasRun, IsComplete, IsDecided, ends, sink_end, task_of};
 ghost use Rattle.fisb_app.specs.Command.{command_named};
 ghost use Rattle.fisb_app.specs.declared.command.Command.{Command};
-ghost use Rattle.fisb_app.specs.Unbuilt.{HasRefused};
+ghost use Rattle.fisb_app.specs.Make.{HasMade};
 ghost use Rattle.fisb_app.specs.Origin.{IsOrigin, Origin};
 ghost use Rattle.fisb_app.specs.Work.{gdl_work, ground_work, link_work, origin_work, promised_work, receive_work};
 
@@ -14,18 +14,18 @@ use crate::ground_alone::GroundAlone;
 use crate::in_order::InOrder;
 use crate::laws::{origins_are_told, promises_are_kept};
 use crate::link::Link;
+use crate::make::run_make;
 use crate::receiver_alone::ReceiverAlone;
 use crate::relay::Relay;
 use fisb_wire::{Sink, Source};
 use ground_core::Ground;
 use receiver_core::Receiver;
+use run_core::Status;
 use run_core::laws::runs_agree;
-use run_core::{Status, write_all};
-use script_core::{Reason, print_refused};
 use std::alloc::Global;
 
-/// Runs the command that the words name: `link`, `ground`, `receive`, `gdl`, or `make` with further
-/// words. Nothing is read or written where they name none.
+/// Runs the command that the words name: `link`, `ground`, `receive`, `gdl`, or `make` with
+/// two numbers. Nothing is read or written where they name none.
 pub fn run<S: Source, K: Sink>(
     alloc: Global,
     words: &[String],
@@ -119,10 +119,10 @@ pub fn run<S: Source, K: Sink>(
         (ends (S.left source.new) (S.faults source.new) (K.written sink.new) (K.faults sink.new))
         result }
 
-    // `make`, which is not built yet: nothing is read, and line 1 is refused.
-    ensures unbuilt { (count seed : ℕ)
+    // `make`: nothing is read, and the summary of its workload is written.
+    ensures make { (count seed : ℕ)
         → command_named (map string_bytes words.now) ≡ Some (Command.Make count seed)
-        → (source.new ≡ source.old) × HasRefused
+        → (source.new ≡ source.old) × HasMade count seed
         (sink_end (K.written sink.old) (K.faults sink.old))
         (sink_end (K.written sink.new) (K.faults sink.new)) result }
 
@@ -303,39 +303,4 @@ pub fn run_gdl<S: Source, K: Sink>(alloc: Global, source: &mut S, sink: &mut K) 
     ensures reach { K.reach sink.new ≡ K.reach sink.old }
 {
     run_core::run::<InOrder<Relay>, S, K>(alloc, source, sink)
-}
-
-/// Runs `make` for so many minutes of traffic from a seed, which is not built yet: line 1 is
-/// refused.
-pub fn run_make<K: Sink>(alloc: Global, count: u32, seed: u64, sink: &mut K) -> Status
-    requires spare { K.spare sink.old ≡ None }
-    requires count { (1 ≤ count) × (count ≤ 1000) }
-    ensures refused { HasRefused (sink_end (K.written sink.old) (K.faults sink.old))
-        (sink_end (K.written sink.new) (K.faults sink.new)) result }
-    ensures sink_faults { K.faults sink.old ≤ K.faults sink.new }
-    ensures spare { K.spare sink.new ≡ None }
-    ensures reach { K.reach sink.new ≡ K.reach sink.old }
-{
-    refuse(alloc, sink)
-}
-
-/// Refuses line 1 for a command that is not built yet.
-fn refuse<K: Sink>(alloc: Global, sink: &mut K) -> Status
-    requires { K.spare sink.old ≡ None }
-    ensures refused { HasRefused (sink_end (K.written sink.old) (K.faults sink.old))
-        (sink_end (K.written sink.new) (K.faults sink.new)) result }
-    ensures sink_faults { K.faults sink.old ≤ K.faults sink.new }
-    ensures spare { K.spare sink.new ≡ None }
-    ensures reach { K.reach sink.new ≡ K.reach sink.old }
-{
-    let Ok(text) = print_refused(alloc, 1, &Reason::NotBuilt) else {
-        return Status::NoMemory;
-    };
-    match write_all(sink, text.all()) {
-        Ok(()) => Status::Refused {
-            line: 1,
-            reason: Reason::NotBuilt,
-        },
-        Err(_) => Status::WriteFault,
-    }
 }

@@ -5,7 +5,7 @@ ghost use Rattle.std.specs.Vec.Iter.{into_iter_items};
 ghost use Rattle.fisb_app.specs.Command.{command_named};
 ghost use Rattle.fisb_app.specs.declared.command.Command.{Command};
 ghost use Rattle.fisb_app.specs.Origin.{IsOrigin, Origin};
-ghost use Rattle.fisb_app.specs.Unbuilt.{HasRefused};
+ghost use Rattle.fisb_app.specs.Make.{HasMade};
 ghost use Rattle.fisb_app.specs.Work.{gdl_work, ground_work, link_work, origin_work, promised_work, receive_work};
 ghost use Rattle.run_core.specs.Run.{HasRun, IsDecided, ends, sink_end, task_of};
 ghost use Rattle.fisb_cli.specs.Ending.{EndsAs, IsGdlAlone, IsGroundAlone, IsLinkAlone, IsReceiveAlone, number_without_words, words_of};
@@ -36,10 +36,10 @@ pub fn run_args<S: Source, K: Sink>(
         command_named (map string_bytes (words_of (into_iter_items args))) ≡ None
         → (result ≡ 2) ⊎ (result ≡ 7)) }
     ensures untouched { result ≡ 2 → (source.new ≡ source.old) × (sink.new ≡ sink.old) }
-    ensures unbuilt { IfOk args (λ args. (count seed : ℕ)
+    ensures make { IfOk args (λ args. (count seed : ℕ)
         → command_named (map string_bytes (words_of (into_iter_items args)))
         ≡ Some (Command.Make count seed)
-        → (source.new ≡ source.old) × EndsAs result (HasRefused
+        → (source.new ≡ source.old) × EndsAs result (HasMade count seed
         (sink_end (K.written sink.old) (K.faults sink.old))
         (sink_end (K.written sink.new) (K.faults sink.new)))) }
     ensures link { IfOk args (λ args.

@@ -3,9 +3,7 @@
 ghost use Rattle.std.specs.Prelude.{◌<◌};
 ghost use Rattle.receiver_core.specs.StandsFor.{StandsFor};
 
-use fisb_app::{
-    Ear, Reason, Status, run_gdl, run_ground, run_link, run_link_over, run_make, run_receive,
-};
+use fisb_app::{Ear, Reason, Status, run_gdl, run_ground, run_link, run_link_over, run_receive};
 use fisb_time::Moment;
 use fisb_wire::{Bytes, FaithfulSource, MemorySink, MemorySource, Numbers, PieceSource};
 use gdl90_core::{Deframer, Framed};
@@ -117,13 +115,8 @@ fn the_sizes_of_the_reads_change_nothing(rt: HostRuntime) -> Result<(), Fail> {
 #[test]
 fn each_command_has_a_call_of_its_own(rt: HostRuntime) -> Result<(), Fail> {
     let alloc = rt.alloc();
-    let not_built = Status::Refused {
-        line: 1,
-        reason: Reason::NotBuilt,
-    };
     let mut source = FaithfulSource::new(script(alloc)?);
     let mut sink = MemorySink::new(alloc, 4096, numbers(alloc, &[])?)?;
-    assert_eq!(rt; run_make(alloc, 1, 2, &mut sink), not_built);
     let not_here = Status::Refused {
         line: 4,
         reason: Reason::NotHere,
@@ -201,7 +194,7 @@ fn a_frame_without_valid_application_data_is_handed_on_too(rt: HostRuntime) -> R
 
 /// A receiver that finds no memory to hear a frame.
 #[derive(Drop)]
-struct Mute {
+pub(crate) struct Mute {
     receiver: Receiver,
 }
 

@@ -7,15 +7,15 @@ use Rattle.run_core.specs.declared.status.Status.TheVariants.{NoMemory}
 use Rattle.fisb_cli.proofs.NoMemory.{unbegun-run, decided-without-memory}
 use Rattle.fisb_cli.proofs.ending.run_args.Goals as goal
 
-pub returns-in-Ok-words-clause-unbuilt : goal.returns-in-Ok-words-clause-unbuilt
-returns-in-Ok-words-clause-unbuilt g c =
+pub returns-in-Ok-words-clause-make : goal.returns-in-Ok-words-clause-make
+returns-in-Ok-words-clause-make g c =
     rw c.in-Ok.is (λ count seed named.
     let words = c.as_slice.ensures.value ∙ c.in-Ok-words.ensures in
-    let refused = c.run.ensures.unbuilt count seed (subst (λ ws. command_named (map string_bytes ws) ≡ Some (Make count seed)) (sym words) named) in
+    let refused = c.run.ensures.make count seed (subst (λ ws. command_named (map string_bytes ws) ≡ Some (Make count seed)) (sym words) named) in
     (refused.0, (c.run.result, c.code.ensures, refused.1)))
 
-pub returns-in-Err-words-clause-unbuilt : goal.returns-in-Err-words-clause-unbuilt
-returns-in-Err-words-clause-unbuilt g c =
+pub returns-in-Err-words-clause-make : goal.returns-in-Err-words-clause-make
+returns-in-Err-words-clause-make g c =
     rw c.in-Ok.is (λ count seed named. (refl, (NoMemory, c.code-in-Err-words.ensures, (refl, refl))))
 
 pub returns-in-Err-words-clause-link : goal.returns-in-Err-words-clause-link

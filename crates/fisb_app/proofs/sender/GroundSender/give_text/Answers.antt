@@ -5,4 +5,5 @@ returns c = record {
   newest = c.give_text.ensures.accepted;
   nothing_against = c.give_text.ensures.nothing_against;
   refused = c.give_text.ensures.refused;
+  same = c.give_text.ensures.same;
 }

@@ -1,0 +1,188 @@
+-- A step more of a workload: what stands against its line, and what was made with it.
+use Rattle.std.proofs.Common.{◌≡◌, ◌≢◌, ℕ, zero, suc, ◌+◌, ◌-◌, ◌<◌, true, false, Bool, List, [], ◌∷◌, ◌++◌, length, map, Option, Some, None, option_map, is_some, Result, Ok, Err, OnOk, refl, sym, ap, subst, ◌∙◌, arith, slice_get, append-nil}
+use Rattle.std.specs.Option.{option_or}
+use Rattle.life_table.specs.LifeTable.{LifeTable}
+use Rattle.segment_core.specs.Store.{last_above}
+use Rattle.ground_core.specs.Update as updates
+use Rattle.ground_core.specs.Update.{Update}
+use Rattle.ground_core.specs.History.{Event, accepted}
+use Rattle.ground_core.specs.declared.fault.GiveFault.{GiveFault}
+use Rattle.script_core.specs.Script.{Line, text, radar, blank, turn, hear, show}
+use Rattle.refusal_core.specs.declared.reason.Reason.{Reason}
+use Rattle.refusal_core.specs.declared.reason.Reason.TheVariants.{Clock}
+use Rattle.run_core.specs.declared.stop.Stop.{Stop}
+use Rattle.run_core.specs.declared.stop.Stop.TheVariants.{Refused, NoMemory}
+use Rattle.workload.specs.declared.step.Step.{Step}
+use Rattle.workload.specs.declared.step.Step.TheVariants as steps
+use Rattle.fisb_app.specs.declared.party.Party.TheVariants.{Link as LinkParty}
+use Rattle.fisb_app.specs.declared.making.Making.{Making}
+use Rattle.fisb_app.specs.declared.counts.Counts.{Counts}
+use Rattle.fisb_app.specs.Past.{events, station_of, sent_frames, receptions, latest, moment_of}
+use Rattle.fisb_app.specs.Reading.{refusal_of, own_refusal, update_refusal, earlier_than}
+use Rattle.fisb_app.specs.Stands.{Sends, Hears, HasGiven, HasAnswered, HasTried}
+use Rattle.fisb_app.specs.Make.{acted_unless, after_step, step_line, block_named, counts_of, total, updates_by, corrected_by, entries_by, last_frame}
+use Rattle.fisb_app.specs.Makes.{Makes, IsCounted, with_update, sent_one, aired_one}
+use Rattle.fisb_app.proofs.Giving.{update-answered}
+
+-- what stands against a line of a moment: the clock, and then its own reason
+abbrev pub against : Option ℕ → Option Reason → Option Reason
+against early own = option_or (option_map Clock early) own
+
+pub early-kept : (early : Option ℕ) (own : Option Reason) (line : Line) (acted : List Line) → is_some early ≡ true → acted_unless (against early own) line acted ≡ acted
+early-kept (Some kept) own line acted e = refl
+early-kept None own line acted e = cc
+
+pub timely : (early : Option ℕ) (own : Option Reason) (line : Line) (acted : List Line) → is_some early ≡ false → acted_unless (against early own) line acted ≡ acted_unless own line acted
+timely (Some kept) own line acted e = cc
+timely None own line acted e = refl
+
+pub refused-kept : (own : Option Reason) (why : Reason) (line : Line) (acted : List Line) → own ≡ Some why → acted_unless own line acted ≡ acted
+refused-kept own why line acted e = ap (λ r. acted_unless r line acted) e
+
+pub free-acted : (own : Option Reason) (line : Line) (acted : List Line) → own ≡ None → acted_unless own line acted ≡ line ∷ acted
+free-acted own line acted e = ap (λ r. acted_unless r line acted) e
+
+-- the line of a step is the next one, unless a reason stands against it
+pub record IsNext (table : LifeTable) (acted : List Line) (step : Step) (moment : ℕ) (line : Line) (own : Option Reason) : Type 0 where
+  pub after : after_step table acted step ≡ acted_unless (against (earlier_than (Some moment) (latest acted)) own) line acted
+  pub moment_is : moment_of line ≡ Some moment
+
+pub early-step : {G E : Type 0} (sends : Sends G) (hears : Hears E) (table : LifeTable) (acted : List Line) (step : Step) (moment : ℕ) (line : Line) (own : Option Reason) (making : Making G E)
+    → IsNext table acted step moment line own → Makes sends hears table acted making → is_some (earlier_than (Some moment) making.clock) ≡ true
+    → Makes sends hears table (after_step table acted step) making
+early-step sends hears table acted step moment line own making next h early =
+    subst (λ lines. Makes sends hears table lines making)
+    (sym (next.after ∙ early-kept (earlier_than (Some moment) (latest acted)) own line acted (ap (λ c. is_some (earlier_than (Some moment) c)) (sym h.clock) ∙ early))) h
+
+-- a step in time
+pub timely-step : {G E : Type 0} (sends : Sends G) (hears : Hears E) (table : LifeTable) (acted : List Line) (step : Step) (moment : ℕ) (line : Line) (own : Option Reason) (making : Making G E)
+    → IsNext table acted step moment line own → Makes sends hears table acted making → is_some (earlier_than (Some moment) making.clock) ≡ false
+    → after_step table acted step ≡ acted_unless own line acted
+timely-step sends hears table acted step moment line own making next h early =
+    next.after ∙ timely (earlier_than (Some moment) (latest acted)) own line acted (ap (λ c. is_some (earlier_than (Some moment) c)) (sym h.clock) ∙ early)
+
+pub refused-step : {G E : Type 0} (sends : Sends G) (hears : Hears E) (table : LifeTable) (acted after : List Line) (line : Line) (own : Option Reason) (why : Reason) (making : Making G E)
+    → after ≡ acted_unless own line acted → own ≡ Some why → Makes sends hears table acted making → Makes sends hears table after making
+refused-step sends hears table acted after line own why making is so h =
+    subst (λ lines. Makes sends hears table lines making) (sym (is ∙ refused-kept own why line acted so)) h
+
+pub acted-step : {G E : Type 0} (sends : Sends G) (hears : Hears E) (table : LifeTable) (acted after : List Line) (line : Line) (own : Option Reason) (making : Making G E)
+    → after ≡ acted_unless own line acted → own ≡ None → Makes sends hears table (line ∷ acted) making → Makes sends hears table after making
+acted-step sends hears table acted after line own making is so h =
+    subst (λ lines. Makes sends hears table lines making) (sym (is ∙ free-acted own line acted so)) h
+
+pub same-counts : (a b : Counts) → a.updates ≡ b.updates → a.turns ≡ b.turns → a.heard ≡ b.heard → a.corrected ≡ b.corrected → a.entries ≡ b.entries → a ≡ b
+same-counts a b u t h c e =
+    ap (λ x. record { updates = x; turns = a.turns; heard = a.heard; corrected = a.corrected; entries = a.entries }) u
+    ∙ ap (λ x. record { updates = b.updates; turns = x; heard = a.heard; corrected = a.corrected; entries = a.entries }) t
+    ∙ ap (λ x. record { updates = b.updates; turns = b.turns; heard = x; corrected = a.corrected; entries = a.entries }) h
+    ∙ ap (λ x. record { updates = b.updates; turns = b.turns; heard = b.heard; corrected = x; entries = a.entries }) c
+    ∙ ap (λ x. record { updates = b.updates; turns = b.turns; heard = b.heard; corrected = b.corrected; entries = x }) e
+
+-- a line that gives an update
+pub record IsUpdateStep (table : LifeTable) (acted : List Line) (step : Step) (moment : ℕ) (line : Line) (update : Update) : Type 0 where
+  pub next : IsNext table acted step moment line (update_refusal table acted moment update)
+  pub station : station_of (line ∷ acted) ≡ station_of acted
+  pub events_are : events (line ∷ acted) ≡ accepted moment update ∷ events acted
+  pub frames_are : sent_frames table (line ∷ acted) ≡ sent_frames table acted
+  pub receptions_are : receptions table (line ∷ acted) ≡ receptions table acted
+  pub updates_are : updates_by table acted line ≡ 1
+  pub corrected_are : corrected_by table acted line ≡ 0
+  pub entries_are : entries_by table acted line ≡ 0
+
+pub text-step : (table : LifeTable) (acted : List Line) (moment : ℕ) (chars : List ℕ)
+    → IsUpdateStep table acted (steps.Text moment chars) moment (text moment moment chars) (updates.text moment chars)
+unfolding after_step
+text-step table acted moment chars = record {
+  next = record { after = refl; moment_is = refl };
+  station = refl;
+  events_are = refl;
+  frames_are = append-nil (sent_frames table acted);
+  receptions_are = refl;
+  updates_are = refl;
+  corrected_are = refl;
+  entries_are = refl;
+}
+
+pub block-step : (table : LifeTable) (acted : List Line) (moment number : ℕ) (cells : List ℕ)
+    → IsUpdateStep table acted (steps.Block moment number cells) moment (radar moment moment (block_named number) cells) (updates.block moment (block_named number) cells)
+unfolding after_step
+block-step table acted moment number cells = record {
+  next = record { after = refl; moment_is = refl };
+  station = refl;
+  events_are = refl;
+  frames_are = append-nil (sent_frames table acted);
+  receptions_are = refl;
+  updates_are = refl;
+  corrected_are = refl;
+  entries_are = refl;
+}
+
+pub blanks-step : (table : LifeTable) (acted : List Line) (moment : ℕ) (numbers : List ℕ)
+    → IsUpdateStep table acted (steps.Blanks moment numbers) moment (blank moment moment 63 0 false numbers) (updates.blanks moment 63 0 false numbers)
+unfolding after_step
+blanks-step table acted moment numbers = record {
+  next = record { after = refl; moment_is = refl };
+  station = refl;
+  events_are = refl;
+  frames_are = append-nil (sent_frames table acted);
+  receptions_are = refl;
+  updates_are = refl;
+  corrected_are = refl;
+  entries_are = refl;
+}
+
+-- what was made with an update more
+update-made : {G E : Type 0} (sends : Sends G) (hears : Hears E) (table : LifeTable) (acted : List Line) (step : Step) (moment : ℕ) (line : Line) (update : Update) (old : Making G E) (ground : G)
+    → IsUpdateStep table acted step moment line update → Makes sends hears table acted old → sends table (station_of acted) (accepted moment update ∷ events acted) ground
+    → Makes sends hears table (line ∷ acted) (with_update moment (record old { ground = ground }))
+update-made sends hears table acted step moment line update old ground is h s = record {
+  ground = subst (λ place. sends table place (events (line ∷ acted)) ground) (sym is.station) (subst (λ past. sends table (station_of acted) past ground) (sym is.events_are) s);
+  ear = subst (λ past. hears table past old.ear) (sym is.receptions_are) h.ear;
+  late = h.late;
+  clock = ap (λ m. option_or m (latest acted)) (sym is.next.moment_is);
+  last = h.last ∙ ap (λ frames. aired_one (last_frame frames)) (sym is.frames_are);
+  counts = same-counts _ _
+      (ap (λ (c : Counts). c.updates + 1) h.counts ∙ ap (λ n. total updates_by table acted + n) (sym is.updates_are))
+      (ap (λ (c : Counts). c.turns) h.counts ∙ ap length (sym is.frames_are))
+      (ap (λ (c : Counts). c.heard) h.counts ∙ ap length (sym is.receptions_are))
+      (ap (λ (c : Counts). c.corrected) h.counts ∙ no-more _ _ is.corrected_are)
+      (ap (λ (c : Counts). c.entries) h.counts ∙ no-more _ _ is.entries_are);
+}
+  where
+    no-more : (sum share : ℕ) → share ≡ 0 → sum ≡ sum + share
+    no-more sum share e = omega (arith, e)
+
+update-tried : {G E A B C : Type 0} (sends : Sends G) (hears : Hears E) (table : LifeTable) (acted : List Line) (step : Step) (moment : ℕ) (line : Line) (update : Update) (old new : Making G E) (ground : G)
+    (given : Result A GiveFault) (tried : Result B Stop) (result : Result (Unit {0}) C)
+    → IsUpdateStep table acted step moment line update → after_step table acted step ≡ acted_unless (update_refusal table acted moment update) line acted → Makes sends hears table acted old
+    → HasGiven sends old.ground ground moment update given → HasAnswered given tried
+    → HasTried (update_refusal table acted moment update) (λ done. sends table (station_of acted) (accepted moment update ∷ events acted) ground) tried
+    → IsCounted moment (record old { ground = ground }) new tried result
+    → OnOk result (Makes sends hears table (after_step table acted step) new)
+update-tried sends hears table acted step moment line update old new ground given tried (Err fault) is after h g a t counted = tt
+update-tried sends hears table acted step moment line update old new ground (Ok done) (Ok b) (Ok u) is after h g a t counted =
+    subst (Makes sends hears table (after_step table acted step)) (sym counted)
+    (acted-step sends hears table acted _ line _ _ after t.0 (update-made sends hears table acted step moment line update old ground is h t.1))
+update-tried sends hears table acted step moment line update old new ground (Ok done) (Err stop) (Ok u) is after h g a t counted = absurd a
+update-tried sends hears table acted step moment line update old new ground (Err fault) (Ok b) (Ok u) is after h g a t counted = absurd a
+update-tried sends hears table acted step moment line update old new ground (Err fault) (Err NoMemory) (Ok u) is after h g a t counted = absurd counted
+update-tried sends hears table acted step moment line update old new ground (Err fault) (Err (Refused why)) (Ok u) is after h g a t counted =
+    subst (Makes sends hears table (after_step table acted step)) (sym counted)
+    (refused-step sends hears table acted _ line _ why (record old { ground = ground }) after t
+    (record { ground = g.same table (station_of acted) (events acted) h.ground; ear = h.ear; late = h.late; clock = h.clock; last = h.last; counts = h.counts }))
+
+-- an update in time, which is counted where it is given
+pub update-taken : {G E A B C : Type 0} (sends : Sends G) (hears : Hears E) (table : LifeTable) (acted : List Line) (step : Step) (moment : ℕ) (line : Line) (update : Update) (old new : Making G E) (ground : G)
+    (given : Result A GiveFault) (tried : Result B Stop) (result : Result (Unit {0}) C)
+    → IsUpdateStep table acted step moment line update → is_some (earlier_than (Some moment) old.clock) ≡ false
+    → HasGiven sends old.ground ground moment update given → HasAnswered given tried
+    → IsCounted moment (record old { ground = ground }) new tried result
+    → Makes sends hears table acted old
+    → OnOk result (Makes sends hears table (after_step table acted step) new)
+update-taken sends hears table acted step moment line update old new ground given tried result is early g a counted h =
+    update-tried sends hears table acted step moment line update old new ground given tried result is
+    (timely-step sends hears table acted step moment line _ old is.next h early) h g a
+    (update-answered sends table (station_of acted) (events acted) old.ground ground moment update given tried
+    (sends table (station_of acted) (accepted moment update ∷ events acted) ground) g a h.ground (λ s. s))
+    counted
