@@ -10,6 +10,7 @@ ghost use Rattle.fisb_app.specs.Makes.{HasTaken, IsCounted, IsInAir, Makes, aire
 use crate::counts::Counts;
 use crate::ear::Ear;
 use crate::sender::Sender;
+use crate::sending;
 use crate::sent::SentFrame;
 use crate::stopping::answer;
 use fisb_time::Moment;
@@ -21,8 +22,8 @@ use std::alloc::{AllocError, Global};
 use uplink_frame::{StationId, stations_are_told};
 use workload::{Changes, Step};
 
-/// The most frames of a run.
-const FRAME_LIMIT: u64 = 65_536;
+/// The most frames of a run, as a count of turns.
+const FRAME_LIMIT: u64 = sending::FRAME_LIMIT as u64;
 
 /// The product of the blocks of a workload.
 const PRODUCT: u16 = 63;

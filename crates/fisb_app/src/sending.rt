@@ -23,7 +23,7 @@ use std::alloc::{AllocError, Global};
 use uplink_frame::StationId;
 
 /// The most frames of a run.
-const FRAME_LIMIT: usize = 65_536;
+pub(crate) const FRAME_LIMIT: usize = 65_536;
 
 /// What is sent.
 #[derive(Drop)]
