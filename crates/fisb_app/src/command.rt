@@ -8,9 +8,9 @@ use script_core::read_number;
 /// The most minutes of traffic.
 const LAST_COUNT: u64 = 1000;
 
-/// A command that the words name.
+/// A command that the words of a command line name.
 #[derive(Clone, Copy, Debug, PartialEq, Eq)]
-pub(crate) enum Command {
+pub enum Command {
     Link,
     Ground,
     Receive,

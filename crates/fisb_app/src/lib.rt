@@ -22,6 +22,7 @@ mod stopping;
 mod top;
 mod unheard;
 
+pub use command::Command;
 pub use ear::Ear;
 pub use make::{run_make, run_make_over};
 pub use run_core::Status;

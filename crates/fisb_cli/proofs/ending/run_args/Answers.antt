@@ -1,6 +1,6 @@
-use Rattle.std.proofs.Common.{◌≡◌, Some, map, string_bytes, refl, sym, ◌∙◌, subst}
+use Rattle.std.proofs.Common.{◌≡◌, Some, map, string_bytes, refl, sym, ◌∙◌, subst, ap}
 use Rattle.fisb_app.specs.Command.{command_named}
-use Rattle.fisb_app.specs.declared.command.Command.TheVariants.{Make}
+use Rattle.fisb_app.specs.declared.command.Command.TheVariants.{Make, Receive}
 use Rattle.run_core.specs.Run.{ends, task_of}
 use Rattle.fisb_app.specs.Work.{link_work, ground_work, promised_work, receive_work, origin_work, gdl_work}
 use Rattle.run_core.specs.declared.status.Status.TheVariants.{NoMemory}
@@ -27,6 +27,13 @@ pub returns-in-Err-words-clause-ground_alone : goal.returns-in-Err-words-clause-
 returns-in-Err-words-clause-ground_alone g c =
     let e = ends (g.S.Source.left c.args.source.now) (g.S.Source.faults c.args.source.now) (g.K.Sink.written c.args.sink.now) (g.K.Sink.faults c.args.sink.now) in
     rw c.in-Ok.is (λ alone. (NoMemory, c.code-in-Err-words.ensures, (unbegun-run (task_of ground_work) e, decided-without-memory (task_of ground_work) e)))
+
+pub returns-in-Ok-words-clause-receive : goal.returns-in-Ok-words-clause-receive
+returns-in-Ok-words-clause-receive g c =
+    rw c.in-Ok.is (λ alone.
+    let words = c.as_slice.ensures.value ∙ c.in-Ok-words.ensures in
+    let named = subst (λ ws. command_named (map string_bytes ws) ≡ Some Receive) (sym words) (ap command_named alone) in
+    (c.run.result, c.code.ensures, ((λ origin from. c.run.ensures.receive_headline origin from named), c.run.ensures.receive_decided named)))
 
 pub returns-in-Err-words-clause-receive : goal.returns-in-Err-words-clause-receive
 returns-in-Err-words-clause-receive g c =
