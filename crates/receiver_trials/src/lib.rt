@@ -4,6 +4,4 @@
 #[cfg(test)]
 mod many_reports;
 #[cfg(test)]
-mod radar;
-#[cfg(test)]
 mod tests;
