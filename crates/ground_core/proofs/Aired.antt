@@ -13,7 +13,7 @@ use Rattle.ground_core.specs.Item.{Weather, Item, Segment, segments_of, room_of,
 use Rattle.ground_core.specs.Update.{weather_of}
 use Rattle.ground_core.specs.History.{Event, accepted, fill, item_of, items_made, new_items, items}
 use Rattle.ground_core.specs.Airing.{Touch, touch, is_live, is_touched, last_touches, waiting_segments, longest_fitting, airing, touches, log}
-use Rattle.ground_core.specs.Broadcast.{IsNotBefore, IsHistory}
+use Rattle.ground_core.specs.Broadcast.{IsNotBeforeLast, IsHistory}
 use Rattle.ground_core.specs.Sound.{AreGiven, AcceptedIsGiven}
 use Rattle.ground_core.proofs.Segments.{is_segment_of}
 
@@ -117,7 +117,7 @@ made-lead table station moment before (w ∷ more) i given (inr h) =
     made-lead table station moment (before ++ item_of table station moment before w ∷ []) more i given.1 h
 
 pub items-lead : AcceptedIsGiven → (table : LifeTable) (station : StationId) (history : List Event) (m : ℕ) (i : Item) → IsTable table
-    → IsHistory table station history → IsNotBefore m history → IsIn i (items table station history) → i.weather.version ≤ m + 60
+    → IsHistory table station history → IsNotBeforeLast m history → IsIn i (items table station history) → i.weather.version ≤ m + 60
 items-lead accepting table station [] m i is_table is not_before h = absurd h
 items-lead accepting table station (accepted moment update ∷ past) m i is_table is not_before h =
     let before = items table station past in
