@@ -20,6 +20,7 @@ use Rattle.fisb_app.specs.Reading.{frame_refusal, receiver_refusal, own_refusal}
 use Rattle.fisb_app.specs.Output.{heard_text, heard_frame, heard_picture, given_text}
 use Rattle.fisb_app.specs.Stands.{Sends, Hears, Holds, LinkHolds, HasTried, IsFound, sent_view, aired_view}
 use Rattle.fisb_app.proofs.Receiving.{HasReceived}
+use Rattle.fisb_app.proofs.Grounds.{quiet-holds, hear-quiet, show-quiet, empty-quiet}
 
 -- what a link has done for a line
 abbrev pub HasLinked : {G E : Type 0} → Sends G → Hears E → List ℕ → List Line → Line → Link G E → Link G E → List ℕ → Type 0
@@ -33,7 +34,7 @@ heard-holds : {G E : Type 0} (sends : Sends G) (hears : Hears E) (bytes : List �
     → LinkHolds sends hears bytes (hear moment number wrong ∷ acted) new
 heard-holds sends hears bytes acted moment number wrong old new h sending sent ear =
     let line = hear moment number wrong in record {
-      holds = subst (λ s. Holds sends bytes (line ∷ acted) s) (sym sending) (record { opened = h.holds.opened; ground = h.holds.ground });
+      holds = subst (λ s. Holds sends bytes (line ∷ acted) s) (sym sending) (quiet-holds sends bytes acted line old.sending (hear-quiet moment number wrong) h.holds);
       sent = ap (λ s. map sent_view s.items) sent ∙ h.sent ∙ ap (λ s. map aired_view (sent_frames s.table acted)) (sym sending);
       ear = subst (λ s. hears s.table (receptions s.table (line ∷ acted)) new.ear) (sym sending) ear;
     }
@@ -74,7 +75,7 @@ shown-text table past moment entries text h written = (ap (option_map Clock) h.a
 still-holds : {G E : Type 0} (sends : Sends G) (hears : Hears E) (bytes : List ℕ) (acted : List Line) (moment : ℕ) (link : Link G E)
     → LinkHolds sends hears bytes acted link → LinkHolds sends hears bytes (show moment ∷ acted) link
 still-holds sends hears bytes acted moment link h =
-    record { holds = record { opened = h.holds.opened; ground = h.holds.ground }; sent = h.sent; ear = h.ear }
+    record { holds = quiet-holds sends bytes acted (show moment) link.sending (show-quiet moment) h.holds; sent = h.sent; ear = h.ear }
 
 pub shown-line : {G E : Type 0} (sends : Sends G) (hears : Hears E) (bytes : List ℕ) (acted : List Line) (moment : ℕ) (link : Link G E)
     (result : Result (List ℕ) Stop) → LinkHolds sends hears bytes acted link
@@ -88,4 +89,4 @@ shown-line sends hears bytes acted moment link (Err NoMemory) h t = tt
 pub empty-line : {G E : Type 0} (sends : Sends G) (hears : Hears E) (bytes : List ℕ) (acted : List Line) (link : Link G E)
     → LinkHolds sends hears bytes acted link → LinkHolds sends hears bytes (empty ∷ acted) link
 empty-line sends hears bytes acted link h =
-    record { holds = record { opened = h.holds.opened; ground = h.holds.ground }; sent = h.sent; ear = h.ear }
+    record { holds = quiet-holds sends bytes acted empty link.sending empty-quiet h.holds; sent = h.sent; ear = h.ear }

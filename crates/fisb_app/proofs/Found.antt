@@ -1,9 +1,11 @@
 -- Where a frame that was kept stands.
 use Rattle.std.proofs.Common.{◌≡◌, ℕ, zero, suc, ◌<◌, ◌≤◌, ◌+◌, nat_lt, true, false, if◌then◌else◌, List, [], ◌∷◌, length, map, Option, Some, None, refl, sym, ap, ◌∙◌, arith, rules, tests, slice_get, slice_index_or, inl, inr}
 use Rattle.std.proofs.lemmas.Option.{slice_get_cases, slice_get_past, get_or_from_slice_get}
+use Rattle.std.proofs.lemmas.Bool.Decides.{nat_tests}
 use Rattle.std.proofs.lemmas.List.{length-map}
+use Rattle.std.specs.Ordering.{is_lt, nat_cmp}
 use Rattle.ground_core.specs.Airing.{Frame}
-use Rattle.refusal_core.specs.declared.reason.Reason.TheVariants.{NoFrame, Late}
+use Rattle.refusal_core.specs.declared.reason.Reason.TheVariants.{NoFrame, Early, Late}
 use Rattle.fisb_app.specs.Reading.{frame_refusal}
 use Rattle.fisb_app.specs.Stands.{Aired, aired_view}
 
@@ -41,12 +43,31 @@ none-kept kept sent number is found = none-sent sent number (ap (λ list. slice_
 pub no-frame : (allowed moment : ℕ) (found : Option Frame) → found ≡ None → frame_refusal allowed moment found ≡ Some NoFrame
 no-frame allowed moment found is = ap (frame_refusal allowed moment) is
 
-pub too-late : (allowed moment : ℕ) (found : Option Frame) (frame : Frame) → found ≡ Some frame → frame.moment + allowed < moment → frame_refusal allowed moment found ≡ Some Late
-too-late allowed moment found frame is after =
-    let test : nat_lt (frame.moment + allowed) moment ≡ true = search (rules, tests) in
-    ap (frame_refusal allowed moment) is ∙ ap (λ b. if b then Some Late else None) test
+pub before : (one other : ℕ) → is_lt (nat_cmp one other) ≡ true → one < other
+before one other e = grind (arith, nat_tests)
 
-pub in-time : (allowed moment : ℕ) (found : Option Frame) (frame : Frame) → found ≡ Some frame → moment ≤ frame.moment + allowed → frame_refusal allowed moment found ≡ None
-in-time allowed moment found frame is within =
+pub not-before : (one other : ℕ) → is_lt (nat_cmp one other) ≡ false → other ≤ one
+not-before one other e = grind (arith, nat_tests)
+
+pub too-early : (allowed moment : ℕ) (found : Option Frame) (frame : Frame) → found ≡ Some frame → moment < frame.moment → frame_refusal allowed moment found ≡ Some Early
+too-early allowed moment found frame is before =
+    let early : nat_lt moment frame.moment ≡ true = search (rules, tests) in
+    ap (frame_refusal allowed moment) is ∙ ap (λ b. if b then Some Early else (if nat_lt (frame.moment + allowed) moment then Some Late else None)) early
+
+not-early : (allowed moment : ℕ) (found : Option Frame) (frame : Frame) → found ≡ Some frame → frame.moment ≤ moment
+    → frame_refusal allowed moment found ≡ (if nat_lt (frame.moment + allowed) moment then Some Late else None)
+not-early allowed moment found frame is after =
+    let early : nat_lt moment frame.moment ≡ false = search (rules, tests) in
+    ap (frame_refusal allowed moment) is ∙ ap (λ b. if b then Some Early else (if nat_lt (frame.moment + allowed) moment then Some Late else None)) early
+
+pub too-late : (allowed moment : ℕ) (found : Option Frame) (frame : Frame) → found ≡ Some frame → frame.moment ≤ moment → frame.moment + allowed < moment
+    → frame_refusal allowed moment found ≡ Some Late
+too-late allowed moment found frame is sent after =
+    let test : nat_lt (frame.moment + allowed) moment ≡ true = search (rules, tests) in
+    not-early allowed moment found frame is sent ∙ ap (λ b. if b then Some Late else None) test
+
+pub in-time : (allowed moment : ℕ) (found : Option Frame) (frame : Frame) → found ≡ Some frame → frame.moment ≤ moment → moment ≤ frame.moment + allowed
+    → frame_refusal allowed moment found ≡ None
+in-time allowed moment found frame is sent within =
     let test : nat_lt (frame.moment + allowed) moment ≡ false = search (rules, tests) in
-    ap (frame_refusal allowed moment) is ∙ ap (λ b. if b then Some Late else None) test
+    not-early allowed moment found frame is sent ∙ ap (λ b. if b then Some Late else None) test

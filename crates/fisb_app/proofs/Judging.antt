@@ -1,15 +1,14 @@
 -- The answer to a line, by its form and by what stands against it.
-use Rattle.std.proofs.Common.{◌≡◌, ℕ, ◌&&◌, Bool, true, false, if◌then◌else◌, List, ◌∷◌, Option, Some, None, Ok, refl, sym, ap, ◌∙◌}
+use Rattle.std.proofs.Common.{◌≡◌, ℕ, List, ◌∷◌, Option, Some, None, Ok, refl, sym, ap, ◌∙◌}
 use Rattle.std.specs.Option.{option_or}
 use Rattle.std.specs.List.{cons_option}
 use Rattle.life_table.specs.LifeTable.{LifeTable}
 use Rattle.script_core.specs.Script.{Line}
 use Rattle.script_core.specs.Fields.{line_of}
 use Rattle.refusal_core.specs.declared.reason.Reason.{Reason}
-use Rattle.refusal_core.specs.declared.reason.Reason.TheVariants.{Station}
 use Rattle.fisb_app.specs.declared.party.Party.{Party}
-use Rattle.fisb_app.specs.Past.{lines_of, line_moment, latest, has_begun}
-use Rattle.fisb_app.specs.Reading.{CanCome, front_refusal, party_refusal, station_refusal, clock_refusal, own_refusal, is_station}
+use Rattle.fisb_app.specs.Past.{lines_of, receiver_moment, receiver_clock}
+use Rattle.fisb_app.specs.Reading.{front_refusal, party_refusal, clock_refusal, own_refusal}
 use Rattle.fisb_app.specs.Output.{Shows, given_text}
 use Rattle.fisb_app.specs.Work.{answer, answer_under, formed_answer, line_answer, text_unless, opening_table}
 
@@ -27,44 +26,28 @@ answer-formed party shows bytes past raw table form opened is =
 
 -- the front reasons come before those of the content
 pub answer-front : (party : Party) (shows : Shows) (table : LifeTable) (acted : List Line) (line : Line) (front own : Option Reason)
-    → front_refusal party (has_begun acted) (latest acted) line ≡ front → own_refusal party table acted line ≡ own
+    → front_refusal party (receiver_clock acted) line ≡ front → own_refusal party table acted line ≡ own
     → line_answer party shows table acted line ≡ text_unless (given_text party shows table acted line) (option_or front own)
 answer-front party shows table acted line front own is so =
     ap (λ f. text_unless (given_text party shows table acted line) (option_or f (own_refusal party table acted line))) is
     ∙ ap (λ o. text_unless (given_text party shows table acted line) (option_or front o)) so
 
--- the same front reasons by the clock and the beginning that are kept
-pub front-kept : (party : Party) (acted : List Line) (line : Line) (begun : Bool) (clock : Option ℕ) (found : Option Reason)
-    → begun ≡ has_begun acted → clock ≡ latest acted → found ≡ front_refusal party begun clock line
-    → front_refusal party (has_begun acted) (latest acted) line ≡ found
-front-kept party acted line begun clock found b c is =
-    ap (λ x. front_refusal party x (latest acted) line) (sym b) ∙ ap (λ x. front_refusal party begun x line) (sym c) ∙ sym is
+-- the same front reasons by the clock that is kept
+pub front-kept : (party : Party) (acted : List Line) (line : Line) (clock : Option ℕ) (found : Option Reason)
+    → clock ≡ receiver_clock acted → found ≡ front_refusal party clock line
+    → front_refusal party (receiver_clock acted) line ≡ found
+front-kept party acted line clock found c is = ap (λ x. front_refusal party x line) (sym c) ∙ sym is
 
 -- the first of two reasons is none: both are
 pub or-none : {A : Type 0} (a b : Option A) → option_or a b ≡ None → (a ≡ None) × (b ≡ None)
 or-none None b e = (refl, e)
 or-none (Some x) b e = cc
 
-none-else : {A : Type 0} (test : Bool) (x : A) → (if test then Some x else None) ≡ None → test ≡ false
-none-else true x e = cc
-none-else false x e = refl
-
-both-false : (first begun : Bool) → (first && begun) ≡ false → first ≡ true → begun ≡ false
-both-false true begun e is = e
-both-false false begun e is = cc
-
 -- a line against which nothing of the front stands
 pub record IsClear (party : Party) (acted : List Line) (line : Line) : Type 0 where
-  pub can : CanCome acted line
   pub here : party_refusal party line ≡ None
-  pub clock : clock_refusal (line_moment line) (latest acted) ≡ None
+  pub clock : clock_refusal (receiver_moment line) (receiver_clock acted) ≡ None
 
-pub clear : (party : Party) (acted : List Line) (line : Line) → front_refusal party (has_begun acted) (latest acted) line ≡ None → IsClear party acted line
+pub clear : (party : Party) (acted : List Line) (line : Line) → front_refusal party (receiver_clock acted) line ≡ None → IsClear party acted line
 clear party acted line e =
-    let one = or-none (party_refusal party line) _ e in
-    let two = or-none (station_refusal (has_begun acted) line) _ one.1 in
-    record {
-      can = record { first = both-false (is_station line) (has_begun acted) (none-else _ Station two.0) };
-      here = one.0;
-      clock = two.1;
-    }
+    let both = or-none (party_refusal party line) _ e in record { here = both.0; clock = both.1 }

@@ -1,5 +1,6 @@
 pub mod Judging
 pub mod Turning
+pub mod Grounds
 pub mod Found
 pub mod Steps
 pub mod Damaged

@@ -12,7 +12,7 @@ use Rattle.fisb_link.specs.Hearing.{IsInTime, IsAfterHearings, AreHeard, recepti
 use Rattle.script_core.specs.Script.{Line, empty, rx, show}
 use Rattle.script_core.specs.LineView.{HasRanges}
 use Rattle.fisb_app.specs.declared.party.Party.TheVariants.{Receive}
-use Rattle.fisb_app.specs.Past.{air_of, receptions, latest}
+use Rattle.fisb_app.specs.Past.{air_of, receptions, receiver_clock}
 use Rattle.fisb_app.specs.Reading.{refusal_of, own_refusal}
 use Rattle.fisb_app.specs.Damage.{has_near_blocks}
 use Rattle.fisb_app.specs.Origin.{Origin, IsOrigin, numbered_hearings, is_sent_frame, all_sent, origin_picture}
@@ -23,7 +23,7 @@ pub record IsHeardFrom (origin : Origin) (table : LifeTable) (acted : List Line)
   pub heard : all_sent origin table acted ≡ true → AreHeard table.late (frames table (origin.broadcast table)) (numbered_hearings origin.numbers acted)
   pub received_is : all_sent origin table acted ≡ true
       → receptions table acted ≡ receptions_of (frames table (origin.broadcast table)) (numbered_hearings origin.numbers acted)
-  pub heard_before : (moment : ℕ) → IsNotBehind moment (latest acted) → IsAfterHearings moment (numbered_hearings origin.numbers acted)
+  pub heard_before : (moment : ℕ) → IsNotBehind moment (receiver_clock acted) → IsAfterHearings moment (numbered_hearings origin.numbers acted)
 
 pub heard-start : (origin : Origin) (table : LifeTable) → IsHeardFrom origin table []
 heard-start origin table = record { heard = λ all. tt; received_is = λ all. refl; heard_before = λ moment is. tt }
@@ -48,7 +48,7 @@ heard-rx : (origin : Origin) → IsOrigin origin → Laws → (table : LifeTable
 heard-rx origin from laws table acted moment size air rules ranges is own s =
     let sent = frames table (origin.broadcast table) in
     let number = slice_index origin.numbers (length (numbered_hearings origin.numbers acted)) in
-    let behind = not-behind moment (latest acted) is.clock in
+    let behind = not-behind moment (receiver_clock acted) is.clock in
     record {
       heard = λ all.
           let (this, others) = and_parts (is_sent_frame table.late moment air (slice_get sent number)) _ all in
@@ -72,11 +72,11 @@ heard-line origin from laws table acted (rx moment air) size rules ranges e s =
     heard-rx origin from laws table acted moment size air rules ranges (clear Receive acted _ (or-none _ _ e).0) (or-none _ _ e).1 s
 heard-line origin from laws table acted (show moment) size rules ranges e s =
     let is = clear Receive acted (show moment) (or-none _ _ e).0 in
-    let behind = not-behind moment (latest acted) is.clock in
+    let behind = not-behind moment (receiver_clock acted) is.clock in
     record {
       heard = s.heard;
       received_is = s.received_is;
-      heard_before = λ m after. s.heard_before m (behind-past m moment (latest acted) after behind);
+      heard_before = λ m after. s.heard_before m (behind-past m moment (receiver_clock acted) after behind);
     }
 heard-line origin from laws table acted line size rules ranges e s = cc
 
@@ -88,4 +88,4 @@ origin-pictures origin from laws table acted moment rules e s all =
     let is = clear Receive acted (show moment) (or-none _ _ e).0 in
     ap (λ heard. received_picture table heard moment) (s.received_is all)
     ∙ laws.agree table (origin.broadcast table) (numbered_hearings origin.numbers acted) moment rules (from table) (s.heard all)
-    (s.heard_before moment (not-behind moment (latest acted) is.clock))
+    (s.heard_before moment (not-behind moment (receiver_clock acted) is.clock))

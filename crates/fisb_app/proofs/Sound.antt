@@ -10,7 +10,6 @@ use Rattle.list_members.proofs.ListMembers.{got_in}
 use Rattle.list_members.proofs.Tests.{none_mapped}
 use Rattle.uplink_frame.specs.declared.station.StationId.{StationId}
 use Rattle.uplink_frame.specs.Station.{FitsStation}
-use Rattle.uplink_frame.specs.Laws.{StationsAreTold}
 use Rattle.uplink_weave.specs.Laws.{NearFrameGivesPayload}
 use Rattle.uplink_weave.specs.Functions.{payload_in, lost_block_in}
 use Rattle.fisb_time.specs.Moment.{IsMoment}
@@ -18,7 +17,8 @@ use Rattle.life_table.specs.LifeTable.{LifeTable}
 use Rattle.life_table.specs.Rules.{IsTable}
 use Rattle.ground_core.specs.Update as updates
 use Rattle.ground_core.specs.Update.{IsUpdate}
-use Rattle.ground_core.specs.History.{Event, accepted, fill}
+use Rattle.ground_core.specs.History.{Event, accepted, fill, event_moment}
+use Rattle.ground_core.specs.OnAir.{history_clock}
 use Rattle.ground_core.specs.Airing.{Frame, frame_payload}
 use Rattle.ground_core.specs.Broadcast.{StationEvent, IsBroadcast, IsNext, IsNotBeforeLast, frames}
 use Rattle.ground_core.specs.Sent.{FramesReadBack}
@@ -30,18 +30,16 @@ use Rattle.fisb_link.specs.Hearing.{IsInTime, IsAfterHearings, AreHeard, recepti
 use Rattle.fisb_link.specs.PicturesAgree.{PicturesAgree, HearingsStay}
 use Rattle.script_core.specs.Script.{Line, empty, station, text, radar, blank, turn, hear, show}
 use Rattle.script_core.specs.LineView.{HasRanges}
-use Rattle.refusal_core.specs.declared.reason.Reason.TheVariants.{Clock, Late}
+use Rattle.refusal_core.specs.declared.reason.Reason.TheVariants.{Clock, Early, Late}
 use Rattle.fisb_app.specs.declared.party.Party.TheVariants.{Link}
-use Rattle.fisb_app.specs.Past.{events, broadcast, hearings, station_after, sent_frames, air_of, air_heard, reception_from, received_frame, reception_by, receptions, latest}
-use Rattle.fisb_app.specs.Reading.{refusal_of, own_refusal, update_refusal, frame_refusal, receiver_refusal, earlier_than, reason_of_update}
+use Rattle.fisb_app.specs.Past.{at_station, broadcast, events, receiver_clock, hearings, station_after, sent_frames, air_of, air_heard, reception_from, received_frame, reception_by, receptions}
+use Rattle.fisb_app.specs.Reading.{refusal_of, own_refusal, station_clock_refusal, update_refusal, frame_refusal, receiver_refusal, earlier_than, reason_of_update}
 use Rattle.fisb_app.specs.Damage.{all_near, has_near_blocks, is_near_frame}
 use Rattle.fisb_app.proofs.Judging.{or-none, IsClear, clear}
 use Rattle.fisb_app.proofs.Damaged.{near-blocks}
-use Rattle.fisb_app.proofs.Turning.{history-back, unbegun-events, unbegun-frames}
 
 -- what lower crates promise
 pub record Laws : Type 0 where
-  pub told : StationsAreTold
   pub near : NearFrameGivesPayload
   pub frames_back : FramesReadBack
   pub stay : HearingsStay
@@ -56,10 +54,7 @@ pub record IsSound (table : LifeTable) (acted : List Line) : Type 0 where
   pub is_broadcast : IsBroadcast table (broadcast acted)
   pub heard : AreHeard table.late (sent_frames table acted) (hearings acted)
   pub received_is : all_near table acted ≡ true → receptions table acted ≡ receptions_of (sent_frames table acted) (hearings acted)
-  pub events_before : (moment : ℕ) → IsNotBehind moment (latest acted) → IsNotBeforeLast moment (events acted)
-  pub heard_before : (moment : ℕ) → IsNotBehind moment (latest acted) → IsAfterHearings moment (hearings acted)
-  pub sent_before : (moment place : ℕ) (frame : Frame) → IsNotBehind moment (latest acted)
-      → slice_get (sent_frames table acted) place ≡ Some frame → frame.moment ≤ moment
+  pub heard_before : (moment : ℕ) → IsNotBehind moment (receiver_clock acted) → IsAfterHearings moment (hearings acted)
 
 pub sound-start : (table : LifeTable) → IsSound table []
 sound-start table = record {
@@ -67,9 +62,7 @@ sound-start table = record {
   is_broadcast = tt;
   heard = tt;
   received_is = λ near. refl;
-  events_before = λ moment is. tt;
   heard_before = λ moment is. tt;
-  sent_before = λ moment place frame is found. cc;
 }
 
 -- a moment that is not behind a line is behind none before it
@@ -87,12 +80,6 @@ not-behind moment (Some kept) e = elim (cases_Bool (nat_lt moment kept)) [
 pub behind-past : (moment own : ℕ) (last : Option ℕ) → own ≤ moment → IsNotBehind own last → IsNotBehind moment last
 behind-past moment own None after is = tt
 behind-past moment own (Some kept) after is = omega (arith, after, is)
-
-found-last : {A : Type 0} (one : List A) (last : A) (place : ℕ) (x : A) → slice_get (one ++ last ∷ []) place ≡ Some x → (slice_get one place ≡ Some x) ⊎ (last ≡ x)
-found-last [] last zero x e = inr cc
-found-last [] last (suc place) x e = cc
-found-last (y ∷ ys) last zero x e = inl e
-found-last (y ∷ ys) last (suc place) x e = found-last ys last place x e
 
 byte-at : (bytes : List ℕ) → All (λ byte. byte < 256) bytes → (i : ℕ) → slice_index bytes i < 256
 byte-at bytes all i = elim (cases_Bool (nat_lt i (length bytes))) [
@@ -117,12 +104,27 @@ received-near laws table sent past moment place air frame rules sound none found
     let fourth : refusal_of_air past moment air ≡ None = third ∙ ap (λ v. if v then None else Some no_application) valid in
     ap (λ r. reception_by r moment (payload_in air)) fourth ∙ ap (reception_by None moment) woven.0
 
-time-test : (allowed moment sent : ℕ) → (if nat_lt (sent + allowed) moment then Some Late else None) ≡ None → moment ≤ sent + allowed
-time-test allowed moment sent e = grind (arith, nat_tests)
+-- against a frame that is heard in time nothing stands
+late-none : (allowed moment sent : ℕ) → (if nat_lt (sent + allowed) moment then Some Late else None) ≡ None → moment ≤ sent + allowed
+late-none allowed moment sent e = grind (arith, nat_tests)
 
-in-time : (allowed moment : ℕ) (found : Option Frame) → frame_refusal allowed moment found ≡ None → ((frame : Frame) → found ≡ Some frame → frame.moment ≤ moment) → IsInTime allowed found moment
-in-time allowed moment None e before = cc
-in-time allowed moment (Some frame) e before = (before frame refl, time-test allowed moment frame.moment e)
+time-none : (allowed moment sent : ℕ) (early : Bool) → nat_lt moment sent ≡ early → (if early then Some Early else (if nat_lt (sent + allowed) moment then Some Late else None)) ≡ None
+    → (sent ≤ moment) × (moment ≤ sent + allowed)
+time-none allowed moment sent true is e = cc
+time-none allowed moment sent false is e = (grind (arith, nat_tests), late-none allowed moment sent e)
+
+in-time : (allowed moment : ℕ) (found : Option Frame) → frame_refusal allowed moment found ≡ None → IsInTime allowed found moment
+in-time allowed moment None e = cc
+in-time allowed moment (Some frame) e = time-none allowed moment frame.moment (nat_lt moment frame.moment) refl e
+
+-- an event that the clock of its station lets pass is not before the last one
+past-last : (moment : ℕ) (past : List Event) → option_map Clock (last_above (history_clock past) moment) ≡ None → IsNotBeforeLast moment past
+past-last moment [] e = tt
+past-last moment (event ∷ past) e = passed (nat_lt moment (event_moment event)) refl e
+  where
+    passed : (early : Bool) → nat_lt moment (event_moment event) ≡ early → option_map Clock (if early then Some (event_moment event) else None) ≡ None → event_moment event ≤ moment
+    passed true is e = cc
+    passed false is e = grind (arith, nat_tests)
 
 -- the reception of a line that is heard
 reception-heard : Laws → (table : LifeTable) (acted : List Line) (past : List Reception) (moment place : ℕ) (wrong : List (ℕ × ℕ)) (found : Option Frame) → IsTable table
@@ -132,74 +134,54 @@ reception-heard laws table acted past moment place wrong None rules sound none i
 reception-heard laws table acted past moment place wrong (Some frame) rules sound none is in_time near =
     received-near laws table (broadcast acted) past moment place (air_heard wrong (air_of frame)) frame rules sound none is near
 
--- an update that is accepted, and a fill, are the next event of the broadcast
-next-event : StationsAreTold → (table : LifeTable) (acted : List Line) (event : Event) → IsSound table acted → IsNext table (station_after acted) (events acted) event
-    → IsBroadcast table (record { station = station_after acted; event = event } ∷ broadcast acted)
-next-event told table acted event s next =
-    (s.station, subst (λ past. IsNext table (station_after acted) past event) (sym (history-back told (station_after acted) (events acted))) next, s.is_broadcast)
-
--- what is known of a broadcast with an update more
-record IsSoundWith (table : LifeTable) (acted : List Line) (moment : ℕ) (sent : List StationEvent) : Type 0 where
+-- what is known of a broadcast with an event more
+record IsSoundWith (table : LifeTable) (acted : List Line) (sent : List StationEvent) : Type 0 where
   is_broadcast : IsBroadcast table sent
   heard : AreHeard table.late (frames table sent) (hearings acted)
   received_is : all_near table acted ≡ true → receptions table acted ≡ receptions_of (frames table sent) (hearings acted)
-  heard_before : (m : ℕ) → moment ≤ m → IsAfterHearings m (hearings acted)
-  sent_before : (m place : ℕ) (frame : Frame) → moment ≤ m → slice_get (frames table sent) place ≡ Some frame → frame.moment ≤ m
 
+-- what is known with an event more of the station that was named last
+sound-event : Laws → (table : LifeTable) (acted : List Line) (event : Event) → IsNext table (station_after acted) (events acted) event → IsSound table acted
+    → IsSoundWith table acted (at_station (station_after acted) event ∷ broadcast acted)
+sound-event laws table acted event next s =
+    let still = laws.stay table (at_station (station_after acted) event) (broadcast acted) (hearings acted) s.heard in
+    record {
+      is_broadcast = (s.station, next, s.is_broadcast);
+      heard = still.still_heard;
+      received_is = λ near. s.received_is near ∙ sym still.received;
+    }
+
+-- an update that is accepted, and a fill, are the next event of the broadcast
 sound-update : Laws → (table : LifeTable) (acted : List Line) (moment : ℕ) (update : updates.Update) → IsMoment moment → IsUpdate update
-    → option_map Clock (earlier_than (Some moment) (latest acted)) ≡ None → update_refusal table acted moment update ≡ None → IsSound table acted
-    → IsSoundWith table acted moment (record { station = station_after acted; event = accepted moment update } ∷ broadcast acted)
-sound-update laws table acted moment update timely is behind_none own s =
-    let behind = not-behind moment (latest acted) behind_none in
-    let given = none_mapped reason_of_update _ (or-none (option_map Clock _) _ own).1 in
-    let b : StationEvent = record { station = station_after acted; event = accepted moment update } in
-    let still = laws.stay table b (broadcast acted) (hearings acted) s.heard in
-    record {
-      is_broadcast = next-event laws.told table acted _ s (record {
-        is_accepted = (is, given);
-        moment_is = timely;
-        not_before = s.events_before moment behind;
-      });
-      heard = still.still_heard;
-      received_is = λ near. s.received_is near ∙ sym still.received;
-      heard_before = λ m after. s.heard_before m (behind-past m moment (latest acted) after behind);
-      sent_before = λ m place frame after found. s.sent_before m place frame (behind-past m moment (latest acted) after behind) (sent-same place frame found);
-    }
-  where
-    sent-same : (place : ℕ) (frame : Frame) → slice_get (sent_frames table acted ++ []) place ≡ Some frame → slice_get (sent_frames table acted) place ≡ Some frame
-    sent-same place frame e = subst (λ list. slice_get list place ≡ Some frame) (append-nil (sent_frames table acted)) e
+    → update_refusal table acted moment update ≡ None → IsSound table acted
+    → IsSoundWith table acted (at_station (station_after acted) (accepted moment update) ∷ broadcast acted)
+sound-update laws table acted moment update timely is own s =
+    let both = or-none (station_clock_refusal acted moment) _ own in
+    sound-event laws table acted (accepted moment update) (record {
+      is_accepted = (is, none_mapped reason_of_update _ both.1);
+      moment_is = timely;
+      not_before = past-last moment (events acted) both.0;
+    }) s
 
-sound-turn : Laws → (table : LifeTable) (acted : List Line) (moment slot size : ℕ) → HasRanges size (turn moment slot)
-    → IsClear Link acted (turn moment slot) → IsSound table acted → IsSound table (turn moment slot ∷ acted)
-sound-turn laws table acted moment slot size ranges is s =
-    let behind = not-behind moment (latest acted) is.clock in
-    let b : StationEvent = record { station = station_after acted; event = fill moment slot } in
-    let still = laws.stay table b (broadcast acted) (hearings acted) s.heard in
-    record {
-      station = s.station;
-      is_broadcast = next-event laws.told table acted _ s (record {
-        is_accepted = ranges.1;
-        moment_is = ranges.0;
-        not_before = s.events_before moment behind;
-      });
-      heard = still.still_heard;
-      received_is = λ near. s.received_is near ∙ sym still.received;
-      events_before = λ m after. after;
-      heard_before = λ m after. s.heard_before m (behind-past m moment (latest acted) after behind);
-      sent_before = λ m place frame after found. elim (found-last (sent_frames table acted) _ place frame found) [
-        | inl e ↦ s.sent_before m place frame (behind-past m moment (latest acted) after behind) e
-        | inr e ↦ subst (λ (f : Frame). f.moment ≤ m) e after
-      ];
-    }
+sound-turn : Laws → (table : LifeTable) (acted : List Line) (moment slot : ℕ) → IsMoment moment → slot < 32
+    → own_refusal Link table acted (turn moment slot) ≡ None → IsSound table acted
+    → IsSoundWith table acted (at_station (station_after acted) (fill moment slot) ∷ broadcast acted)
+sound-turn laws table acted moment slot timely below own s =
+    let both = or-none (station_clock_refusal acted moment) _ own in
+    sound-event laws table acted (fill moment slot) (record {
+      is_accepted = below;
+      moment_is = timely;
+      not_before = past-last moment (events acted) both.0;
+    }) s
 
 sound-hear : Laws → (table : LifeTable) (acted : List Line) (moment number size : ℕ) (wrong : List (ℕ × ℕ)) → IsTable table → HasRanges size (hear moment number wrong)
     → IsClear Link acted (hear moment number wrong) → own_refusal Link table acted (hear moment number wrong) ≡ None → IsSound table acted
     → IsSound table (hear moment number wrong ∷ acted)
 sound-hear laws table acted moment number size wrong rules ranges is own s =
-    let behind = not-behind moment (latest acted) is.clock in
+    let behind = not-behind moment (receiver_clock acted) is.clock in
     let found = slice_get (sent_frames table acted) number in
     let both = or-none (frame_refusal table.late moment found) (receiver_refusal (receptions table acted) moment) own in
-    let time = in-time table.late moment found both.0 (λ frame e. s.sent_before moment number frame behind e) in
+    let time = in-time table.late moment found both.0 in
     record {
       station = s.station;
       is_broadcast = s.is_broadcast;
@@ -209,84 +191,38 @@ sound-hear laws table acted moment number size wrong rules ranges is own s =
           ap (λ o. cons_option o (receptions table acted))
           (reception-heard laws table acted (receptions table acted) moment number wrong found rules s.is_broadcast both.1 refl time own_near)
           ∙ ap (λ rest. record { moment = moment; payload = payload_sent found } ∷ rest) (s.received_is past_near);
-      events_before = λ m after. s.events_before m (behind-past m moment (latest acted) after behind);
       heard_before = λ m after. after;
-      sent_before = λ m place frame after e. s.sent_before m place frame (behind-past m moment (latest acted) after behind) e;
     }
 
 sound-show : (table : LifeTable) (acted : List Line) (moment : ℕ) → IsClear Link acted (show moment) → IsSound table acted → IsSound table (show moment ∷ acted)
 sound-show table acted moment is s =
-    let behind = not-behind moment (latest acted) is.clock in
+    let behind = not-behind moment (receiver_clock acted) is.clock in
     record {
       station = s.station;
       is_broadcast = s.is_broadcast;
       heard = s.heard;
       received_is = s.received_is;
-      events_before = λ m after. s.events_before m (behind-past m moment (latest acted) after behind);
-      heard_before = λ m after. s.heard_before m (behind-past m moment (latest acted) after behind);
-      sent_before = λ m place frame after e. s.sent_before m place frame (behind-past m moment (latest acted) after behind) e;
-    }
-
-sound-station : (table : LifeTable) (acted : List Line) (named : StationId) → FitsStation named
-    → IsClear Link acted (station named) → IsSound table acted → IsSound table (station named ∷ acted)
-sound-station table acted named fits is s =
-    let line = station named in
-    let none = is.can.first refl in
-    let same = unbegun-frames table acted line none refl in
-    record {
-      station = fits;
-      is_broadcast = subst (λ e. IsBroadcast table (map (λ event. record { station = station_after (line ∷ acted); event = event }) e)) (sym (unbegun-events acted none)) tt;
-      heard = subst (λ f. AreHeard table.late f (hearings acted)) (sym same) s.heard;
-      received_is = λ near. s.received_is near ∙ ap (λ f. receptions_of f (hearings acted)) (sym same);
-      events_before = s.events_before;
-      heard_before = s.heard_before;
-      sent_before = λ m place frame after found. s.sent_before m place frame after (subst (λ f. slice_get f place ≡ Some frame) same found);
+      heard_before = λ m after. s.heard_before m (behind-past m moment (receiver_clock acted) after behind);
     }
 
 -- a line more that was acted on
 pub sound-line : Laws → (table : LifeTable) (acted : List Line) (line : Line) (size : ℕ) → IsTable table → HasRanges size line
     → refusal_of Link table acted line ≡ None → IsSound table acted → IsSound table (line ∷ acted)
-sound-line laws table acted empty size rules ranges e s = record { station = s.station; is_broadcast = s.is_broadcast; heard = s.heard; received_is = s.received_is; events_before = s.events_before; heard_before = s.heard_before; sent_before = s.sent_before }
+sound-line laws table acted empty size rules ranges e s = record { station = s.station; is_broadcast = s.is_broadcast; heard = s.heard; received_is = s.received_is; heard_before = s.heard_before }
 sound-line laws table acted (station named) size rules ranges e s =
-    sound-station table acted named ranges (clear Link acted _ (or-none _ _ e).0) s
+    record { station = ranges; is_broadcast = s.is_broadcast; heard = s.heard; received_is = s.received_is; heard_before = s.heard_before }
 sound-line laws table acted (text moment version chars) size rules ranges e s =
-    let with = sound-update laws table acted moment (updates.text version chars) ranges.0 (ranges.1, ranges.2)
-    (clear Link acted (text moment version chars) (or-none _ _ e).0).clock (or-none _ _ e).1 s in
-    record {
-      station = s.station;
-      is_broadcast = with.is_broadcast;
-      heard = with.heard;
-      received_is = with.received_is;
-      events_before = λ m after. after;
-      heard_before = with.heard_before;
-      sent_before = with.sent_before;
-    }
+    let with = sound-update laws table acted moment (updates.text version chars) ranges.0 (ranges.1, ranges.2) (or-none _ _ e).1 s in
+    record { station = s.station; is_broadcast = with.is_broadcast; heard = with.heard; received_is = with.received_is; heard_before = s.heard_before }
 sound-line laws table acted (radar moment version key cells) size rules ranges e s =
-    let with = sound-update laws table acted moment (updates.block version key cells) ranges.0 (ranges.1, ranges.3)
-    (clear Link acted (radar moment version key cells) (or-none _ _ e).0).clock (or-none _ _ e).1 s in
-    record {
-      station = s.station;
-      is_broadcast = with.is_broadcast;
-      heard = with.heard;
-      received_is = with.received_is;
-      events_before = λ m after. after;
-      heard_before = with.heard_before;
-      sent_before = with.sent_before;
-    }
+    let with = sound-update laws table acted moment (updates.block version key cells) ranges.0 (ranges.1, ranges.3) (or-none _ _ e).1 s in
+    record { station = s.station; is_broadcast = with.is_broadcast; heard = with.heard; received_is = with.received_is; heard_before = s.heard_before }
 sound-line laws table acted (blank moment version product scale south numbers) size rules ranges e s =
-    let with = sound-update laws table acted moment (updates.blanks version product scale south numbers) ranges.0 ranges.1
-    (clear Link acted (blank moment version product scale south numbers) (or-none _ _ e).0).clock (or-none _ _ e).1 s in
-    record {
-      station = s.station;
-      is_broadcast = with.is_broadcast;
-      heard = with.heard;
-      received_is = with.received_is;
-      events_before = λ m after. after;
-      heard_before = with.heard_before;
-      sent_before = with.sent_before;
-    }
+    let with = sound-update laws table acted moment (updates.blanks version product scale south numbers) ranges.0 ranges.1 (or-none _ _ e).1 s in
+    record { station = s.station; is_broadcast = with.is_broadcast; heard = with.heard; received_is = with.received_is; heard_before = s.heard_before }
 sound-line laws table acted (turn moment slot) size rules ranges e s =
-    sound-turn laws table acted moment slot size ranges (clear Link acted _ (or-none _ _ e).0) s
+    let with = sound-turn laws table acted moment slot ranges.0 ranges.1 (or-none _ _ e).1 s in
+    record { station = s.station; is_broadcast = with.is_broadcast; heard = with.heard; received_is = with.received_is; heard_before = s.heard_before }
 sound-line laws table acted (hear moment number wrong) size rules ranges e s =
     sound-hear laws table acted moment number size wrong rules ranges (clear Link acted _ (or-none _ _ e).0) (or-none _ _ e).1 s
 sound-line laws table acted (show moment) size rules ranges e s =
@@ -299,4 +235,4 @@ pub pictures-same : Laws → (table : LifeTable) (acted : List Line) (moment : �
 pictures-same laws table acted moment rules e s near =
     let is = clear Link acted (show moment) (or-none _ _ e).0 in
     ap (λ heard. received_picture table heard moment) (s.received_is near)
-    ∙ laws.agree table (broadcast acted) (hearings acted) moment rules s.is_broadcast s.heard (s.heard_before moment (not-behind moment (latest acted) is.clock))
+    ∙ laws.agree table (broadcast acted) (hearings acted) moment rules s.is_broadcast s.heard (s.heard_before moment (not-behind moment (receiver_clock acted) is.clock))

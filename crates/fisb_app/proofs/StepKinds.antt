@@ -6,7 +6,8 @@ use Rattle.std.proofs.lemmas.List.{length-map}
 use Rattle.uplink_weave.specs.Functions.{part, woven, payload_in, counts_in}
 use Rattle.rs_code.specs.Functions.{encoded}
 use Rattle.std.proofs.lemmas.List.FromFn.{length-map-range_with_len}
-use Rattle.uplink_frame.specs.Laws.{StationsAreTold}
+use Rattle.list_members.proofs.Tests.{or_none}
+use Rattle.ground_core.specs.Sent.{HistoriesGrow}
 use Rattle.life_table.specs.LifeTable.{LifeTable}
 use Rattle.segment_core.specs.Store.{last_above}
 use Rattle.picture_core.specs.Views.{entry_view, shown_value}
@@ -27,8 +28,8 @@ use Rattle.workload.specs.declared.step.Step.TheVariants as steps
 use Rattle.workload.specs.Hearings.{frame_after as changed_frame}
 use Rattle.fisb_app.specs.declared.making.Making.{Making}
 use Rattle.fisb_app.specs.declared.counts.Counts.{Counts}
-use Rattle.fisb_app.specs.Past.{events, station_after, sent_frames, receptions, latest, air_of, air_heard, reception_from, reception_by, received_frame}
-use Rattle.fisb_app.specs.Reading.{own_refusal, turn_refusal, frame_refusal, receiver_refusal, earlier_than, frame_limit}
+use Rattle.fisb_app.specs.Past.{at_station, broadcast, events, station_after, receiver_clock, sent_frames, receptions, air_of, air_heard, reception_from, reception_by, received_frame}
+use Rattle.fisb_app.specs.Reading.{own_refusal, station_clock_refusal, turn_refusal, frame_refusal, receiver_refusal, earlier_than, frame_limit}
 use Rattle.fisb_app.specs.declared.party.Party.TheVariants.{Link as LinkParty}
 use Rattle.fisb_app.specs.Stands.{Sends, Hears, sent_view, aired_view}
 use Rattle.fisb_app.specs.Make.{acted_unless, after_step, counts_of, total, updates_by, corrected_by, corrected_bytes, corrected_in, entries_by, last_frame, last_number, wrong_in, wrong_bytes}
@@ -49,9 +50,9 @@ last-more xs x =
     ap (slice_get (xs ++ x ∷ [])) place ∙ at-end xs x
 
 pub turn-step : (table : LifeTable) (acted : List Line) (moment slot : ℕ)
-    → IsNext table acted (steps.Turn moment slot) moment (turn moment slot) (turn_refusal (length (sent_frames table acted)) acted moment)
+    → after_step table acted (steps.Turn moment slot) ≡ acted_unless (turn_refusal (length (sent_frames table acted)) acted moment) (turn moment slot) acted
 unfolding after_step
-turn-step table acted moment slot = record { after = refl; moment_is = refl }
+turn-step table acted moment slot = refl
 
 pub hear-step : (table : LifeTable) (acted : List Line) (moment : ℕ) (changes : List (ℕ × ℕ))
     → IsNext table acted (steps.Hear moment changes) moment (hear moment (last_number (sent_frames table acted)) (wrong_in changes (last_frame (sent_frames table acted))))
@@ -65,33 +66,36 @@ unfolding after_step
 show-step table acted moment = record { after = refl; moment_is = refl }
 
 -- the frames are full, or the frame is one more
-pub full-turn : (count : ℕ) (acted : List Line) (moment : ℕ) → frame_limit ≤ count → turn_refusal count acted moment ≡ Some Frames
+pub full-turn : (count : ℕ) (acted : List Line) (moment : ℕ) → frame_limit ≤ count → (why : Reason) × (turn_refusal count acted moment ≡ Some why)
 full-turn count acted moment full =
     let test : nat_lt count frame_limit ≡ false = search (rules, tests) in
-    ap (λ b. if b then option_map Clock (last_above (history_clock (events acted)) moment) else Some Frames) test
+    told (station_clock_refusal acted moment) (nat_lt count frame_limit) test
+  where
+    told : (early : Option Reason) (room : Bool) → room ≡ false → (why : Reason) × (option_or early (if room then None else Some Frames) ≡ Some why)
+    told None room none = (Frames, ap (λ b. if b then None else Some Frames) none)
+    told (Some why) room none = (why, refl)
 
 pub room-turn : (count : ℕ) (acted : List Line) (moment : ℕ) (last : Option ℕ) → count < frame_limit → last_above (history_clock (events acted)) moment ≡ last
     → turn_refusal count acted moment ≡ option_map Clock last
 room-turn count acted moment last room is =
     let test : nat_lt count frame_limit ≡ true = search (rules, tests) in
-    ap (λ b. if b then option_map Clock (last_above (history_clock (events acted)) moment) else Some Frames) test ∙ ap (option_map Clock) is
+    ap (λ b. option_or (station_clock_refusal acted moment) (if b then None else Some Frames)) test ∙ or_none (station_clock_refusal acted moment) ∙ ap (option_map Clock) is
 
-pub turn-made : StationsAreTold → {G E : Type 0} (sends : Sends G) (hears : Hears E) (table : LifeTable) (acted : List Line) (moment slot : ℕ) (old : Making G E) (ground : G) (frame : AirFrame)
+pub turn-made : HistoriesGrow → {G E : Type 0} (sends : Sends G) (hears : Hears E) (table : LifeTable) (acted : List Line) (moment slot : ℕ) (old : Making G E) (ground : G) (frame : AirFrame)
     → Makes sends hears table acted old → sends table (station_after acted) (fill moment slot ∷ events acted) ground
     → IsOnAir (frame_after table (station_after acted) (events acted) moment slot) frame
     → Makes sends hears table (turn moment slot ∷ acted) (record old {
       ground = ground;
       last = Some (record { moment = frame.moment; air = frame.air });
       counts = record old.counts { turns = old.counts.turns + 1 };
-      clock = Some moment;
     })
-turn-made told sends hears table acted moment slot old ground frame h s on =
+turn-made grow sends hears table acted moment slot old ground frame h s on =
     let sent = frame_after table (station_after acted) (events acted) moment slot in
-    let more = frames-more told table acted moment slot in record {
-      ground = s;
+    let more = frames-more table acted moment slot in record {
+      ground = subst (λ past. sends table (station_after acted) past ground) (sym (grow (at_station (station_after acted) (fill moment slot)) (broadcast acted)).own) s;
       ear = h.ear;
       late = h.late;
-      clock = refl;
+      clock = h.clock;
       last = ap Some (aired-alike sent frame on) ∙ ap aired_one (sym (last-more (sent_frames table acted) sent)) ∙ ap (λ frames. aired_one (last_frame frames)) (sym more);
       counts = same-counts _ _
           (ap (λ (c : Counts). c.updates) h.counts ∙ zero-more _)

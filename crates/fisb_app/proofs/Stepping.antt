@@ -6,6 +6,7 @@ use Rattle.segment_core.specs.Store.{last_above}
 use Rattle.ground_core.specs.Update as updates
 use Rattle.ground_core.specs.Update.{Update}
 use Rattle.ground_core.specs.History.{Event, accepted}
+use Rattle.ground_core.specs.Sent.{HistoriesGrow}
 use Rattle.ground_core.specs.declared.fault.GiveFault.{GiveFault}
 use Rattle.script_core.specs.Script.{Line, text, radar, blank, turn, hear, show}
 use Rattle.refusal_core.specs.declared.reason.Reason.{Reason}
@@ -17,7 +18,7 @@ use Rattle.workload.specs.declared.step.Step.TheVariants as steps
 use Rattle.fisb_app.specs.declared.party.Party.TheVariants.{Link as LinkParty}
 use Rattle.fisb_app.specs.declared.making.Making.{Making}
 use Rattle.fisb_app.specs.declared.counts.Counts.{Counts}
-use Rattle.fisb_app.specs.Past.{events, station_after, sent_frames, receptions, latest, line_moment}
+use Rattle.fisb_app.specs.Past.{broadcast, events, station_after, sent_frames, receptions, receiver_clock, receiver_moment}
 use Rattle.fisb_app.specs.Reading.{refusal_of, own_refusal, update_refusal, earlier_than}
 use Rattle.fisb_app.specs.Stands.{Sends, Hears, HasGiven, HasAnswered, HasTried}
 use Rattle.fisb_app.specs.Make.{acted_unless, after_step, step_line, block_named, counts_of, total, updates_by, corrected_by, entries_by, last_frame}
@@ -42,24 +43,24 @@ refused-kept own why line acted e = ap (λ r. acted_unless r line acted) e
 pub free-acted : (own : Option Reason) (line : Line) (acted : List Line) → own ≡ None → acted_unless own line acted ≡ line ∷ acted
 free-acted own line acted e = ap (λ r. acted_unless r line acted) e
 
--- the line of a step is the next one, unless a reason stands against it
+-- the line of a step of the receiver is the next one, unless a reason stands against it
 pub record IsNext (table : LifeTable) (acted : List Line) (step : Step) (moment : ℕ) (line : Line) (own : Option Reason) : Type 0 where
-  pub after : after_step table acted step ≡ acted_unless (against (earlier_than (Some moment) (latest acted)) own) line acted
-  pub moment_is : line_moment line ≡ Some moment
+  pub after : after_step table acted step ≡ acted_unless (against (earlier_than (Some moment) (receiver_clock acted)) own) line acted
+  pub moment_is : receiver_moment line ≡ Some moment
 
 pub early-step : {G E : Type 0} (sends : Sends G) (hears : Hears E) (table : LifeTable) (acted : List Line) (step : Step) (moment : ℕ) (line : Line) (own : Option Reason) (making : Making G E)
     → IsNext table acted step moment line own → Makes sends hears table acted making → is_some (earlier_than (Some moment) making.clock) ≡ true
     → Makes sends hears table (after_step table acted step) making
 early-step sends hears table acted step moment line own making next h early =
     subst (λ lines. Makes sends hears table lines making)
-    (sym (next.after ∙ early-kept (earlier_than (Some moment) (latest acted)) own line acted (ap (λ c. is_some (earlier_than (Some moment) c)) (sym h.clock) ∙ early))) h
+    (sym (next.after ∙ early-kept (earlier_than (Some moment) (receiver_clock acted)) own line acted (ap (λ c. is_some (earlier_than (Some moment) c)) (sym h.clock) ∙ early))) h
 
 -- a step in time
 pub timely-step : {G E : Type 0} (sends : Sends G) (hears : Hears E) (table : LifeTable) (acted : List Line) (step : Step) (moment : ℕ) (line : Line) (own : Option Reason) (making : Making G E)
     → IsNext table acted step moment line own → Makes sends hears table acted making → is_some (earlier_than (Some moment) making.clock) ≡ false
     → after_step table acted step ≡ acted_unless own line acted
 timely-step sends hears table acted step moment line own making next h early =
-    next.after ∙ timely (earlier_than (Some moment) (latest acted)) own line acted (ap (λ c. is_some (earlier_than (Some moment) c)) (sym h.clock) ∙ early)
+    next.after ∙ timely (earlier_than (Some moment) (receiver_clock acted)) own line acted (ap (λ c. is_some (earlier_than (Some moment) c)) (sym h.clock) ∙ early)
 
 pub refused-step : {G E : Type 0} (sends : Sends G) (hears : Hears E) (table : LifeTable) (acted after : List Line) (line : Line) (own : Option Reason) (why : Reason) (making : Making G E)
     → after ≡ acted_unless own line acted → own ≡ Some why → Makes sends hears table acted making → Makes sends hears table after making
@@ -81,7 +82,8 @@ same-counts a b u t h c e =
 
 -- a line that gives an update
 pub record IsUpdateStep (table : LifeTable) (acted : List Line) (step : Step) (moment : ℕ) (line : Line) (update : Update) : Type 0 where
-  pub next : IsNext table acted step moment line (update_refusal table acted moment update)
+  pub after : after_step table acted step ≡ acted_unless (update_refusal table acted moment update) line acted
+  pub clock_is : receiver_clock (line ∷ acted) ≡ receiver_clock acted
   pub station : station_after (line ∷ acted) ≡ station_after acted
   pub events_are : events (line ∷ acted) ≡ accepted moment update ∷ events acted
   pub frames_are : sent_frames table (line ∷ acted) ≡ sent_frames table acted
@@ -90,13 +92,14 @@ pub record IsUpdateStep (table : LifeTable) (acted : List Line) (step : Step) (m
   pub corrected_are : corrected_by table acted line ≡ 0
   pub entries_are : entries_by table acted line ≡ 0
 
-pub text-step : (table : LifeTable) (acted : List Line) (moment : ℕ) (chars : List ℕ)
+pub text-step : HistoriesGrow → (table : LifeTable) (acted : List Line) (moment : ℕ) (chars : List ℕ)
     → IsUpdateStep table acted (steps.Text moment chars) moment (text moment moment chars) (updates.text moment chars)
 unfolding after_step
-text-step table acted moment chars = record {
-  next = record { after = refl; moment_is = refl };
+text-step grow table acted moment chars = record {
+  after = refl;
+  clock_is = refl;
   station = refl;
-  events_are = refl;
+  events_are = (grow (record { station = station_after acted; event = accepted moment (updates.text moment chars) }) (broadcast acted)).own;
   frames_are = append-nil (sent_frames table acted);
   receptions_are = refl;
   updates_are = refl;
@@ -104,13 +107,14 @@ text-step table acted moment chars = record {
   entries_are = refl;
 }
 
-pub block-step : (table : LifeTable) (acted : List Line) (moment number : ℕ) (cells : List ℕ)
+pub block-step : HistoriesGrow → (table : LifeTable) (acted : List Line) (moment number : ℕ) (cells : List ℕ)
     → IsUpdateStep table acted (steps.Block moment number cells) moment (radar moment moment (block_named number) cells) (updates.block moment (block_named number) cells)
 unfolding after_step
-block-step table acted moment number cells = record {
-  next = record { after = refl; moment_is = refl };
+block-step grow table acted moment number cells = record {
+  after = refl;
+  clock_is = refl;
   station = refl;
-  events_are = refl;
+  events_are = (grow (record { station = station_after acted; event = accepted moment (updates.block moment (block_named number) cells) }) (broadcast acted)).own;
   frames_are = append-nil (sent_frames table acted);
   receptions_are = refl;
   updates_are = refl;
@@ -118,13 +122,14 @@ block-step table acted moment number cells = record {
   entries_are = refl;
 }
 
-pub blanks-step : (table : LifeTable) (acted : List Line) (moment : ℕ) (numbers : List ℕ)
+pub blanks-step : HistoriesGrow → (table : LifeTable) (acted : List Line) (moment : ℕ) (numbers : List ℕ)
     → IsUpdateStep table acted (steps.Blanks moment numbers) moment (blank moment moment 63 0 false numbers) (updates.blanks moment 63 0 false numbers)
 unfolding after_step
-blanks-step table acted moment numbers = record {
-  next = record { after = refl; moment_is = refl };
+blanks-step grow table acted moment numbers = record {
+  after = refl;
+  clock_is = refl;
   station = refl;
-  events_are = refl;
+  events_are = (grow (record { station = station_after acted; event = accepted moment (updates.blanks moment 63 0 false numbers) }) (broadcast acted)).own;
   frames_are = append-nil (sent_frames table acted);
   receptions_are = refl;
   updates_are = refl;
@@ -135,12 +140,12 @@ blanks-step table acted moment numbers = record {
 -- what was made with an update more
 update-made : {G E : Type 0} (sends : Sends G) (hears : Hears E) (table : LifeTable) (acted : List Line) (step : Step) (moment : ℕ) (line : Line) (update : Update) (old : Making G E) (ground : G)
     → IsUpdateStep table acted step moment line update → Makes sends hears table acted old → sends table (station_after acted) (accepted moment update ∷ events acted) ground
-    → Makes sends hears table (line ∷ acted) (with_update moment (record old { ground = ground }))
+    → Makes sends hears table (line ∷ acted) (with_update (record old { ground = ground }))
 update-made sends hears table acted step moment line update old ground is h s = record {
   ground = subst (λ place. sends table place (events (line ∷ acted)) ground) (sym is.station) (subst (λ past. sends table (station_after acted) past ground) (sym is.events_are) s);
   ear = subst (λ past. hears table past old.ear) (sym is.receptions_are) h.ear;
   late = h.late;
-  clock = ap (λ m. option_or m (latest acted)) (sym is.next.moment_is);
+  clock = h.clock ∙ sym is.clock_is;
   last = h.last ∙ ap (λ frames. aired_one (last_frame frames)) (sym is.frames_are);
   counts = same-counts _ _
       (ap (λ (c : Counts). c.updates + 1) h.counts ∙ ap (λ n. total updates_by table acted + n) (sym is.updates_are))
@@ -158,7 +163,7 @@ update-tried : {G E A B C : Type 0} (sends : Sends G) (hears : Hears E) (table :
     → IsUpdateStep table acted step moment line update → after_step table acted step ≡ acted_unless (update_refusal table acted moment update) line acted → Makes sends hears table acted old
     → HasGiven sends old.ground ground moment update given → HasAnswered given tried
     → HasTried (update_refusal table acted moment update) (λ done. sends table (station_after acted) (accepted moment update ∷ events acted) ground) tried
-    → IsCounted moment (record old { ground = ground }) new tried result
+    → IsCounted (record old { ground = ground }) new tried result
     → OnOk result (Makes sends hears table (after_step table acted step) new)
 update-tried sends hears table acted step moment line update old new ground given tried (Err fault) is after h g a t counted = tt
 update-tried sends hears table acted step moment line update old new ground (Ok done) (Ok b) (Ok u) is after h g a t counted =
@@ -175,14 +180,13 @@ update-tried sends hears table acted step moment line update old new ground (Err
 -- an update in time, which is counted where it is given
 pub update-taken : {G E A B C : Type 0} (sends : Sends G) (hears : Hears E) (table : LifeTable) (acted : List Line) (step : Step) (moment : ℕ) (line : Line) (update : Update) (old new : Making G E) (ground : G)
     (given : Result A GiveFault) (tried : Result B Stop) (result : Result (Unit {0}) C)
-    → IsUpdateStep table acted step moment line update → is_some (earlier_than (Some moment) old.clock) ≡ false
+    → IsUpdateStep table acted step moment line update
     → HasGiven sends old.ground ground moment update given → HasAnswered given tried
-    → IsCounted moment (record old { ground = ground }) new tried result
+    → IsCounted (record old { ground = ground }) new tried result
     → Makes sends hears table acted old
     → OnOk result (Makes sends hears table (after_step table acted step) new)
-update-taken sends hears table acted step moment line update old new ground given tried result is early g a counted h =
-    update-tried sends hears table acted step moment line update old new ground given tried result is
-    (timely-step sends hears table acted step moment line _ old is.next h early) h g a
+update-taken sends hears table acted step moment line update old new ground given tried result is g a counted h =
+    update-tried sends hears table acted step moment line update old new ground given tried result is is.after h g a
     (update-answered sends table (station_after acted) (events acted) old.ground ground moment update given tried
     (sends table (station_after acted) (accepted moment update ∷ events acted) ground) g a h.ground (λ s. s))
     counted

@@ -1,5 +1,5 @@
 -- One line more: what the parts of an actor leave.
-use Rattle.std.proofs.Common.{◌≡◌, ℕ, ◌||◌, not, Bool, true, false, if◌then◌else◌, List, ◌∷◌, Option, Some, None, option_map, Result, Ok, Err, refl, sym, ap, subst, ◌∙◌}
+use Rattle.std.proofs.Common.{◌≡◌, ℕ, Bool, true, false, if◌then◌else◌, List, ◌∷◌, Option, Some, None, option_map, Result, Ok, Err, refl, sym, ap, subst, ◌∙◌}
 use Rattle.std.specs.Option.{option_or, option_and_then}
 use Rattle.uplink_weave.specs.Functions.{payload_in, lost_block_in}
 use Rattle.life_table.specs.LifeTable.{LifeTable}
@@ -18,7 +18,7 @@ use Rattle.run_core.specs.Actor.{HasActed}
 use Rattle.run_core.specs.declared.stop.Stop.{Stop}
 use Rattle.run_core.specs.declared.stop.Stop.TheVariants.{Refused, NoMemory}
 use Rattle.fisb_app.specs.declared.in_order.InOrder.{InOrder}
-use Rattle.fisb_app.specs.Past.{lines_of, reception_by, line_moment, latest, has_begun, is_empty}
+use Rattle.fisb_app.specs.Past.{lines_of, reception_by, receiver_moment, receiver_clock}
 use Rattle.fisb_app.specs.Reading.{receiver_refusal, reason_of_update}
 use Rattle.fisb_app.specs.Output.{heard_by}
 use Rattle.fisb_app.specs.Work.{text_unless}
@@ -41,13 +41,12 @@ tells-acted S told own given NoMemory e is = tt
 -- a line that was acted on in its order is one more
 pub in-order-more : {P : Type 0} (holds : List ℕ → List Line → P → Type 0) (bytes : List ℕ) (past : List (List ℕ)) (raw : List ℕ) (line : Line)
     (old new : InOrder P) (made : P) → line_of raw ≡ Some line → IsInOrder holds bytes past old → holds bytes (line ∷ lines_of past) made
-    → new.inner ≡ made → new.clock ≡ option_or (line_moment line) old.clock → new.has_begun ≡ (old.has_begun || not (is_empty line))
+    → new.inner ≡ made → new.clock ≡ option_or (receiver_moment line) old.clock
     → IsInOrder holds bytes (raw ∷ past) new
-in-order-more holds bytes past raw line old new made is s h inner clocked begun =
+in-order-more holds bytes past raw line old new made is s h inner clocked =
     let more = lines-more raw past line is in record {
       parts = subst (λ acted. holds bytes acted new.inner) (sym more) (subst (λ p. holds bytes (line ∷ lines_of past) p) (sym inner) h);
-      clock = clocked ∙ ap (option_or (line_moment line)) s.clock ∙ ap latest (sym more);
-      begun = begun ∙ ap (λ b. b || not (is_empty line)) s.begun ∙ ap has_begun (sym more);
+      clock = clocked ∙ ap (option_or (receiver_moment line)) s.clock ∙ ap receiver_clock (sym more);
     }
 
 -- a frame that is not heard for its bytes is in time

@@ -1,33 +1,19 @@
 -- A frame more that was sent.
 use Rattle.std.proofs.Common.{◌≡◌, ℕ, ◌+◌, Bool, true, false, List, [], ◌∷◌, ◌++◌, length, map, refl, sym, ap, ◌∙◌, arith}
-use Rattle.std.proofs.lemmas.Bool.{or_parts, true≢false}
 use Rattle.std.proofs.lemmas.List.{length-map}
-use Rattle.uplink_frame.specs.declared.station.StationId.{StationId}
-use Rattle.uplink_frame.specs.Station.{same_station}
-use Rattle.uplink_frame.specs.Laws.{StationsAreTold}
 use Rattle.life_table.specs.LifeTable.{LifeTable}
-use Rattle.ground_core.specs.History.{Event}
 use Rattle.ground_core.specs.Airing.{Frame, frame_after, used_room}
-use Rattle.ground_core.specs.Broadcast.{history_of, frames}
 use Rattle.ground_core.specs.OnAir.{IsOnAir}
 use Rattle.ground_core.specs.declared.air_frame.AirFrame.{AirFrame}
-use Rattle.script_core.specs.Script.{Line, empty, turn}
+use Rattle.script_core.specs.Script.{Line, turn}
 use Rattle.script_core.specs.Printed.{sent_line}
-use Rattle.fisb_app.specs.Past.{events, station_after, sent_frames, has_begun}
+use Rattle.fisb_app.specs.Past.{events, station_after, sent_frames}
 use Rattle.fisb_app.specs.Output.{sent_frame}
 use Rattle.fisb_app.specs.Stands.{Aired, aired_view}
 
--- all events of a station are its history
-pub history-back : StationsAreTold → (place : StationId) (past : List Event) → history_of place (map (λ event. record { station = place; event = event }) past) ≡ past
-history-back told place [] = refl
-history-back told place (event ∷ past) =
-    let same : same_station place place ≡ true = (told place place).1 refl in
-    rw same (ap (λ rest. event ∷ rest) (history-back told place past))
-
-pub frames-more : StationsAreTold → (table : LifeTable) (acted : List Line) (moment slot : ℕ)
+pub frames-more : (table : LifeTable) (acted : List Line) (moment slot : ℕ)
     → sent_frames table (turn moment slot ∷ acted) ≡ sent_frames table acted ++ frame_after table (station_after acted) (events acted) moment slot ∷ []
-frames-more told table acted moment slot =
-    ap (λ past. sent_frames table acted ++ frame_after table (station_after acted) past moment slot ∷ []) (history-back told (station_after acted) (events acted))
+frames-more table acted moment slot = refl
 
 pub map-last : {A B : Type 0} (f : A → B) (xs : List A) (x : A) → map f (xs ++ x ∷ []) ≡ map f xs ++ f x ∷ []
 map-last f [] x = refl
@@ -42,15 +28,15 @@ aired-alike sent frame is =
     ap (λ m. record { moment = m; air = frame.air }) is.moment ∙ ap (λ a. record { moment = sent.moment; air = a }) is.air
 
 -- one frame more is kept
-pub kept-more : StationsAreTold → (table : LifeTable) (acted : List Line) (moment slot : ℕ) (kept : List Aired) (frame : AirFrame)
+pub kept-more : (table : LifeTable) (acted : List Line) (moment slot : ℕ) (kept : List Aired) (frame : AirFrame)
     → kept ≡ map aired_view (sent_frames table acted) → IsOnAir (frame_after table (station_after acted) (events acted) moment slot) frame
     → kept ++ record { moment = frame.moment; air = frame.air } ∷ [] ≡ map aired_view (sent_frames table (turn moment slot ∷ acted))
-kept-more told table acted moment slot kept frame is on =
+kept-more table acted moment slot kept frame is on =
     let sent = frame_after table (station_after acted) (events acted) moment slot in
     ap (λ list. list ++ record { moment = frame.moment; air = frame.air } ∷ []) is
     ∙ ap (λ one. map aired_view (sent_frames table acted) ++ one ∷ []) (aired-alike sent frame on)
     ∙ sym (map-last aired_view (sent_frames table acted) sent)
-    ∙ ap (map aired_view) (sym (frames-more told table acted moment slot))
+    ∙ ap (map aired_view) (sym (frames-more table acted moment slot))
 
 -- what is written of a frame is what the definitions say of it
 pub line-alike : (index : ℕ) (with_air : Bool) (sent : Frame) (frame : AirFrame) → IsOnAir sent frame
@@ -65,17 +51,3 @@ line-alike index with_air sent frame is =
 -- as many were kept as were sent
 pub count-alike : {A B C : Type 0} (f : A → C) (g : B → C) (xs : List A) (ys : List B) → map f xs ≡ map g ys → length xs ≡ length ys
 count-alike f g xs ys e = sym (length-map xs f) ∙ ap length e ∙ length-map ys g
-
--- before a line that is not empty there is no event
-pub unbegun-events : (acted : List Line) → has_begun acted ≡ false → events acted ≡ []
-unbegun-events [] e = refl
-unbegun-events (empty ∷ past) e = unbegun-events past ((or_parts (has_begun past) _ e).0)
-unbegun-events (line ∷ past) e = absurd (true≢false (or_parts (has_begun past) true e).1)
-
--- before it no frame was sent, whatever station is named
-pub unbegun-frames : (table : LifeTable) (acted : List Line) (line : Line) → has_begun acted ≡ false → events (line ∷ acted) ≡ events acted
-    → sent_frames table (line ∷ acted) ≡ sent_frames table acted
-unbegun-frames table acted line e same =
-    let none = unbegun-events acted e in
-    ap (λ list. frames table (map (λ event. record { station = station_after (line ∷ acted); event = event }) list)) (same ∙ none)
-    ∙ sym (ap (λ list. frames table (map (λ event. record { station = station_after acted; event = event }) list)) none)

@@ -9,7 +9,8 @@ use Rattle.run_core.specs.declared.stop.Stop.{Stop}
 use Rattle.run_core.specs.declared.stop.Stop.TheVariants.{Refused, NoMemory}
 use Rattle.fisb_app.specs.declared.making.Making.{Making}
 use Rattle.fisb_app.specs.declared.sent.SentFrame.{SentFrame}
-use Rattle.fisb_app.specs.Past.{station_after, events, sent_frames, receptions, latest, air_of}
+use Rattle.fisb_app.specs.Past.{station_after, events, sent_frames, receptions, air_of}
+use Rattle.fisb_app.specs.Past.{receiver_clock}
 use Rattle.fisb_app.specs.Reading.{frame_refusal}
 use Rattle.fisb_app.specs.Stands.{Sends, Hears, Aired, sent_view, aired_view}
 use Rattle.fisb_app.specs.Make.{after_step, counts_of, last_frame}
@@ -20,14 +21,14 @@ sent_one last = option_map sent_view last
 abbrev pub aired_one : Option Frame → Option Aired
 aired_one sent = option_map aired_view sent
 
--- the ground, the receiver, the frame that was sent last, the clock and the counts are those of the
--- lines acted on
+-- the ground, the receiver, the frame that was sent last, the receiver's clock and the counts are
+-- those of the lines acted on
 pub record Makes {G E : Type 0} (sends : Sends G) (hears : Hears E) (table : LifeTable)
     (acted : List Line) (making : Making G E) : Type 0 where
   pub ground : sends table (station_after acted) (events acted) making.ground
   pub ear : hears table (receptions table acted) making.ear
   pub late : making.late ≡ table.late
-  pub clock : making.clock ≡ latest acted
+  pub clock : making.clock ≡ receiver_clock acted
   pub last : sent_one making.last ≡ aired_one (last_frame (sent_frames table acted))
   pub counts : making.counts ≡ counts_of table acted
 
@@ -39,18 +40,15 @@ HasTaken sends hears old new step result = (table : LifeTable) (acted : List Lin
     → OnOk result (Makes sends hears table (after_step table acted step) new)
 
 -- what was made with an update more
-abbrev pub with_update : {G E : Type 0} → ℕ → Making G E → Making G E
-with_update moment old = record old {
-  clock = Some moment;
-  counts = record old.counts { updates = old.counts.updates + 1 };
-}
+abbrev pub with_update : {G E : Type 0} → Making G E → Making G E
+with_update old = record old { counts = record old.counts { updates = old.counts.updates + 1 } }
 
 -- an update that was given was counted, and one that was refused was not
-abbrev pub IsCounted : {G E A B F : Type 0} → ℕ → Making G E → Making G E → Result A Stop
+abbrev pub IsCounted : {G E A B F : Type 0} → Making G E → Making G E → Result A Stop
     → Result B F → Type 0
-IsCounted moment old new (Ok given) result = OnOk result (new ≡ with_update moment old)
-IsCounted moment old new (Err (Refused why)) result = OnOk result (new ≡ old)
-IsCounted moment old new (Err NoMemory) result = OnOk result ⊥
+IsCounted old new (Ok given) result = OnOk result (new ≡ with_update old)
+IsCounted old new (Err (Refused why)) result = OnOk result (new ≡ old)
+IsCounted old new (Err NoMemory) result = OnOk result ⊥
 
 -- the bytes on the air of a frame that was sent, unless a reason stands against hearing it
 abbrev pub IsInAir : ℕ → ℕ → Option Frame → Option (List ℕ) → Type 0

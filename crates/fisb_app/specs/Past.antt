@@ -1,28 +1,28 @@
--- What the lines acted on have made: the station's history, what was heard of its frames, and what
--- was received. The newest line stands first.
-use Rattle.std.specs.Prelude.{ℕ, ◌==◌, Bool, true, false, not, ◌||◌, if◌then◌else◌, List, [], ◌∷◌}
-use Rattle.std.specs.Prelude.{map, Option, Some, None, slice_get, slice_index}
-use Rattle.std.specs.List.{cons_option, filter_map, range_with_len}
+-- What the lines acted on have made: a broadcast, what was heard of its frames, and what was
+-- received. The newest line stands first.
+use Rattle.std.specs.Prelude.{ℕ, ◌==◌, Bool, if◌then◌else◌, List, [], ◌∷◌, map, Option, Some, None}
+use Rattle.std.specs.Prelude.{option_map, slice_get, slice_index}
+use Rattle.std.specs.List.{cons_option, filter_map, list_any, range_with_len}
 use Rattle.std.specs.Option.{option_or}
 use Rattle.uplink_weave.specs.Functions.{woven, payload_in}
 use Rattle.uplink_frame.specs.declared.station.StationId.{StationId}
-use Rattle.uplink_frame.specs.Station.{no_station}
+use Rattle.uplink_frame.specs.Station.{no_station, same_station}
 use Rattle.life_table.specs.LifeTable.{LifeTable}
 use Rattle.ground_core.specs.Update as updates
 use Rattle.ground_core.specs.History.{Event, accepted, fill}
 use Rattle.ground_core.specs.Airing.{Frame, frame_payload}
-use Rattle.ground_core.specs.Broadcast.{StationEvent, frames}
+use Rattle.ground_core.specs.Broadcast.{StationEvent, history_of, frames}
 use Rattle.receiver_core.specs.Reception.{Reception}
 use Rattle.receiver_core.specs.Hearing.{HearRefusal, refusal_of_air}
 use Rattle.fisb_link.specs.LinkPicture.{Hearing}
-use Rattle.script_core.specs.Script.{Line, empty, station, text, radar, blank, turn, hear, rx, show}
+use Rattle.script_core.specs.Script.{Line, station, text, radar, blank, turn, hear, rx, show}
 use Rattle.script_core.specs.Fields.{line_of}
 
 -- the lines that some bytes are; each of those acted on is of its form
 abbrev pub lines_of : List (List ℕ) → List Line
 lines_of past = filter_map line_of past
 
--- the station that the lines name
+-- the station that the lines named last
 abbrev pub station_named : Line → StationId → StationId
 station_named (station named) before = named
 station_named line before = before
@@ -31,7 +31,19 @@ abbrev pub station_after : List Line → StationId
 station_after [] = no_station
 station_after (line ∷ past) = station_named line (station_after past)
 
--- its history: what it was given, and the frames that it filled
+-- the stations that have a ground: the unnamed one, and each that was named
+abbrev pub is_among : StationId → List StationId → Bool
+is_among place those = list_any (same_station place) those
+
+abbrev pub with_station : Line → List StationId → List StationId
+with_station (station named) before = if is_among named before then before else named ∷ before
+with_station line before = before
+
+abbrev pub stations : List Line → List StationId
+stations [] = no_station ∷ []
+stations (line ∷ past) = with_station line (stations past)
+
+-- what a station was given, and the frames that it filled
 abbrev pub event_of : Line → Option Event
 event_of (text moment version chars) = Some (accepted moment (updates.text version chars))
 event_of (radar moment version key cells) = Some (accepted moment (updates.block version key cells))
@@ -40,12 +52,18 @@ event_of (blank moment version product scale south numbers) =
 event_of (turn moment slot) = Some (fill moment slot)
 event_of line = None
 
-abbrev pub events : List Line → List Event
-events acted = filter_map event_of acted
+-- each line's event is one of the station that was named last before it
+abbrev pub at_station : StationId → Event → StationEvent
+at_station place event = record { station = place; event = event }
 
 abbrev pub broadcast : List Line → List StationEvent
-broadcast acted =
-    map (λ event. record { station = station_after acted; event = event }) (events acted)
+broadcast [] = []
+broadcast (line ∷ past) =
+    cons_option (option_map (at_station (station_after past)) (event_of line)) (broadcast past)
+
+-- the history of the station that was named last
+abbrev pub events : List Line → List Event
+events acted = history_of (station_after acted) (broadcast acted)
 
 -- the frames that were sent, and a frame as it is on the air
 abbrev pub sent_frames : LifeTable → List Line → List Frame
@@ -100,26 +118,13 @@ receptions table [] = []
 receptions table (line ∷ past) =
     receptions_after (sent_frames table past) (receptions table past) line
 
--- the moment of a line, and that of the last line with one; moments never fall
-abbrev pub line_moment : Line → Option ℕ
-line_moment (text moment version chars) = Some moment
-line_moment (radar moment version key cells) = Some moment
-line_moment (blank moment version product scale south numbers) = Some moment
-line_moment (turn moment slot) = Some moment
-line_moment (hear moment frame wrong) = Some moment
-line_moment (rx moment air) = Some moment
-line_moment (show moment) = Some moment
-line_moment line = None
+-- the moment of a line that concerns the receiver, and that of the last such line
+abbrev pub receiver_moment : Line → Option ℕ
+receiver_moment (hear moment frame wrong) = Some moment
+receiver_moment (rx moment air) = Some moment
+receiver_moment (show moment) = Some moment
+receiver_moment line = None
 
-abbrev pub latest : List Line → Option ℕ
-latest [] = None
-latest (line ∷ past) = option_or (line_moment line) (latest past)
-
--- a script has begun with its first line that is not empty
-abbrev pub is_empty : Line → Bool
-is_empty empty = true
-is_empty line = false
-
-abbrev pub has_begun : List Line → Bool
-has_begun [] = false
-has_begun (line ∷ past) = has_begun past || not (is_empty line)
+abbrev pub receiver_clock : List Line → Option ℕ
+receiver_clock [] = None
+receiver_clock (line ∷ past) = option_or (receiver_moment line) (receiver_clock past)

@@ -1,10 +1,11 @@
 -- The first reason that stands against a line after the lines acted on, the newest first.
-use Rattle.std.specs.Prelude.{◌≡◌, ℕ, ◌+◌, Bool, true, false, ◌&&◌, nat_lt, if◌then◌else◌, List}
+use Rattle.std.specs.Prelude.{ℕ, ◌+◌, Bool, true, false, ◌||◌, nat_lt, nat_le, if◌then◌else◌, List}
 use Rattle.std.specs.Prelude.{length, Option, Some, None, option_map, slice_get}
 use Rattle.std.specs.Option.{option_or}
 use Rattle.dlac_text.specs.Refusal.{TextRefusal, bad_character, too_long}
 use Rattle.life_table.specs.LifeTable.{LifeTable}
 use Rattle.text_reports.specs.TextKey.{KeyFault, few_words, unlisted}
+use Rattle.uplink_frame.specs.declared.station.StationId.{StationId}
 use Rattle.ground_core.specs.Update as updates
 use Rattle.ground_core.specs.History.{items}
 use Rattle.ground_core.specs.Airing.{Frame}
@@ -17,14 +18,14 @@ use Rattle.receiver_core.specs.Hearing as heard
 use Rattle.script_core.specs.Script.{Line, empty, station, text, radar, blank, turn, hear, rx, show}
 use Rattle.refusal_core.specs.declared.reason.Reason.{Reason}
 use Rattle.refusal_core.specs.declared.reason.Reason.TheVariants.{NotHere, Station, Clock, NoFrame}
-use Rattle.refusal_core.specs.declared.reason.Reason.TheVariants.{Late, Frames, BadCharacter}
+use Rattle.refusal_core.specs.declared.reason.Reason.TheVariants.{Early, Late, Frames, BadCharacter}
 use Rattle.refusal_core.specs.declared.reason.Reason.TheVariants.{TextLong, FewWords, Unlisted, BadBlock}
 use Rattle.refusal_core.specs.declared.reason.Reason.TheVariants.{Coarse, Ahead, Expired, NotNewer}
 use Rattle.refusal_core.specs.declared.reason.Reason.TheVariants.{NoFile}
 use Rattle.fisb_app.specs.declared.party.Party.{Party}
 use Rattle.fisb_app.specs.declared.party.Party.TheVariants.{Link, Ground, Receive, Gdl}
-use Rattle.fisb_app.specs.Past.{events, station_after, sent_frames, receptions, line_moment, latest}
-use Rattle.fisb_app.specs.Past.{has_begun}
+use Rattle.fisb_app.specs.Past.{events, is_among, receiver_clock, receiver_moment, receptions}
+use Rattle.fisb_app.specs.Past.{sent_frames, station_after, stations}
 
 -- the most frames of a run
 abbrev pub frame_limit : ℕ
@@ -56,15 +57,7 @@ is_update (radar moment version key cells) = true
 is_update (blank moment version product scale south numbers) = true
 is_update line = false
 
--- a station is named before any other line is acted on, the empty ones left out
-abbrev pub is_station : Line → Bool
-is_station (station named) = true
-is_station line = false
-
-abbrev pub station_refusal : Bool → Line → Option Reason
-station_refusal begun line = if is_station line && begun then Some Station else None
-
--- moments never fall
+-- Moments of the receiver never fall, and those of one station do not; each has a clock of its own.
 abbrev pub earlier_than : Option ℕ → Option ℕ → Option ℕ
 earlier_than None last = None
 earlier_than (Some moment) None = None
@@ -73,11 +66,18 @@ earlier_than (Some moment) (Some last) = if nat_lt moment last then Some last el
 abbrev pub clock_refusal : Option ℕ → Option ℕ → Option Reason
 clock_refusal own last = option_map Clock (earlier_than own last)
 
--- the reasons that do not look at the content of a line
-abbrev pub front_refusal : Party → Bool → Option ℕ → Line → Option Reason
-front_refusal party begun last line =
-    option_or (party_refusal party line)
-    (option_or (station_refusal begun line) (clock_refusal (line_moment line) last))
+-- the reasons that look at no content of a line, nor at what a station was given
+abbrev pub front_refusal : Party → Option ℕ → Line → Option Reason
+front_refusal party last line =
+    option_or (party_refusal party line) (clock_refusal (receiver_moment line) last)
+
+-- the most stations that are named, beside the unnamed one
+abbrev pub station_limit : ℕ
+station_limit = 16
+
+abbrev pub station_refusal : List StationId → StationId → Option Reason
+station_refusal before named = if is_among named before || nat_le (length before) station_limit
+    then None else Some Station
 
 -- the reason of a refused update
 abbrev pub reason_of_text : TextRefusal → Reason
@@ -98,24 +98,28 @@ reason_of_update expired = Expired
 reason_of_update (not_newer kept) = NotNewer kept
 reason_of_update no_file = NoFile
 
--- a ground takes nothing before its last event, and a receiver nothing before its last reception;
--- the clock of the script keeps both
+-- a station's ground takes nothing before its last event
+abbrev pub station_clock_refusal : List Line → ℕ → Option Reason
+station_clock_refusal acted moment =
+    option_map Clock (last_above (history_clock (events acted)) moment)
+
 abbrev pub update_refusal : LifeTable → List Line → ℕ → updates.Update → Option Reason
 update_refusal table acted moment update =
-    option_or (option_map Clock (last_above (history_clock (events acted)) moment))
+    option_or (station_clock_refusal acted moment)
     (option_map reason_of_update
     (give_refusal table (items table (station_after acted) (events acted)) moment update))
 
 abbrev pub turn_refusal : ℕ → List Line → ℕ → Option Reason
-turn_refusal count acted moment = if nat_lt count frame_limit
-    then option_map Clock (last_above (history_clock (events acted)) moment) else Some Frames
+turn_refusal count acted moment = option_or (station_clock_refusal acted moment)
+    (if nat_lt count frame_limit then None else Some Frames)
 
--- a frame is heard once it was sent, and not too late
+-- a frame is heard not before it was sent, and not too late
 abbrev pub frame_refusal : ℕ → ℕ → Option Frame → Option Reason
 frame_refusal allowed moment None = Some NoFrame
-frame_refusal allowed moment (Some frame) = if nat_lt (frame.moment + allowed) moment then Some Late
-    else None
+frame_refusal allowed moment (Some frame) = if nat_lt moment frame.moment then Some Early
+    else (if nat_lt (frame.moment + allowed) moment then Some Late else None)
 
+-- a receiver takes nothing before its last reception; its clock in the script keeps this
 abbrev pub receiver_refusal : List Reception → ℕ → Option Reason
 receiver_refusal past moment = option_map Clock (last_above (heard.clock_of past) moment)
 
@@ -126,6 +130,7 @@ reception_refusal party past moment = receiver_refusal past moment
 
 -- what stands against the content of a line
 abbrev pub own_refusal : Party → LifeTable → List Line → Line → Option Reason
+own_refusal party table acted (station named) = station_refusal (stations acted) named
 own_refusal party table acted (text moment version chars) =
     update_refusal table acted moment (updates.text version chars)
 own_refusal party table acted (radar moment version key cells) =
@@ -145,9 +150,4 @@ own_refusal party table acted line = None
 -- the first reason against a line of its form
 abbrev pub refusal_of : Party → LifeTable → List Line → Line → Option Reason
 refusal_of party table acted line =
-    option_or (front_refusal party (has_begun acted) (latest acted) line)
-    (own_refusal party table acted line)
-
--- a station is named only before any other line
-pub record CanCome (acted : List Line) (line : Line) : Type 0 where
-  pub first : is_station line ≡ true → has_begun acted ≡ false
+    option_or (front_refusal party (receiver_clock acted) line) (own_refusal party table acted line)

@@ -1,8 +1,11 @@
 -- What an actor keeps, against the lines acted on, and what it answers to a line.
-use Rattle.std.specs.Prelude.{◌≡◌, ℕ, List, ◌∷◌, length, map, Option, Some, None, Result, Ok, Err}
-use Rattle.std.specs.Prelude.{OnOk, OnErr, IfErr, option_map}
+use Rattle.std.specs.Prelude.{◌≡◌, ℕ, ◌+◌, true, false, if◌then◌else◌, List, [], ◌∷◌, length, map}
+use Rattle.std.specs.Prelude.{Option, Some, None, Result, Ok, Err, OnOk, OnErr, IfErr, option_map}
 use Rattle.std.specs.Option.{option_or}
+use Rattle.std.specs.BTreeMap.{BTreeMap, get}
 use Rattle.uplink_frame.specs.declared.station.StationId.{StationId}
+use Rattle.uplink_frame.specs.contracts.station.StationIdOrd.TheImpl as station_order
+use Rattle.uplink_frame.specs.Station.{same_station}
 use Rattle.life_table.specs.LifeTable.{LifeTable}
 use Rattle.ground_core.specs.Update.{Update}
 use Rattle.ground_core.specs.History.{Event, accepted, items}
@@ -12,8 +15,9 @@ use Rattle.ground_core.specs.OnAir.{history_clock}
 use Rattle.ground_core.specs.declared.fault.GiveFault.{GiveFault}
 use Rattle.segment_core.specs.Store.{last_above}
 use Rattle.ground_core.specs.Airing.{Frame}
+use Rattle.ground_core.specs.Broadcast.{history_of}
 use Rattle.receiver_core.specs.Reception.{Reception}
-use Rattle.script_core.specs.Script.{Line}
+use Rattle.script_core.specs.Script.{Line, station}
 use Rattle.refusal_core.specs.declared.reason.Reason.{Reason}
 use Rattle.refusal_core.specs.declared.reason.Reason.TheVariants.{Clock}
 use Rattle.run_core.specs.declared.stop.Stop.{Stop}
@@ -25,9 +29,8 @@ use Rattle.fisb_app.specs.declared.ground_alone.GroundAlone.{GroundAlone}
 use Rattle.fisb_app.specs.declared.receiver_alone.ReceiverAlone.{ReceiverAlone}
 use Rattle.fisb_app.specs.declared.relay.Relay.{Relay}
 use Rattle.fisb_app.specs.declared.sent.SentFrame.{SentFrame}
-use Rattle.fisb_app.specs.Past.{lines_of, station_after, events, sent_frames, air_of}
-use Rattle.fisb_app.specs.Past.{reception_from}
-use Rattle.fisb_app.specs.Past.{receptions, latest, has_begun}
+use Rattle.fisb_app.specs.Past.{lines_of, station_after, is_among, stations, broadcast, events}
+use Rattle.fisb_app.specs.Past.{sent_frames, air_of, reception_from, receptions, receiver_clock}
 use Rattle.fisb_app.specs.Reading.{frame_refusal, receiver_refusal, reason_of_update}
 use Rattle.fisb_app.specs.Output.{heard_text}
 use Rattle.fisb_app.specs.Work.{opening_table, opened_with}
@@ -59,11 +62,38 @@ pub record HasGiven {G A : Type 0} (sends : Sends G) (old new : G) (moment : ℕ
       → sends table station history old
       → OnErr result (sends table station history new)
 
--- the table was read of these bytes, and the ground stands for what the lines gave it
+-- the ground of a station in a map of them
+abbrev pub ground_at : {G : Type 0} → BTreeMap StationId G → StationId → Option G
+ground_at grounds place = get station_order.ghosts.cmp grounds place
+
+-- a ground stands for the history of its station; a station without one was given nothing
+abbrev pub IsGroundOf : {G : Type 0} → Sends G → LifeTable → List Line → StationId → Option G
+    → Type 0
+IsGroundOf sends table acted place None =
+    (is_among place (stations acted) ≡ false) × (history_of place (broadcast acted) ≡ [])
+IsGroundOf sends table acted place (Some ground) = (is_among place (stations acted) ≡ true)
+    × sends table place (history_of place (broadcast acted)) ground
+
+-- The table was read of these bytes. The ground stands for what the lines gave to the station that
+-- was named last, and each other one for what they gave to its station; as many are kept as there
+-- are stations.
 pub record Holds {G : Type 0} (sends : Sends G) (bytes : List ℕ) (acted : List Line)
     (s : Sending G) : Type 0 where
   pub opened : opening_table bytes ≡ Ok s.table
+  pub station_is : s.station ≡ station_after acted
   pub ground : sends s.table (station_after acted) (events acted) s.ground
+  pub apart : ground_at s.others (station_after acted) ≡ None
+  pub others : (place : StationId) → same_station (station_after acted) place ≡ false
+      → IsGroundOf sends s.table acted place (ground_at s.others place)
+  pub count : length s.others.entries + 1 ≡ length (stations acted)
+
+-- the ground of a station that is named was taken out of the others, or it is its first one
+pub record IsTakenFor {G : Type 0} (sends : Sends G) (acted : List Line) (named : StationId)
+    (old new : Sending G) (ground : G) : Type 0 where
+  pub stands : sends old.table named (history_of named (broadcast acted)) ground
+  pub rest : (place : StationId) → ground_at new.others place
+      ≡ (if same_station named place then None else ground_at old.others place)
+  pub count : length new.others.entries + 2 ≡ length (stations (station named ∷ acted))
 
 -- a frame by its moment and its bytes on the air
 pub record Aired : Type 0 where
@@ -99,12 +129,11 @@ pub record EarHolds {E : Type 0} (hears : Hears E) (bytes : List ℕ) (acted : L
 pub record RelayHolds (bytes : List ℕ) (acted : List Line) (relay : Relay) : Type 0 where
   pub opened : opening_table bytes ≡ Ok relay.table
 
--- a command acted on these lines in their order: its clock and its beginning, too, are theirs
+-- a command acted on these lines in their order: the clock of its receiver, too, is theirs
 pub record IsInOrder {P : Type 0} (holds : List ℕ → List Line → P → Type 0) (bytes : List ℕ)
     (past : List (List ℕ)) (s : InOrder P) : Type 0 where
   pub parts : holds bytes (lines_of past) s.inner
-  pub clock : s.clock ≡ latest (lines_of past)
-  pub begun : s.has_begun ≡ has_begun (lines_of past)
+  pub clock : s.clock ≡ receiver_clock (lines_of past)
 
 -- a stop tells the reason; memory that is not found may stand in its place
 abbrev pub TellsRefusal : Option Reason → Stop → Type 0

@@ -5,7 +5,7 @@ ghost use Rattle.script_core.specs.LineView.{line_view, HasRanges};
 ghost use Rattle.script_core.specs.Script.{Line as ScriptLine, station, turn};
 ghost use Rattle.fisb_app.specs.Output.{given_text, heard_picture};
 ghost use Rattle.fisb_app.specs.declared.party.Party.TheVariants.{Ground as TheGround};
-ghost use Rattle.fisb_app.specs.Reading.{CanCome, is_update, own_refusal};
+ghost use Rattle.fisb_app.specs.Reading.{is_update, own_refusal};
 ghost use Rattle.fisb_app.specs.Stands.{AloneHolds, HasTried};
 
 use crate::in_order::{LineActor, no_text};
@@ -17,7 +17,7 @@ use fisb_wire::Bytes;
 use run_core::Stop;
 use script_core::{Line, Reason, print_sent};
 use std::alloc::{AllocError, Global};
-use uplink_frame::{StationId, stations_are_told};
+use uplink_frame::StationId;
 
 /// What the lines acted on have made.
 #[derive(Drop)]
@@ -56,11 +56,11 @@ impl<G: Sender> LineActor for GroundAlone<G> {
 }
 
 impl<G: Sender> GroundAlone<G> {
-    /// Names the station.
+    /// Names the station that the following lines concern.
     fn name_station(&mut self, alloc: Global, named: StationId) -> Result<Bytes, Stop>
         requires { FitsStation named }
         ensures { (bytes : List ℕ) (acted : List ScriptLine)
-            → CanCome acted (station named) → AloneHolds G.stands bytes acted self.old
+            → AloneHolds G.stands bytes acted self.old
             → HasTried (own_refusal Party.Ground self.old.sending.table acted (station named))
             (λ given. (given ≡ given_text Party.Ground heard_picture self.old.sending.table acted
             (station named))
@@ -68,7 +68,7 @@ impl<G: Sender> GroundAlone<G> {
     {
         match self.sending.name_station(alloc, named) {
             Ok(()) => Ok(no_text(alloc)),
-            Err(AllocError) => Err(Stop::NoMemory),
+            Err(stop) => Err(stop),
         }
     }
 
@@ -93,13 +93,12 @@ impl<G: Sender> GroundAlone<G> {
     fn turn(&mut self, alloc: Global, moment: Moment, slot: u8) -> Result<Bytes, Stop>
         requires { slot < 32 }
         ensures { (bytes : List ℕ) (acted : List ScriptLine)
-            → CanCome acted (turn moment slot) → AloneHolds G.stands bytes acted self.old
+            → AloneHolds G.stands bytes acted self.old
             → HasTried (own_refusal Party.Ground self.old.sending.table acted (turn moment slot))
             (λ given. (given ≡ given_text Party.Ground heard_picture self.old.sending.table acted
             (turn moment slot))
             × AloneHolds G.stands bytes (turn moment slot ∷ acted) self.new) result }
     {
-        stations_are_told();
         let index = self.sent;
         let frame = match self.sending.turn(index, moment, slot) {
             Ok(frame) => frame,

@@ -1,5 +1,5 @@
 //! What the commands have in common: lines are acted on in their order.
-ghost use Rattle.std.specs.Prelude.{◌≡◌, ℕ, ◌||◌, ◌∷◌, List, [], Option, None, Some, Ok, Result, IfOk, not};
+ghost use Rattle.std.specs.Prelude.{◌≡◌, ℕ, ◌∷◌, List, [], Option, None, Some, Ok, Result, IfOk};
 ghost use Rattle.std.specs.Option.{option_or};
 ghost use Rattle.life_table.specs.LifeTable.{LifeTable as Table};
 ghost use Rattle.run_core.specs.Actor.{HasOpened};
@@ -7,12 +7,12 @@ ghost use Rattle.script_core.specs.LineView.{line_view, HasRanges};
 ghost use Rattle.script_core.specs.Script.{Line as ScriptLine};
 ghost use Rattle.fisb_app.specs.Output.{given_text, heard_picture};
 ghost use Rattle.fisb_app.specs.declared.party.Party.{Party as AnyParty};
-ghost use Rattle.fisb_app.specs.Past.{is_empty, line_moment};
-ghost use Rattle.fisb_app.specs.Reading.{CanCome, earlier_than, front_refusal, own_refusal, party_refusal};
+ghost use Rattle.fisb_app.specs.Past.{receiver_moment};
+ghost use Rattle.fisb_app.specs.Reading.{earlier_than, front_refusal, own_refusal, party_refusal};
 ghost use Rattle.fisb_app.specs.Stands.{HasTried, IsInOrder};
 ghost use Rattle.fisb_app.specs.Work.{opened_with, opening_table, refusal_written, work_of};
 
-use crate::line_kinds::{is_empty, is_station, line_moment, takes};
+use crate::line_kinds::{receiver_moment, takes};
 use crate::party::Party;
 use fisb_time::Moment;
 use fisb_wire::Bytes;
@@ -45,7 +45,6 @@ pub(crate) trait LineActor: Drop {
     fn act_on(&mut self, alloc: Global, line: &Line) -> Result<Bytes, Stop>
         requires { HasRanges 32768 (line_view line.now) }
         ensures { (bytes : List ℕ) (acted : List ScriptLine)
-            → CanCome acted (line_view line.now)
             → party_refusal PARTY (line_view line.now) ≡ None
             → holds bytes acted self.old
             → HasTried (own_refusal PARTY (table self.old) acted (line_view line.now))
@@ -58,10 +57,8 @@ pub(crate) trait LineActor: Drop {
 #[derive(Drop)]
 pub(crate) struct InOrder<P: LineActor> {
     pub(crate) inner: P,
-    /// The last moment of a line.
+    /// The last moment of a line that concerns the receiver. Each ground has a clock of its own.
     pub(crate) clock: Option<Moment>,
-    /// Whether a line other than an empty one was acted on.
-    pub(crate) has_begun: bool,
 }
 
 impl<P: LineActor> Actor for InOrder<P> {
@@ -74,7 +71,6 @@ impl<P: LineActor> Actor for InOrder<P> {
         Ok(InOrder {
             inner,
             clock: None,
-            has_begun: false,
         })
     }
 
@@ -102,35 +98,28 @@ impl<P: LineActor> Actor for InOrder<P> {
 }
 
 impl<P: LineActor> InOrder<P> {
-    /// The first reason against a line that does not look at its content.
+    /// The first reason against a line that looks neither at its content nor at its station.
     fn front_refusal(&self, line: &Line) -> Option<Reason>
-        ensures { result ≡ front_refusal P.PARTY self.now.has_begun self.now.clock
-            (line_view line.now) }
+        ensures { result ≡ front_refusal P.PARTY self.now.clock (line_view line.now) }
     {
         if !takes(P::PARTY, line) {
             return Some(Reason::NotHere);
         }
-        if is_station(line) && self.has_begun {
-            return Some(Reason::Station);
-        }
-        match earlier_than(line_moment(line), self.clock) {
+        match earlier_than(receiver_moment(line), self.clock) {
             Some(kept) => Some(Reason::Clock { kept }),
             None => None,
         }
     }
 
-    /// Sets the clock, and that a line was acted on.
+    /// Sets the clock of the receiver, once a line was acted on.
     fn advance(&mut self, line: &Line)
         ensures clock { self.new.clock
-            ≡ option_or (line_moment (line_view line.now)) self.old.clock }
-        ensures begun { self.new.has_begun
-            ≡ (self.old.has_begun || not (is_empty (line_view line.now))) }
+            ≡ option_or (receiver_moment (line_view line.now)) self.old.clock }
         ensures inner { self.new.inner ≡ self.old.inner }
     {
-        if let Some(moment) = line_moment(line) {
+        if let Some(moment) = receiver_moment(line) {
             self.clock = Some(moment);
         }
-        self.has_begun = self.has_begun || !is_empty(line);
     }
 }
 

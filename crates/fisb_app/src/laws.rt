@@ -8,7 +8,6 @@ use fisb_link::{hearings_stay, pictures_agree};
 use ground_core::frames_read_back;
 use life_table::tables_keep_rules;
 use script_core::ranges_of_lines;
-use uplink_frame::stations_are_told;
 use uplink_weave::near_frame_gives_payload;
 
 /// What a link promises is what it does: whatever bytes it reads, the pictures by the bytes that
@@ -19,7 +18,6 @@ pub fn promises_are_kept()
 {
     tables_keep_rules();
     ranges_of_lines();
-    stations_are_told();
     near_frame_gives_payload();
     frames_read_back();
     hearings_stay();
@@ -35,7 +33,6 @@ pub fn origins_are_told()
 {
     tables_keep_rules();
     ranges_of_lines();
-    stations_are_told();
     near_frame_gives_payload();
     frames_read_back();
     hearings_stay();

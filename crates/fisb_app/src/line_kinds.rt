@@ -1,8 +1,8 @@
 //! Of which kind a line is.
 ghost use Rattle.std.specs.Prelude.{◌≡◌};
 ghost use Rattle.script_core.specs.LineView.{line_view};
-ghost use Rattle.fisb_app.specs.Past.{is_empty, line_moment};
-ghost use Rattle.fisb_app.specs.Reading.{is_station, is_taken};
+ghost use Rattle.fisb_app.specs.Past.{receiver_moment};
+ghost use Rattle.fisb_app.specs.Reading.{is_taken};
 
 use crate::party::Party;
 use fisb_time::Moment;
@@ -23,30 +23,16 @@ pub(crate) fn takes(party: Party, line: &Line) -> bool
     }
 }
 
-pub(crate) fn is_station(line: &Line) -> bool
-    ensures { result ≡ is_station (line_view line.now) }
-{
-    matches!(line, Line::Station(_))
-}
-
-pub(crate) fn is_empty(line: &Line) -> bool
-    ensures { result ≡ is_empty (line_view line.now) }
-{
-    matches!(line, Line::Nothing)
-}
-
-/// The moment of a line.
-pub(crate) fn line_moment(line: &Line) -> Option<Moment>
-    ensures { result ≡ line_moment (line_view line.now) }
+/// The moment of a line that concerns the receiver.
+pub(crate) fn receiver_moment(line: &Line) -> Option<Moment>
+    ensures { result ≡ receiver_moment (line_view line.now) }
 {
     match line {
         Line::Nothing | Line::Station(_) => None,
-        Line::Text { moment, .. }
-        | Line::Radar { moment, .. }
-        | Line::Blank { moment, .. }
-        | Line::Turn { moment, .. }
-        | Line::Hear { moment, .. }
-        | Line::Rx { moment, .. }
-        | Line::Show { moment } => Some(*moment),
+        Line::Text { .. } | Line::Radar { .. } | Line::Blank { .. } => None,
+        Line::Turn { .. } => None,
+        Line::Hear { moment, .. } | Line::Rx { moment, .. } | Line::Show { moment } => {
+            Some(*moment)
+        }
     }
 }

@@ -11,7 +11,7 @@ ghost use Rattle.script_core.specs.Script.{Line as ScriptLine, hear, station, tu
 ghost use Rattle.fisb_app.specs.Output.{given_text, heard_picture, heard_text};
 ghost use Rattle.fisb_app.specs.Past.{air_heard, reception_from};
 ghost use Rattle.fisb_app.specs.declared.party.Party.TheVariants.{Link as TheLink};
-ghost use Rattle.fisb_app.specs.Reading.{CanCome, is_update, own_refusal, receiver_refusal};
+ghost use Rattle.fisb_app.specs.Reading.{is_update, own_refusal, receiver_refusal};
 ghost use Rattle.fisb_app.specs.Stands.{HasTried, IsFound, LinkHolds, aired_view, sent_view};
 
 use crate::ear::Ear;
@@ -27,7 +27,7 @@ use ground_core::AirFrame;
 use run_core::Stop;
 use script_core::{Line, Reason, Wrong, print_sent};
 use std::alloc::{AllocError, Global};
-use uplink_frame::{StationId, stations_are_told};
+use uplink_frame::StationId;
 
 /// What the lines acted on have made.
 #[derive(Drop)]
@@ -77,11 +77,10 @@ impl<G: Sender, E: Ear> LineActor for Link<G, E> {
 }
 
 impl<G: Sender, E: Ear> Link<G, E> {
-    /// Names the station.
+    /// Names the station that the following lines concern.
     fn name_station(&mut self, alloc: Global, named: StationId) -> Result<Bytes, Stop>
         requires { FitsStation named }
         ensures { (bytes : List ℕ) (acted : List ScriptLine)
-            → CanCome acted (station named)
             → LinkHolds G.stands E.stands bytes acted self.old
             → HasTried (own_refusal Party.Link self.old.sending.table acted (station named))
             (λ given. (given ≡ given_text Party.Link heard_picture self.old.sending.table acted
@@ -90,7 +89,7 @@ impl<G: Sender, E: Ear> Link<G, E> {
     {
         match self.sending.name_station(alloc, named) {
             Ok(()) => Ok(no_text(alloc)),
-            Err(AllocError) => Err(Stop::NoMemory),
+            Err(stop) => Err(stop),
         }
     }
 
@@ -115,13 +114,12 @@ impl<G: Sender, E: Ear> Link<G, E> {
     fn turn(&mut self, alloc: Global, moment: Moment, slot: u8) -> Result<Bytes, Stop>
         requires { slot < 32 }
         ensures { (bytes : List ℕ) (acted : List ScriptLine)
-            → CanCome acted (turn moment slot) → LinkHolds G.stands E.stands bytes acted self.old
+            → LinkHolds G.stands E.stands bytes acted self.old
             → HasTried (own_refusal Party.Link self.old.sending.table acted (turn moment slot))
             (λ given. (given ≡ given_text Party.Link heard_picture self.old.sending.table acted
             (turn moment slot))
             × LinkHolds G.stands E.stands bytes (turn moment slot ∷ acted) self.new) result }
     {
-        stations_are_told();
         let index = self.sent.len();
         let frame = match self.sending.turn(index, moment, slot) {
             Ok(frame) => frame,
@@ -146,7 +144,6 @@ impl<G: Sender, E: Ear> Link<G, E> {
     ) -> Result<Bytes, Stop>
         requires { All (λ one. (one.0 < 552) × (one.1 < 256)) wrong.now }
         ensures { (bytes : List ℕ) (acted : List ScriptLine)
-            → CanCome acted (hear moment frame wrong.now)
             → LinkHolds G.stands E.stands bytes acted self.old
             → HasTried
             (own_refusal Party.Link self.old.sending.table acted (hear moment frame wrong.now))
@@ -171,6 +168,9 @@ impl<G: Sender, E: Ear> Link<G, E> {
         let Some(sent) = self.sent.get(frame as usize) else {
             return Err(Reason::NoFrame);
         };
+        if moment < sent.moment {
+            return Err(Reason::Early);
+        }
         if moment.seconds() > sent.moment.seconds() + self.sending.table.late() {
             return Err(Reason::Late);
         }

@@ -14,12 +14,13 @@ use crate::sending;
 use crate::sent::SentFrame;
 use crate::stopping::answer;
 use fisb_time::Moment;
+use ground_core::histories_grow;
 use life_table::LifeTable;
 use radar_core::{BlockKey, Cells};
 use receiver_core::{HearFault, ShowFault};
 use run_core::Stop;
 use std::alloc::{AllocError, Global};
-use uplink_frame::{StationId, stations_are_told};
+use uplink_frame::StationId;
 use workload::{Changes, Step};
 
 /// The most frames of a run, as a count of turns.
@@ -35,7 +36,7 @@ pub(crate) struct Making<G: Sender, E: Ear> {
     pub(crate) ear: E,
     /// How long after it was sent a frame may be heard.
     pub(crate) late: u64,
-    /// The last moment of a step.
+    /// The last moment of a step that concerns the receiver.
     pub(crate) clock: Option<Moment>,
     /// The frame that was sent last.
     pub(crate) last: Option<SentFrame>,
@@ -94,20 +95,16 @@ impl<G: Sender, E: Ear> Making<G, E> {
         requires { length text.now < 1000 }
         ensures { HasTaken G.stands E.stands self.old self.new (Text moment text.now) result }
     {
-        if self.is_early(moment) {
-            return Ok(());
-        }
+        histories_grow();
         let given = answer(self.ground.give_text(moment, moment, text));
-        self.count_update(moment, given)
+        self.count_update(given)
     }
 
     fn give_block(&mut self, moment: Moment, number: u32, cells: &Cells) -> Result<(), AllocError>
         ensures { HasTaken G.stands E.stands self.old self.new (Block moment number cells.now)
             result }
     {
-        if self.is_early(moment) {
-            return Ok(());
-        }
+        histories_grow();
         let key = BlockKey {
             product: PRODUCT,
             scale: 0,
@@ -115,30 +112,27 @@ impl<G: Sender, E: Ear> Making<G, E> {
             number,
         };
         let given = answer(self.ground.give_cells(moment, moment, &key, cells));
-        self.count_update(moment, given)
+        self.count_update(given)
     }
 
     fn give_blanks(&mut self, moment: Moment, numbers: &[u32]) -> Result<(), AllocError>
         ensures { HasTaken G.stands E.stands self.old self.new (Blanks moment numbers.now) result }
     {
-        if self.is_early(moment) {
-            return Ok(());
-        }
+        histories_grow();
         let given = answer(
             self.ground
                 .give_blanks(moment, moment, PRODUCT, 0, false, numbers),
         );
-        self.count_update(moment, given)
+        self.count_update(given)
     }
 
     /// Counts an update that was given.
-    fn count_update(&mut self, moment: Moment, given: Result<(), Stop>) -> Result<(), AllocError>
-        ensures { IsCounted moment self.old self.new given result }
+    fn count_update(&mut self, given: Result<(), Stop>) -> Result<(), AllocError>
+        ensures { IsCounted self.old self.new given result }
     {
         match given {
             Ok(()) => {
                 self.counts.updates = sum(self.counts.updates, 1)?;
-                self.clock = Some(moment);
                 Ok(())
             }
             Err(Stop::Refused(_)) => Ok(()),
@@ -151,10 +145,7 @@ impl<G: Sender, E: Ear> Making<G, E> {
         requires { slot < 32 }
         ensures { HasTaken G.stands E.stands self.old self.new (Turn moment slot) result }
     {
-        stations_are_told();
-        if self.is_early(moment) {
-            return Ok(());
-        }
+        histories_grow();
         if self.counts.turns >= FRAME_LIMIT {
             return Ok(());
         }
@@ -167,7 +158,6 @@ impl<G: Sender, E: Ear> Making<G, E> {
             air,
         });
         self.counts.turns += 1;
-        self.clock = Some(moment);
         Ok(())
     }
 
@@ -221,7 +211,7 @@ impl<G: Sender, E: Ear> Making<G, E> {
         }
     }
 
-    /// Whether a moment is below that of the last step.
+    /// Whether a moment is below the last one of the receiver.
     fn is_early(&self, moment: Moment) -> bool
         ensures { result ≡ is_some (earlier_than (Some moment) self.now.clock) }
     {
@@ -239,6 +229,9 @@ impl<G: Sender, E: Ear> Making<G, E> {
         let Some(sent) = self.last else {
             return None;
         };
+        if moment < sent.moment {
+            return None;
+        }
         let age = moment.seconds().saturating_sub(sent.moment.seconds());
         if age > self.late {
             return None;

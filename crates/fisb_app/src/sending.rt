@@ -1,35 +1,46 @@
 //! What both commands do: naming a station, giving updates and filling frames.
-ghost use Rattle.std.specs.Prelude.{◌≡◌, ℕ, ◌<◌, ◌∷◌, List, [], None, Some, false, true, IfErr, IfOk, OnOk};
-ghost use Rattle.uplink_frame.specs.Station.{FitsStation};
+ghost use Rattle.std.specs.Prelude.{◌≡◌, ℕ, ◌<◌, ◌+◌, ◌∷◌, List, [], None, Some, false, true, IfErr, IfOk, OnOk};
+ghost use Rattle.std.specs.Prelude.{if◌then◌else◌, length, nat_lt};
+ghost use Rattle.uplink_frame.specs.declared.station.StationId.{StationId as Place};
+ghost use Rattle.uplink_frame.specs.Station.{FitsStation, same_station};
 ghost use Rattle.ground_core.specs.Airing.{frame_after};
 ghost use Rattle.ground_core.specs.OnAir.{IsOnAir};
 ghost use Rattle.run_core.specs.Actor.{HasOpened};
 ghost use Rattle.script_core.specs.LineView.{line_view, HasRanges};
 ghost use Rattle.script_core.specs.Script.{Line as ScriptLine, station, turn};
 ghost use Rattle.fisb_app.specs.declared.party.Party.{Party as AnyParty};
-ghost use Rattle.fisb_app.specs.Past.{events, has_begun, station_after};
-ghost use Rattle.fisb_app.specs.Reading.{is_update, own_refusal, turn_refusal};
-ghost use Rattle.fisb_app.specs.Stands.{HasRead, HasTried, Holds};
+ghost use Rattle.fisb_app.specs.Past.{events, station_after, stations};
+ghost use Rattle.fisb_app.specs.Reading.{is_update, own_refusal, station_refusal, turn_refusal};
+ghost use Rattle.fisb_app.specs.Stands.{HasRead, HasTried, Holds, IsTakenFor, ground_at};
 ghost use Rattle.fisb_app.specs.Work.{opened_with, opening_table};
 
 use crate::sender::Sender;
 use crate::stopping::{answer, kept_of};
 use fisb_time::Moment;
-use ground_core::AirFrame;
+use ground_core::{AirFrame, histories_grow};
 use life_table::{LifeTable, TableFault};
 use run_core::Stop;
 use script_core::{Line, Reason};
 use std::alloc::{AllocError, Global};
-use uplink_frame::StationId;
+use std::collections::BTreeMap;
+use std::mem;
+use uplink_frame::{StationId, stations_are_told};
 
 /// The most frames of a run.
 pub(crate) const FRAME_LIMIT: usize = 65_536;
+
+/// The most stations that are named.
+const STATION_LIMIT: usize = 16;
 
 /// What is sent.
 #[derive(Drop)]
 pub(crate) struct Sending<G: Sender> {
     pub(crate) table: LifeTable,
+    /// The station that was named last, and its ground.
+    pub(crate) station: StationId,
     pub(crate) ground: G,
+    /// The grounds of the other stations.
+    pub(crate) others: BTreeMap<StationId, G>,
 }
 
 impl<G: Sender> Sending<G> {
@@ -50,20 +61,87 @@ impl<G: Sender> Sending<G> {
         };
         Ok(Sending {
             table,
+            station,
             ground: G::new(alloc, station, copy),
+            others: BTreeMap::new(alloc),
         })
     }
 
-    /// Names the station, before any other line.
-    pub(crate) fn name_station(&mut self, alloc: Global, named: StationId) -> Result<(), AllocError>
+    /// Names the station that the following lines concern. Its ground is made where it is first
+    /// named.
+    pub(crate) fn name_station(&mut self, alloc: Global, named: StationId) -> Result<(), Stop>
         requires { FitsStation named }
-        ensures named { (bytes : List ℕ) (acted : List ScriptLine) → has_begun acted ≡ false
+        ensures named { (party : AnyParty) (bytes : List ℕ) (acted : List ScriptLine)
             → Holds G.stands bytes acted self.old
-            → OnOk result (Holds G.stands bytes (station named ∷ acted) self.new) }
+            → HasTried (own_refusal party self.old.table acted (station named))
+            (λ done. Holds G.stands bytes (station named ∷ acted) self.new) result }
         ensures table { self.new.table ≡ self.old.table }
     {
-        let table = self.table.copy(alloc)?;
-        self.ground = G::new(alloc, named, table);
+        stations_are_told();
+        if named == self.station {
+            return Ok(());
+        }
+        match self.take_ground(alloc, named) {
+            Ok(ground) => self.change_to(named, ground),
+            Err(stop) => Err(stop),
+        }
+    }
+
+    /// The ground of another station than that which was named last: the one that is kept for it,
+    /// or its first one.
+    fn take_ground(&mut self, alloc: Global, named: StationId) -> Result<G, Stop>
+        requires { FitsStation named }
+        ensures taken { (bytes : List ℕ) (acted : List ScriptLine)
+            → Holds G.stands bytes acted self.old
+            → same_station (station_after acted) named ≡ false
+            → HasTried (station_refusal (stations acted) named)
+            (IsTakenFor G.stands acted named self.old self.new) result }
+        ensures table { self.new.table ≡ self.old.table }
+        ensures of_station { self.new.station ≡ self.old.station }
+        ensures ground { self.new.ground ≡ self.old.ground }
+    {
+        stations_are_told();
+        match self.others.remove(&named) {
+            Some(ground) => Ok(ground),
+            None => self.first_ground(alloc, named),
+        }
+    }
+
+    /// A ground for a station that is named for the first time.
+    fn first_ground(&self, alloc: Global, named: StationId) -> Result<G, Stop>
+        requires { FitsStation named }
+        ensures { HasTried (if nat_lt (length self.now.others.entries) 16 then None
+            else Some Reason.Station) (G.stands self.now.table named []) result }
+    {
+        if self.others.len() >= STATION_LIMIT {
+            return Err(Stop::Refused(Reason::Station));
+        }
+        match self.table.copy(alloc) {
+            Ok(table) => Ok(G::new(alloc, named, table)),
+            Err(AllocError) => Err(Stop::NoMemory),
+        }
+    }
+
+    /// Puts the ground of the station that is named in the place of that of the last one, which
+    /// goes to the others.
+    fn change_to(&mut self, named: StationId, ground: G) -> Result<(), Stop>
+        ensures others { (place : Place) → ground_at self.old.others self.old.station ≡ None
+            → OnOk result (ground_at self.new.others place
+            ≡ (if same_station self.old.station place then Some self.old.ground
+            else ground_at self.old.others place)) }
+        ensures count { ground_at self.old.others self.old.station ≡ None
+            → OnOk result (length self.new.others.entries
+            ≡ length self.old.others.entries + 1) }
+        ensures ground { OnOk result (self.new.ground ≡ ground) }
+        ensures of_station { OnOk result (self.new.station ≡ named) }
+        ensures table { self.new.table ≡ self.old.table }
+        ensures stops { IfErr result (λ stop. stop ≡ Stop.NoMemory) }
+    {
+        let before = mem::replace(&mut self.ground, ground);
+        let Ok(_) = self.others.insert(self.station, before) else {
+            return Err(Stop::NoMemory);
+        };
+        self.station = named;
         Ok(())
     }
 
@@ -77,6 +155,7 @@ impl<G: Sender> Sending<G> {
             (λ done. Holds G.stands bytes (line_view line.now ∷ acted) self.new) result }
         ensures table { self.new.table ≡ self.old.table }
     {
+        histories_grow();
         match line {
             Line::Text {
                 moment,
@@ -128,10 +207,10 @@ impl<G: Sender> Sending<G> {
         ensures room { OnOk result (count < 65536) }
         ensures table { self.new.table ≡ self.old.table }
     {
-        if count >= FRAME_LIMIT {
-            return Err(Reason::Frames);
-        }
+        histories_grow();
+        // A refused line is the last one: that the ground has filled a frame for it tells nothing.
         match self.ground.fill(moment, slot) {
+            Ok(_) if count >= FRAME_LIMIT => Err(Reason::Frames),
             Ok(frame) => Ok(frame),
             Err(fault) => Err(Reason::Clock {
                 kept: kept_of(fault),

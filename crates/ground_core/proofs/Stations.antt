@@ -11,7 +11,7 @@ use Rattle.ground_core.specs.Item.{Weather, Item}
 use Rattle.ground_core.specs.Update.{weather_of}
 use Rattle.ground_core.specs.History.{Event, accepted, fill, item_of, items_made, new_items, items}
 use Rattle.ground_core.specs.Broadcast.{IsNext, IsHistory, StationEvent, IsBroadcast, history_of, all_items}
-use Rattle.ground_core.specs.Sent.{ItemsAreOfStations}
+use Rattle.ground_core.specs.Sent.{HistoriesGrow, ItemsAreOfStations}
 
 -- the history of a station grows by its own events alone
 abbrev is_of_station : StationId → StationEvent → Bool
@@ -32,6 +32,12 @@ same-equal told a b e = (told a b).0 e
 
 pub same-itself : StationsAreTold → (a : StationId) → same_station a a ≡ true
 same-itself told a = (told a a).1 refl
+
+pub histories-grow : StationsAreTold → HistoriesGrow
+histories-grow told b past = record {
+  own = history-same b.station b past (same-itself told b.station);
+  others = λ station e. history-other station b past e;
+}
 
 -- each station has a history
 pub station-history : StationsAreTold → (table : LifeTable) (broadcast : List StationEvent) → IsBroadcast table broadcast

@@ -1,12 +1,12 @@
 -- What is known of the items and of the frames of a broadcast.
-use Rattle.std.specs.Prelude.{◌≡◌, ◌+◌, ◌<◌, ◌≤◌, ◌↔◌, true, List, length, map}
+use Rattle.std.specs.Prelude.{◌≡◌, ◌+◌, ◌<◌, ◌≤◌, ◌↔◌, true, false, List, ◌∷◌, length, map}
 use Rattle.bit_fields.specs.Bits.{AreBytes}
 use Rattle.list_members.specs.Membership.{IsIn}
 use Rattle.fisb_time.specs.Moment.{IsMoment}
 use Rattle.life_table.specs.LifeTable.{LifeTable}
 use Rattle.life_table.specs.Rules.{IsTable}
 use Rattle.uplink_frame.specs.declared.station.StationId.{StationId}
-use Rattle.uplink_frame.specs.Station.{header_of, FitsStation}
+use Rattle.uplink_frame.specs.Station.{header_of, same_station, FitsStation}
 use Rattle.uplink_frame.specs.UplinkFrame.{InformationFrame, frame_room, payload_length, fisb_frame}
 use Rattle.uplink_frame.specs.UplinkFrame.{spelled_frames, header_in, information_frames}
 use Rattle.segment_core.specs.File.{parts_of}
@@ -28,6 +28,15 @@ pub record AreOfStations (table : LifeTable) (broadcast : List StationEvent) : T
 abbrev pub ItemsAreOfStations : Type 0
 ItemsAreOfStations = (table : LifeTable) (broadcast : List StationEvent)
     → IsBroadcast table broadcast → AreOfStations table broadcast
+
+-- an event is one more in the history of its station, and in that of no other
+pub record HistoryGrows (b : StationEvent) (past : List StationEvent) : Type 0 where
+  pub own : history_of b.station (b ∷ past) ≡ b.event ∷ history_of b.station past
+  pub others : (station : StationId) → same_station b.station station ≡ false
+      → history_of station (b ∷ past) ≡ history_of station past
+
+abbrev pub HistoriesGrow : Type 0
+HistoriesGrow = (b : StationEvent) (past : List StationEvent) → HistoryGrows b past
 
 -- a segment of an item, numbered as one of the parts of its file
 pub record IsSegmentOf (item : Item) (s : Segment) : Type 0 where

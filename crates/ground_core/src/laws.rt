@@ -2,7 +2,7 @@
 //! the laws of lower crates.
 ghost use Rattle.ground_core.specs.Sound.{AcceptedIsGiven, HistoriesHaveItems};
 ghost use Rattle.ground_core.specs.Sent.{FramesReadBack, ItemsAreOfStations, SegmentsAreOfItems};
-ghost use Rattle.ground_core.specs.Sent.{SegmentsAreSame};
+ghost use Rattle.ground_core.specs.Sent.{HistoriesGrow, SegmentsAreSame};
 
 use apdu_core::apdu_reads_back;
 use dlac_text::{payload_size, reading_undoes_writing, refused_texts};
@@ -42,6 +42,14 @@ pub fn histories_have_items()
 #[inline]
 pub fn items_are_of_stations()
     ensures { ItemsAreOfStations }
+{
+    stations_are_told();
+}
+
+/// The law that an event is one more in the history of its station, and in that of no other.
+#[inline]
+pub fn histories_grow()
+    ensures { HistoriesGrow }
 {
     stations_are_told();
 }

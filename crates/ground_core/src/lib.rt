@@ -23,8 +23,8 @@ pub use air_frame::AirFrame;
 pub use fault::{FillFault, GiveFault};
 pub use ground::Ground;
 pub use laws::{
-    accepted_is_given, frames_read_back, histories_have_items, items_are_of_stations,
-    segments_are_of_items, segments_are_same,
+    accepted_is_given, frames_read_back, histories_grow, histories_have_items,
+    items_are_of_stations, segments_are_of_items, segments_are_same,
 };
 pub use queue_laws::no_starvation;
 

@@ -40,6 +40,7 @@ fn refusal_line(alloc: Global, line: u64, reason: &Reason) -> Result<String, All
         Reason::NotHere => format!(in alloc; "refused {line} nothere\n"),
         Reason::Station => format!(in alloc; "refused {line} station\n"),
         Reason::NoFrame => format!(in alloc; "refused {line} noframe\n"),
+        Reason::Early => format!(in alloc; "refused {line} early\n"),
         Reason::Late => format!(in alloc; "refused {line} late\n"),
         Reason::Frames => format!(in alloc; "refused {line} frames\n"),
         Reason::TextLong => format!(in alloc; "refused {line} textlong\n"),

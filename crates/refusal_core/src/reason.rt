@@ -26,15 +26,18 @@ pub enum Reason {
     Syntax,
     /// The command does not take this line.
     NotHere,
-    /// A `station` line that is not the first one.
+    /// The line names a 17th station.
     Station,
-    /// The line's moment is below the greatest one of the lines acted on before it.
+    /// The line's moment is below the greatest one of the lines acted on before it that concern the
+    /// same station, or the receiver as it does.
     Clock {
         /// That greatest moment.
         kept: Moment,
     },
     /// No frame of this number was sent.
     NoFrame,
+    /// The frame was sent later than it is heard.
+    Early,
     /// The frame was sent longer ago than the table allows.
     Late,
     /// 65,536 frames were sent before.

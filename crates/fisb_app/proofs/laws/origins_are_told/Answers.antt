@@ -4,7 +4,6 @@ use Rattle.fisb_app.proofs.laws.origins_are_told.Goals as goal
 pub returns : goal.returns
 returns c = told-of-origin
     (record {
-      told = c.stations_are_told.ensures;
       near = c.near_frame_gives_payload.ensures;
       frames_back = c.frames_read_back.ensures;
       stay = c.hearings_stay.ensures;

@@ -4,7 +4,6 @@ use Rattle.fisb_app.proofs.laws.promises_are_kept.Goals as goal
 pub returns : goal.returns
 returns c = promised
     (record {
-      told = c.stations_are_told.ensures;
       near = c.near_frame_gives_payload.ensures;
       frames_back = c.frames_read_back.ensures;
       stay = c.hearings_stay.ensures;

@@ -24,6 +24,9 @@ returns-in-Station c = rw c.in-Station.is c.format-in-Station.ensures.ok
 pub returns-in-NoFrame : goal.returns-in-NoFrame
 returns-in-NoFrame c = rw c.in-NoFrame.is c.format-in-NoFrame.ensures.ok
 
+pub returns-in-Early : goal.returns-in-Early
+returns-in-Early c = rw c.in-Early.is c.format-in-Early.ensures.ok
+
 pub returns-in-Frames : goal.returns-in-Frames
 returns-in-Frames c = rw c.in-Frames.is c.format-in-Frames.ensures.ok
 

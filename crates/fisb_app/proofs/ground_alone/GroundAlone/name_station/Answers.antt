@@ -1,17 +1,19 @@
 use Rattle.std.proofs.Common.{refl}
 use Rattle.script_core.specs.Script.{station}
+use Rattle.fisb_app.specs.declared.party.Party.TheVariants.{Ground as GroundParty}
 use Rattle.fisb_app.proofs.Keeping.{alone-kept}
-use Rattle.fisb_app.proofs.Turning.{unbegun-frames}
 use Rattle.fisb_app.proofs.ground_alone.GroundAlone.name_station.Goals as goal
 
 pub returns-in-Ok : goal.returns-in-Ok
-returns-in-Ok g c = λ bytes acted can h.
-    let line = station c.args.named in
-    let begun = can.first refl in (
-      refl,
+returns-in-Ok g c = λ bytes acted h.
+    let named = c.in-Ok.ensures.named GroundParty bytes acted h.holds in (
+      named.0,
       (
         c.no_text.ensures,
-        alone-kept g.G.Sender.stands bytes acted line c.args.self.now _ (c.in-Ok.ensures.named bytes acted begun h.holds)
-            c.in-Ok.ensures.table refl (λ t. unbegun-frames t acted line begun refl) h,
+        alone-kept g.G.Sender.stands bytes acted (station c.args.named) c.args.self.now _ named.1
+            c.in-Ok.ensures.table refl (λ t. refl) h,
       ),
     )
+
+pub returns-in-Err : goal.returns-in-Err
+returns-in-Err g c = λ bytes acted h. c.in-Err.ensures.named GroundParty bytes acted h.holds

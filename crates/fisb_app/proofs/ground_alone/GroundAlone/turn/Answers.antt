@@ -9,13 +9,13 @@ use Rattle.fisb_app.proofs.Turning.{frames-more, length-last, line-alike}
 use Rattle.fisb_app.proofs.ground_alone.GroundAlone.turn.Goals as goal
 
 pub returns-in-Ok-print_sent : goal.returns-in-Ok-print_sent
-returns-in-Ok-print_sent g c = λ bytes acted can h.
+returns-in-Ok-print_sent g c = λ bytes acted h.
     let table = c.args.self.now.sending.table in
     let index = h.sent in
     let on = c.in-Ok.ensures.frame bytes acted h.holds in
     let sent = frame_after table (station_after acted) (events acted) c.args.moment c.args.slot in
     let same = c.in-Ok.ensures.table in
-    let more = frames-more c.stations_are_told.ensures table acted c.args.moment c.args.slot in (
+    let more = frames-more table acted c.args.moment c.args.slot in (
       ap (λ i. turn_refusal i acted c.args.moment) (sym index) ∙ c.in-Ok.ensures.in_time bytes acted h.holds,
       (
         c.in-Ok-print_sent.ensures ∙ line-alike c.args.self.now.sent true sent c.in-Ok.frame on

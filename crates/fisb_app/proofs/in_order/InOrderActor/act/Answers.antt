@@ -17,7 +17,7 @@ returns-in-Some g c = λ table past s.
     let party = g.P.LineActor.PARTY in
     let acted = lines_of past in
     let line = line_view c.in-Ok.line in
-    let front = front-kept party acted line _ _ (Some c.in-Some.reason) s.begun s.clock (sym c.in-Some.is ∙ c.front_refusal.ensures) in
+    let front = front-kept party acted line _ (Some c.in-Some.reason) s.clock (sym c.in-Some.is ∙ c.front_refusal.ensures) in
     answer-formed party heard_picture table past c.args.line.now (g.P.LineActor.table c.args.self.now.inner) (Some line) (g.P.LineActor.opened table (lines_of past) _ s.parts) c.in-Ok.ensures.line
     ∙ answer-front party heard_picture (g.P.LineActor.table c.args.self.now.inner) acted line (Some c.in-Some.reason) _ front refl
 
@@ -27,13 +27,13 @@ returns-in-Ok-act_on g c = λ table past s.
     let acted = lines_of past in
     let line = line_view c.in-Ok.line in
     let kept = g.P.LineActor.table c.args.self.now.inner in
-    let front = front-kept party acted line _ _ None s.begun s.clock (sym c.in_default.is ∙ c.front_refusal.ensures) in
+    let front = front-kept party acted line _ None s.clock (sym c.in_default.is ∙ c.front_refusal.ensures) in
     let is = clear party acted line front in
-    let tried = c.in-Ok-act_on.ensures table acted is.can is.here s.parts in (
+    let tried = c.in-Ok-act_on.ensures table acted is.here s.parts in (
       answer-formed party heard_picture table past c.args.line.now kept (Some line) (g.P.LineActor.opened table (lines_of past) _ s.parts) c.in-Ok.ensures.line
           ∙ answer-front party heard_picture kept acted line None None front tried.0 ∙ ap Ok (sym tried.1.0),
       in-order-more g.P.LineActor.holds table past c.args.line.now line c.args.self.now c.advance.new.self _ c.in-Ok.ensures.line s tried.1.1
-          c.advance.ensures.inner c.advance.ensures.clock c.advance.ensures.begun,
+          c.advance.ensures.inner c.advance.ensures.clock,
     )
 
 pub returns : goal.returns
@@ -42,9 +42,9 @@ returns g c = λ table past s.
     let acted = lines_of past in
     let line = line_view c.in-Ok.line in
     let kept = g.P.LineActor.table c.args.self.now.inner in
-    let front = front-kept party acted line _ _ None s.begun s.clock (sym c.in_default.is ∙ c.front_refusal.ensures) in
+    let front = front-kept party acted line _ None s.clock (sym c.in_default.is ∙ c.front_refusal.ensures) in
     let is = clear party acted line front in
-    let tried = c.in-Err.ensures table acted is.can is.here s.parts in
+    let tried = c.in-Err.ensures table acted is.here s.parts in
     tells-acted (IsInOrder g.P.LineActor.holds table (c.args.line.now ∷ past) (record c.args.self.now { inner = c.act_on.new.self })) _ _ _ c.in-Err.stop
     (answer-formed party heard_picture table past c.args.line.now kept (Some line) (g.P.LineActor.opened table (lines_of past) _ s.parts) c.in-Ok.ensures.line
     ∙ answer-front party heard_picture kept acted line None _ front refl) tried

@@ -9,8 +9,15 @@ use Rattle.fisb_app.specs.Stands.{aired_view, sent_view}
 use Rattle.fisb_app.proofs.Turning.{count-alike, kept-more, line-alike}
 use Rattle.fisb_app.proofs.link.Link.turn.Goals as goal
 
+pub returns-in-Err : goal.returns-in-Err
+returns-in-Err g c = λ bytes acted h.
+    let table = c.args.self.now.sending.table in
+    let many : length c.args.self.now.sent.items ≡ length (sent_frames table acted) = count-alike sent_view aired_view _ _ h.sent in
+    let index : c.len-index.result ≡ length (sent_frames table acted) = (let counted = c.len-index.ensures in omega (arith, counted, many)) in
+    ap (λ i. turn_refusal i acted c.args.moment) (sym index) ∙ c.in-Err.ensures.refused bytes acted h.holds
+
 pub returns-in-Ok-print_sent : goal.returns-in-Ok-print_sent
-returns-in-Ok-print_sent g c = λ bytes acted can h.
+returns-in-Ok-print_sent g c = λ bytes acted h.
     let table = c.args.self.now.sending.table in
     let many : length c.args.self.now.sent.items ≡ length (sent_frames table acted) = count-alike sent_view aired_view _ _ h.sent in
     let index : c.len-index.result ≡ length (sent_frames table acted) = (let counted = c.len-index.ensures in omega (arith, counted, many)) in
@@ -22,7 +29,7 @@ returns-in-Ok-print_sent g c = λ bytes acted can h.
         c.in-Ok-print_sent.ensures ∙ line-alike c.len-index.result false sent c.in-Ok.frame on ∙ ap (λ i. sent_line i (sent_frame sent) false) index,
         record {
           holds = c.in-Ok.ensures.filled bytes acted h.holds;
-          sent = c.in-Ok-keep.ensures ∙ kept-more c.stations_are_told.ensures table acted c.args.moment c.args.slot _ c.in-Ok.frame h.sent on
+          sent = c.in-Ok-keep.ensures ∙ kept-more table acted c.args.moment c.args.slot _ c.in-Ok.frame h.sent on
               ∙ ap (λ t. map aired_view (sent_frames t (turn c.args.moment c.args.slot ∷ acted))) (sym same);
           ear = subst (λ t. g.E.Ear.stands t (receptions t acted) c.args.self.now.ear) (sym same) h.ear;
         },

@@ -1,14 +1,27 @@
-use Rattle.std.proofs.Common.{[], ◌∷◌, sym, subst}
-use Rattle.script_core.specs.Script.{station}
-use Rattle.fisb_app.specs.Past.{station_after}
-use Rattle.fisb_app.proofs.Turning.{unbegun-events}
+use Rattle.std.proofs.Common.{◌≡◌, false, sym, ap, ◌∙◌}
+use Rattle.uplink_frame.specs.Station.{same_station}
+use Rattle.fisb_app.proofs.Grounds.{again-free, again-holds, changed-tried, equal-same, same-back}
 use Rattle.fisb_app.proofs.sending.Sending.name_station.Goals as goal
 
-pub returns-clause-named : goal.returns-clause-named
-returns-clause-named g c = λ bytes acted none h.
-    let now = station_after (station c.args.named ∷ acted) in
-    let sends = g.G.Sender.stands in record {
-      opened = h.opened;
-      ground = subst (λ e. sends c.args.self.now.table now e c.new.result) (sym (unbegun-events acted none))
-          (subst (λ t. sends t now [] c.new.result) c.in_ok-table.ensures c.new.ensures);
-    }
+pub returns-then-eq-clause-named : goal.returns-then-eq-clause-named
+returns-then-eq-clause-named g c = λ party bytes acted h.
+    let told = c.stations_are_told.ensures in
+    let same : c.args.named ≡ c.args.self.now.station = (told c.args.named c.args.self.now.station).0 (sym (equal-same c.args.named c.args.self.now.station) ∙ sym c.eq.ensures ∙ c.if-eq.true) in (
+      again-free told g.G.Sender.stands bytes acted c.args.named c.args.self.now same h,
+      again-holds told g.G.Sender.stands bytes acted c.args.named c.args.self.now same h,
+    )
+
+pub returns-in-Ok-clause-named : goal.returns-in-Ok-clause-named
+returns-in-Ok-clause-named g c = λ party bytes acted h.
+    let told = c.stations_are_told.ensures in
+    let other : same_station c.args.self.now.station c.args.named ≡ false = same-back told c.args.named c.args.self.now.station (sym (equal-same c.args.named c.args.self.now.station) ∙ sym c.eq.ensures ∙ c.if-eq.false) in
+    changed-tried told g.G.Sender.stands bytes acted c.args.named c.args.self.now c.take_ground.new.self c.change_to.new.self c.in-Ok.ground c.change_to.result other h
+    (c.in-Ok.ensures.taken bytes acted h (ap (λ p. same_station p c.args.named) (sym h.station_is) ∙ other))
+    c.in-Ok.ensures.table c.in-Ok.ensures.of_station c.in-Ok.ensures.ground
+    c.change_to.ensures.others c.change_to.ensures.count c.change_to.ensures.ground c.change_to.ensures.of_station c.change_to.ensures.table c.change_to.ensures.stops
+
+pub returns-in-Err-clause-named : goal.returns-in-Err-clause-named
+returns-in-Err-clause-named g c = λ party bytes acted h.
+    let told = c.stations_are_told.ensures in
+    let other : same_station c.args.self.now.station c.args.named ≡ false = same-back told c.args.named c.args.self.now.station (sym (equal-same c.args.named c.args.self.now.station) ∙ sym c.eq.ensures ∙ c.if-eq.false) in
+    c.in-Err.ensures.taken bytes acted h (ap (λ p. same_station p c.args.named) (sym h.station_is) ∙ other)
