@@ -1,6 +1,7 @@
 pub mod Judging
 pub mod Turning
 pub mod Grounds
+pub mod StationScenes
 pub mod Found
 pub mod Steps
 pub mod Damaged

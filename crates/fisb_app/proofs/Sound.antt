@@ -33,7 +33,7 @@ use Rattle.script_core.specs.LineView.{HasRanges}
 use Rattle.refusal_core.specs.declared.reason.Reason.TheVariants.{Clock, Early, Late}
 use Rattle.fisb_app.specs.declared.party.Party.TheVariants.{Link}
 use Rattle.fisb_app.specs.Past.{at_station, broadcast, events, receiver_clock, hearings, station_after, sent_frames, air_of, air_heard, reception_from, received_frame, reception_by, receptions}
-use Rattle.fisb_app.specs.Reading.{refusal_of, own_refusal, station_clock_refusal, update_refusal, frame_refusal, receiver_refusal, earlier_than, reason_of_update}
+use Rattle.fisb_app.specs.Reading.{refusal_of, front_refusal, own_refusal, station_clock_refusal, update_refusal, frame_refusal, receiver_refusal, earlier_than, reason_of_update}
 use Rattle.fisb_app.specs.Damage.{all_near, has_near_blocks, is_near_frame}
 use Rattle.fisb_app.proofs.Judging.{or-none, IsClear, clear}
 use Rattle.fisb_app.proofs.Damaged.{near-blocks}
@@ -205,6 +205,9 @@ sound-show table acted moment is s =
       heard_before = λ m after. s.heard_before m (behind-past m moment (receiver_clock acted) after behind);
     }
 
+own-none : (table : LifeTable) (acted : List Line) (line : Line) → refusal_of Link table acted line ≡ None → own_refusal Link table acted line ≡ None
+own-none table acted line e = (or-none (front_refusal Link (receiver_clock acted) line) (own_refusal Link table acted line) e).1
+
 -- a line more that was acted on
 pub sound-line : Laws → (table : LifeTable) (acted : List Line) (line : Line) (size : ℕ) → IsTable table → HasRanges size line
     → refusal_of Link table acted line ≡ None → IsSound table acted → IsSound table (line ∷ acted)
@@ -212,16 +215,16 @@ sound-line laws table acted empty size rules ranges e s = record { station = s.s
 sound-line laws table acted (station named) size rules ranges e s =
     record { station = ranges; is_broadcast = s.is_broadcast; heard = s.heard; received_is = s.received_is; heard_before = s.heard_before }
 sound-line laws table acted (text moment version chars) size rules ranges e s =
-    let with = sound-update laws table acted moment (updates.text version chars) ranges.0 (ranges.1, ranges.2) (or-none _ _ e).1 s in
+    let with = sound-update laws table acted moment (updates.text version chars) ranges.0 (ranges.1, ranges.2) (own-none table acted (text moment version chars) e) s in
     record { station = s.station; is_broadcast = with.is_broadcast; heard = with.heard; received_is = with.received_is; heard_before = s.heard_before }
 sound-line laws table acted (radar moment version key cells) size rules ranges e s =
-    let with = sound-update laws table acted moment (updates.block version key cells) ranges.0 (ranges.1, ranges.3) (or-none _ _ e).1 s in
+    let with = sound-update laws table acted moment (updates.block version key cells) ranges.0 (ranges.1, ranges.3) (own-none table acted (radar moment version key cells) e) s in
     record { station = s.station; is_broadcast = with.is_broadcast; heard = with.heard; received_is = with.received_is; heard_before = s.heard_before }
 sound-line laws table acted (blank moment version product scale south numbers) size rules ranges e s =
-    let with = sound-update laws table acted moment (updates.blanks version product scale south numbers) ranges.0 ranges.1 (or-none _ _ e).1 s in
+    let with = sound-update laws table acted moment (updates.blanks version product scale south numbers) ranges.0 ranges.1 (own-none table acted (blank moment version product scale south numbers) e) s in
     record { station = s.station; is_broadcast = with.is_broadcast; heard = with.heard; received_is = with.received_is; heard_before = s.heard_before }
 sound-line laws table acted (turn moment slot) size rules ranges e s =
-    let with = sound-turn laws table acted moment slot ranges.0 ranges.1 (or-none _ _ e).1 s in
+    let with = sound-turn laws table acted moment slot ranges.0 ranges.1 (own-none table acted (turn moment slot) e) s in
     record { station = s.station; is_broadcast = with.is_broadcast; heard = with.heard; received_is = with.received_is; heard_before = s.heard_before }
 sound-line laws table acted (hear moment number wrong) size rules ranges e s =
     sound-hear laws table acted moment number size wrong rules ranges (clear Link acted _ (or-none _ _ e).0) (or-none _ _ e).1 s

@@ -68,10 +68,7 @@ impl<P: LineActor> Actor for InOrder<P> {
 
     fn new(alloc: Global, table: &[u8]) -> Result<InOrder<P>, Stop> {
         let inner: P = P::new(alloc, table)?;
-        Ok(InOrder {
-            inner,
-            clock: None,
-        })
+        Ok(InOrder { inner, clock: None })
     }
 
     fn act(&mut self, alloc: Global, line: &[u8]) -> Result<Bytes, Stop> {

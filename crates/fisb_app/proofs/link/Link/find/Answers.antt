@@ -11,7 +11,7 @@ returns-then-lt g c = λ frames are.
     let kept = map-found sent_view c.args.self.now.sent.items c.args.frame c.in-Some.sent.now (ap (λ xs. slice_get xs c.args.frame) (sym c.deref.ensures.value) ∙ lent) in
     let (frame, found, is) = kept-found _ frames c.args.frame _ are kept in
     let moment = ap (λ (a : Aired). a.moment) is in
-    let earlier = before _ _ (sym c.lt.ensures ∙ c.if-lt.true) in
+    let earlier = before c.args.moment c.in-Some.sent.now.moment (sym c.lt.ensures ∙ c.if-lt.true) in
     too-early c.args.self.now.sending.table.late c.args.moment _ frame found (omega (arith, moment, earlier))
 
 pub returns-then-seconds-late : goal.returns-then-seconds-late
@@ -25,7 +25,7 @@ returns-then-seconds-late g c = λ frames are.
     let one = c.seconds.ensures.value in
     let other = c.seconds-2.ensures.value in
     let allowed = c.late.ensures.late in
-    let sent = not-before _ _ (sym c.lt.ensures ∙ c.if-lt.false) in
+    let sent = not-before c.args.moment c.in-Some.sent.now.moment (sym c.lt.ensures ∙ c.if-lt.false) in
     too-late c.args.self.now.sending.table.late c.args.moment _ frame found (omega (arith, moment, sent)) (omega (arith, moment, after, one, other, allowed))
 
 pub returns : goal.returns
@@ -40,5 +40,5 @@ returns g c = λ frames are.
     let one = c.seconds.ensures.value in
     let other = c.seconds-2.ensures.value in
     let allowed = c.late.ensures.late in
-    let sent = not-before _ _ (sym c.lt.ensures ∙ c.if-lt.false) in
+    let sent = not-before c.args.moment c.in-Some.sent.now.moment (sym c.lt.ensures ∙ c.if-lt.false) in
     (frame, found, in-time c.args.self.now.sending.table.late c.args.moment _ frame found (omega (arith, moment, sent)) (omega (arith, moment, not_after, one, other, allowed)), air)
