@@ -237,7 +237,3 @@ pub end-found :
     {V : Type 0} (end : V → ℕ) (o : Option V) (at : ℕ) → option_map end o ≡ Some at → (v : V) × (o ≡ Some v) × (end v ≡ at)
 end-found end None at found = cc
 end-found end (Some v) at found = (v, refl, cc)
-
-pub end-absent : {V : Type 0} (end : V → ℕ) (o : Option V) → option_map end o ≡ None → o ≡ None
-end-absent end None absent = refl
-end-absent end (Some v) absent = cc
