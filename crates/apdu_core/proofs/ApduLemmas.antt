@@ -9,7 +9,7 @@ use Rattle.std.specs.Int.{bytes_high_first}
 use Rattle.fisb_time.specs.declared.form.TimeForm.{TimeForm}
 use Rattle.fisb_time.specs.declared.form.TimeForm.TheVariants.{Minute, Second, DayMinute, DaySecond}
 use Rattle.fisb_time.specs.declared.form.TimeFields.{TimeFields}
-use Rattle.bit_fields.specs.Bits.{Field, joined, number_of, field_at}
+use Rattle.bit_fields.specs.Bits.{Field, as_number, number_of, field_at}
 use Rattle.apdu_core.specs.declared.unit.Seg.{Seg}
 use Rattle.apdu_core.specs.declared.fault.ApduFault.{ApduFault}
 use Rattle.apdu_core.specs.declared.fault.ApduFault.TheVariants.{Short, Flagged, BadSegment}
@@ -183,7 +183,7 @@ apdu_of-header a header b size h fits =
 pub read-from_spelled : (body : List ℕ) (a : Apdu) → SpellsApdu body a → apdu_of body ≡ Ok a
 read-from_spelled body a (fill, h) =
     let n = header_length a.form (is_some a.segmentation) in
-    let number = joined 0 (fields_with fill a) in
+    let number = as_number 0 (fields_with fill a) in
     let header = bytes_high_first n number in
     let size = length-bytes_high_first n number in
     let there = at-from_bytes (fields_with fill a) n (whole fill a) (within-from_fits fill a h.fits h.fill_fits) size in
@@ -242,7 +242,7 @@ spelled-from_header a header b payload size h time g =
     let back = within-back (header_fields a) last within in
     let segment = within-back (time_fields a.form a.time) (segment_fields a.segmentation) front.1.1.1.1 in
     let fits : FitsApdu a = record { product = front.1.0; time = time; segmentation = fits-from_within a.segmentation segment g } in
-    let same : header ≡ header_with fill a = both.1 ∙ ap (λ (n : ℕ). bytes_high_first n (joined 0 (fields_with fill a))) size in
+    let same : header ≡ header_with fill a = both.1 ∙ ap (λ (n : ℕ). bytes_high_first n (as_number 0 (fields_with fill a))) size in
     (fill, record { fits = fits; fill_fits = back.0; payload = payload; bits = ap (λ (bytes : List ℕ). bytes ++ a.payload) same })
 
 -- what is read of a header is spelled

@@ -3,7 +3,7 @@ use Rattle.std.proofs.Common.{◌≡◌, ℕ, ◌+◌, ◌-◌, ◌*◌, ◌/◌
 use Rattle.std.proofs.Math.Nat.{add-mul, mul_assoc, mul_comm, mod-eq_of_lt}
 use Rattle.std.proofs.lemmas.Nat.{pow-add, mod-pow-add, mod_below, mul-add-lt, same_from_place, pow_pos}
 use Rattle.std.specs.Int.{bytes_high_first}
-use Rattle.bit_fields.specs.Bits.{Field, joined, number_of, field_at}
+use Rattle.bit_fields.specs.Bits.{Field, as_number, number_of, field_at}
 use Rattle.apdu_core.specs.Spelling.{AreBytes}
 use Rattle.bit_fields.proofs.BytesAsNumbers.{number_of-fits}
 use Rattle.apdu_core.proofs.ByteLemmas.{bytes_from_number, number_of-bytes}
@@ -34,23 +34,23 @@ joined_step bits p w n q j b c first second product =
     let whole : bits * q ≡ bits * (p * w) = ap (λ (x : ℕ). bits * x) product in
     omega arith
 
-pub joined-behind : (fields : List Field) (bits : ℕ) → joined bits fields ≡ bits * 2 ^ total_width fields + joined 0 fields
+pub joined-behind : (fields : List Field) (bits : ℕ) → as_number bits fields ≡ bits * 2 ^ total_width fields + as_number 0 fields
 joined-behind [] bits = omega arith
 joined-behind (f ∷ more) bits =
-    joined_step bits (2 ^ f.width) (2 ^ total_width more) f.number (2 ^ (f.width + total_width more)) (joined 0 more)
-    (joined (bits * 2 ^ f.width + f.number) more) (joined (0 * 2 ^ f.width + f.number) more)
+    joined_step bits (2 ^ f.width) (2 ^ total_width more) f.number (2 ^ (f.width + total_width more)) (as_number 0 more)
+    (as_number (bits * 2 ^ f.width + f.number) more) (as_number (0 * 2 ^ f.width + f.number) more)
     (joined-behind more (bits * 2 ^ f.width + f.number)) (joined-behind more (0 * 2 ^ f.width + f.number)) (pow-add 2 f.width (total_width more))
 
-joined-cons : (f : Field) (more : List Field) → joined 0 (f ∷ more) ≡ f.number * 2 ^ total_width more + joined 0 more
+joined-cons : (f : Field) (more : List Field) → as_number 0 (f ∷ more) ≡ f.number * 2 ^ total_width more + as_number 0 more
 joined-cons f more =
     let e : 0 * 2 ^ f.width + f.number ≡ f.number = omega arith in
-    ap (λ (n : ℕ). joined n more) e ∙ joined-behind more f.number
+    ap (λ (n : ℕ). as_number n more) e ∙ joined-behind more f.number
 
-pub joined-fits : (fields : List Field) → AreWithin fields → joined 0 fields < 2 ^ total_width fields
+pub joined-fits : (fields : List Field) → AreWithin fields → as_number 0 fields < 2 ^ total_width fields
 joined-fits [] h = omega arith
 joined-fits (f ∷ more) h =
     rw (joined-cons f more, pow-add 2 f.width (total_width more), mul_comm (2 ^ f.width) (2 ^ total_width more))
-    (mul-add-lt f.number (2 ^ total_width more) (joined 0 more) (2 ^ f.width) h.0 (joined-fits more h.1))
+    (mul-add-lt f.number (2 ^ total_width more) (as_number 0 more) (2 ^ f.width) h.0 (joined-fits more h.1))
 
 pub within-from_in : (fields : List Field) (n : ℕ) → AreIn n fields → AreWithin fields
 within-from_in [] n h = tt
@@ -59,20 +59,20 @@ within-from_in (f ∷ more) n h =
     (rw h.0 fits, within-from_in more n h.1)
 
 -- fields that stand in a number make its lowest part
-pub joined-from_in : (fields : List Field) (n : ℕ) → AreIn n fields → joined 0 fields ≡ n % 2 ^ total_width fields
+pub joined-from_in : (fields : List Field) (n : ℕ) → AreIn n fields → as_number 0 fields ≡ n % 2 ^ total_width fields
 joined-from_in [] n h = omega arith
 joined-from_in (f ∷ more) n h =
     joined-cons f more
-    ∙ ap (λ (x : ℕ). x * 2 ^ total_width more + joined 0 more) h.0
+    ∙ ap (λ (x : ℕ). x * 2 ^ total_width more + as_number 0 more) h.0
     ∙ ap (λ (x : ℕ). n / 2 ^ total_width more % 2 ^ f.width * 2 ^ total_width more + x) (joined-from_in more n h.1)
     ∙ sym (mod-pow-add n f.width (total_width more))
 
 -- and the other way round
-pub in-from_joined : (fields : List Field) (n : ℕ) → AreWithin fields → joined 0 fields ≡ n % 2 ^ total_width fields → AreIn n fields
+pub in-from_joined : (fields : List Field) (n : ℕ) → AreWithin fields → as_number 0 fields ≡ n % 2 ^ total_width fields → AreIn n fields
 in-from_joined [] n h e = tt
 in-from_joined (f ∷ more) n h e =
     let w = total_width more in
-    let both = same_from_place f.number (joined 0 more) (n / 2 ^ w % 2 ^ f.width) (n % 2 ^ w) (2 ^ w)
+    let both = same_from_place f.number (as_number 0 more) (n / 2 ^ w % 2 ^ f.width) (n % 2 ^ w) (2 ^ w)
     (joined-fits more h.1) (mod_below n (2 ^ w) (pow_pos w)) (sym (joined-cons f more) ∙ e ∙ mod-pow-add n f.width w) in
     (both.0, in-from_joined more n h.1 both.1)
 
@@ -94,19 +94,19 @@ at-from_in (f ∷ more) bytes place e h =
 
 -- bytes in which the fields stand are the fields side by side
 pub bytes-from_at : (fields : List Field) (bytes : List ℕ) → AreBytes bytes → total_width fields ≡ 8 * length bytes → AreAt bytes 0 fields
-    → AreWithin fields × (bytes ≡ bytes_high_first (length bytes) (joined 0 fields))
+    → AreWithin fields × (bytes ≡ bytes_high_first (length bytes) (as_number 0 fields))
 bytes-from_at fields bytes b e h =
     let within = in-from_at fields bytes 0 (omega arith) h in
-    let number : joined 0 fields ≡ number_of bytes =
+    let number : as_number 0 fields ≡ number_of bytes =
     joined-from_in fields (number_of bytes) within ∙ ap (λ (k : ℕ). number_of bytes % 2 ^ k) e ∙ mod-eq_of_lt (number_of-fits bytes b) in
     (within-from_in fields (number_of bytes) within, sym (ap (bytes_high_first (length bytes)) number ∙ bytes_from_number bytes b))
 
 -- in the bytes of fields side by side each field stands at its place
-pub at-from_bytes : (fields : List Field) (n : ℕ) → total_width fields ≡ 8 * n → AreWithin fields → length (bytes_high_first n (joined 0 fields)) ≡ n
-    → AreAt (bytes_high_first n (joined 0 fields)) 0 fields
+pub at-from_bytes : (fields : List Field) (n : ℕ) → total_width fields ≡ 8 * n → AreWithin fields → length (bytes_high_first n (as_number 0 fields)) ≡ n
+    → AreAt (bytes_high_first n (as_number 0 fields)) 0 fields
 at-from_bytes fields n e h l =
-    let bytes = bytes_high_first n (joined 0 fields) in
-    let number : joined 0 fields ≡ number_of bytes % 2 ^ total_width fields =
-    sym (ap (λ (x : ℕ). x % 2 ^ total_width fields) (number_of-bytes n (joined 0 fields) ∙ ap (λ (k : ℕ). joined 0 fields % 2 ^ k) (sym e) ∙ mod-eq_of_lt (joined-fits fields h))
+    let bytes = bytes_high_first n (as_number 0 fields) in
+    let number : as_number 0 fields ≡ number_of bytes % 2 ^ total_width fields =
+    sym (ap (λ (x : ℕ). x % 2 ^ total_width fields) (number_of-bytes n (as_number 0 fields) ∙ ap (λ (k : ℕ). as_number 0 fields % 2 ^ k) (sym e) ∙ mod-eq_of_lt (joined-fits fields h))
     ∙ mod-eq_of_lt (joined-fits fields h)) in
     at-from_in fields bytes 0 (omega arith) (in-from_joined fields (number_of bytes) h number)

@@ -5,7 +5,7 @@ use Rattle.std.proofs.lemmas.List.{take_at, drop_at, drop-drop, take_all}
 use Rattle.std.proofs.lemmas.List.Elements.{All-append}
 use Rattle.std.specs.Int.{bytes_high_first}
 use Rattle.fisb_time.specs.declared.form.TimeForm.{TimeForm}
-use Rattle.bit_fields.specs.Bits.{Field, joined}
+use Rattle.bit_fields.specs.Bits.{Field, as_number}
 use Rattle.apdu_core.specs.Apdu.{Apdu, header_width, header_length, header_fields, fill_width, apdu_header, apdu_bytes, apdu_of}
 use Rattle.apdu_core.specs.Spelling.{FitsApdu, AreBytes, SpellsApdu}
 use Rattle.apdu_core.proofs.ByteLemmas.{length-bytes_high_first, bytes_high_first-bytes}
@@ -21,16 +21,16 @@ reads_back a fits payload =
     read-from_spelled (apdu_bytes a) a spelled
 
 pub size_of_header : (a : Apdu) → length (apdu_header a) ≡ header_length a.form (is_some a.segmentation)
-size_of_header a = length-bytes_high_first (header_length a.form (is_some a.segmentation)) (joined 0 (fields_with 0 a))
+size_of_header a = length-bytes_high_first (header_length a.form (is_some a.segmentation)) (as_number 0 (fields_with 0 a))
 
 pub size_of_bytes : (a : Apdu) → length (apdu_bytes a) ≡ header_length a.form (is_some a.segmentation) + length a.payload
 size_of_bytes a = length-append (apdu_header a) a.payload ∙ ap (λ (n : ℕ). n + length a.payload) (size_of_header a)
 
 pub bytes_of_bytes : (a : Apdu) → AreBytes a.payload → AreBytes (apdu_bytes a)
 bytes_of_bytes a payload =
-    All-append IsByte (apdu_header a) a.payload (bytes_high_first-bytes (header_length a.form (is_some a.segmentation)) (joined 0 (fields_with 0 a))) payload
+    All-append IsByte (apdu_header a) a.payload (bytes_high_first-bytes (header_length a.form (is_some a.segmentation)) (as_number 0 (fields_with 0 a))) payload
 
-joined-append : (xs ys : List Field) (bits : ℕ) → joined bits (xs ++ ys) ≡ joined (joined bits xs) ys
+joined-append : (xs ys : List Field) (bits : ℕ) → as_number bits (xs ++ ys) ≡ as_number (as_number bits xs) ys
 joined-append [] ys bits = refl
 joined-append (x ∷ xs) ys bits = joined-append xs ys (bits * 2 ^ x.width + x.number)
 
@@ -44,21 +44,21 @@ fill_most : (form : TimeForm) (s : Bool) → 8 * header_length form s - header_w
 fill_most form s = omega arith
 
 -- the end of the sixteen bytes of the fields and the fill
-pub header_at_end : (a : Apdu) (number n fill : ℕ) → number ≡ joined 0 (header_fields a) → number < 2 ^ 71 → n ≡ header_length a.form (is_some a.segmentation) → n ≤ 9 → fill ≡ fill_width a
+pub header_at_end : (a : Apdu) (number n fill : ℕ) → number ≡ as_number 0 (header_fields a) → number < 2 ^ 71 → n ≡ header_length a.form (is_some a.segmentation) → n ≤ 9 → fill ≡ fill_width a
     → take (16 - (16 - n)) (drop (16 - n) (bytes_high_first 16 (number * 2 ^ fill % 2 ^ 128))) ≡ apdu_header a
 header_at_end a number n fill is fits size most fill_is =
     let seven = fill_most a.form (is_some a.segmentation) in
     let small : fill ≤ 7 = omega arith in
     let shifted = shl_whole number 71 fill 128 fits (omega arith) in
-    let behind : joined 0 (fields_with 0 a) ≡ joined 0 (header_fields a) * 2 ^ fill_width a + 0 = joined-append (header_fields a) (record { width = fill_width a; number = 0 } ∷ []) 0 in
-    let value : number * 2 ^ fill ≡ joined 0 (fields_with 0 a) =
+    let behind : as_number 0 (fields_with 0 a) ≡ as_number 0 (header_fields a) * 2 ^ fill_width a + 0 = joined-append (header_fields a) (record { width = fill_width a; number = 0 } ∷ []) 0 in
+    let value : number * 2 ^ fill ≡ as_number 0 (fields_with 0 a) =
     ap (λ (k : ℕ). number * 2 ^ k) fill_is ∙ ap (λ (x : ℕ). x * 2 ^ fill_width a) is ∙ omega (arith, behind) in
     let cut = lowest (16 - n) n 16 (number * 2 ^ fill % 2 ^ 128) (omega arith) in
     let whole : take (16 - (16 - n)) (bytes_high_first n (number * 2 ^ fill % 2 ^ 128)) ≡ bytes_high_first n (number * 2 ^ fill % 2 ^ 128) =
     take_all (16 - (16 - n)) (bytes_high_first n (number * 2 ^ fill % 2 ^ 128)) (omega (arith, length-bytes_high_first n (number * 2 ^ fill % 2 ^ 128))) in
     ap (take (16 - (16 - n))) cut ∙ whole
     ∙ ap (bytes_high_first n) (shifted ∙ value)
-    ∙ ap (λ (k : ℕ). bytes_high_first k (joined 0 (fields_with 0 a))) size
+    ∙ ap (λ (k : ℕ). bytes_high_first k (as_number 0 (fields_with 0 a))) size
 
 -- two parts that are written one behind the other at the front of a room
 pub placed : (header payload room : List ℕ) (n p : ℕ) → length header ≡ n → length payload ≡ p
@@ -75,7 +75,7 @@ header_size a s n segmented size = size ∙ ap (header_length a.form) segmented 
 -- the header that is cut out of sixteen bytes
 pub header_written :
     (a : Apdu) (s : Bool) (number n width : ℕ) (bytes : List ℕ) → s ≡ is_some a.segmentation → n ≡ header_length a.form s → width ≡ header_width a.form s
-    → number ≡ joined 0 (header_fields a) → number < 2 ^ 71 → bytes ≡ bytes_high_first 16 (number * 2 ^ (8 * n - width) % 2 ^ 128)
+    → number ≡ as_number 0 (header_fields a) → number < 2 ^ 71 → bytes ≡ bytes_high_first 16 (number * 2 ^ (8 * n - width) % 2 ^ 128)
     → take (16 - (16 - n)) (drop (16 - n) bytes) ≡ apdu_header a
 header_written a s number n width bytes segmented size width_is is fits bytes_are =
     let whole : n ≡ header_length a.form (is_some a.segmentation) = size ∙ ap (header_length a.form) segmented in

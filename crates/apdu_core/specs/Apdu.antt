@@ -6,7 +6,7 @@ use Rattle.std.specs.Int.{bytes_high_first}
 use Rattle.fisb_time.specs.declared.form.TimeForm.{TimeForm}
 use Rattle.fisb_time.specs.declared.form.TimeForm.TheVariants.{Minute, Second, DayMinute, DaySecond}
 use Rattle.fisb_time.specs.declared.form.TimeFields.{TimeFields}
-use Rattle.bit_fields.specs.Bits.{Field, joined, field_at}
+use Rattle.bit_fields.specs.Bits.{Field, as_number, field_at}
 use Rattle.apdu_core.specs.declared.unit.Seg.{Seg}
 use Rattle.apdu_core.specs.declared.fault.ApduFault.{ApduFault}
 use Rattle.apdu_core.specs.declared.fault.ApduFault.TheVariants.{Short, Flagged, BadSegment}
@@ -81,7 +81,7 @@ fill_width a =
 -- the header with these fill bits
 abbrev pub header_with : ℕ → Apdu → List ℕ
 header_with fill a = bytes_high_first (header_length a.form (is_some a.segmentation))
-    (joined 0 (header_fields a ++ record { width = fill_width a; number = fill } ∷ []))
+    (as_number 0 (header_fields a ++ record { width = fill_width a; number = fill } ∷ []))
 
 -- the header with its fill 0
 abbrev pub apdu_header : Apdu → List ℕ

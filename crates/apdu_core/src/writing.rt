@@ -1,7 +1,7 @@
 //! The bytes of an APDU.
 ghost use Rattle.std.specs.Prelude.{◌≡◌, ℕ, ◌+◌, ◌-◌, ◌*◌, ◌^◌, ◌<◌, ◌≤◌, ◌∷◌, [], ◌++◌, List};
 ghost use Rattle.std.specs.Prelude.{drop, length, is_some};
-ghost use Rattle.bit_fields.specs.Bits.{joined};
+ghost use Rattle.bit_fields.specs.Bits.{as_number};
 ghost use Rattle.apdu_core.specs.Apdu.{apdu_bytes, form_number, header_fields, segment_fields};
 ghost use Rattle.apdu_core.specs.Apdu.{time_fields};
 ghost use Rattle.apdu_core.specs.Spelling.{FitsApdu, FitsSegmentation, FitsTime};
@@ -32,7 +32,7 @@ pub fn write_apdu(apdu: &Apdu<'_>, room: &mut [u8]) -> usize
 /// The fields of a header before its fill as one number.
 fn header_number(apdu: &Apdu<'_>) -> u128
     requires { FitsApdu (apdu_view apdu.now) }
-    ensures value { result ≡ joined 0 (header_fields (apdu_view apdu.now)) }
+    ensures value { result ≡ as_number 0 (header_fields (apdu_view apdu.now)) }
     ensures bound { result < 2 ^ 71 }
 {
     let segmented = u128::from(apdu.seg.is_some());
@@ -57,7 +57,7 @@ fn form_number(form: TimeForm) -> u8
 fn with_time(number: u128, form: TimeForm, time: &TimeFields) -> u128
     requires small { number < 2 ^ 17 }
     requires fits { FitsTime form time.now }
-    ensures value { result ≡ joined number (time_fields form time.now) }
+    ensures value { result ≡ as_number number (time_fields form time.now) }
     ensures bound { result < 2 ^ 43 }
 {
     let dated = match form {
@@ -77,7 +77,7 @@ fn with_time(number: u128, form: TimeForm, time: &TimeFields) -> u128
 fn with_segment(number: u128, seg: Option<Seg>) -> u128
     requires small { number < 2 ^ 43 }
     requires fits { FitsSegmentation seg }
-    ensures value { result ≡ joined number (segment_fields seg) }
+    ensures value { result ≡ as_number number (segment_fields seg) }
     ensures bound { result < 2 ^ 71 }
 {
     match seg {

@@ -16,9 +16,9 @@ pub record Field : Type 0 where
   pub number : ℕ
 
 -- the fields side by side, as one number, behind the bits that stand already
-abbrev pub joined : ℕ → List Field → ℕ
-joined bits [] = bits
-joined bits (field ∷ more) = joined (bits * 2 ^ field.width + field.number) more
+abbrev pub as_number : ℕ → List Field → ℕ
+as_number bits [] = bits
+as_number bits (field ∷ more) = as_number (bits * 2 ^ field.width + field.number) more
 
 -- the bytes as one number, the first byte highest
 abbrev pub number_of : List ℕ → ℕ

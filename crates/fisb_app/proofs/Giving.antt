@@ -6,7 +6,7 @@ use Rattle.life_table.specs.LifeTable.{LifeTable}
 use Rattle.uplink_frame.specs.declared.station.StationId.{StationId}
 use Rattle.ground_core.specs.Update.{Update}
 use Rattle.ground_core.specs.History.{Event, accepted, items}
-use Rattle.ground_core.specs.OnAir.{clock_of}
+use Rattle.ground_core.specs.OnAir.{history_clock}
 use Rattle.ground_core.specs.Refusal.{give_refusal}
 use Rattle.ground_core.specs.declared.fault.GiveFault.{GiveFault}
 use Rattle.script_core.specs.Script.{Line, text, radar, blank}
@@ -22,7 +22,7 @@ use Rattle.fisb_app.specs.Stands.{Sends, HasGiven, HasAnswered, HasTried}
 pub update-answered : {G A B : Type 0} (sends : Sends G) (table : LifeTable) (station : StationId) (history : List Event) (old new : G) (moment : ℕ) (update : Update)
     (given : Result A GiveFault) (result : Result B Stop) (Done : Type 0) → HasGiven sends old new moment update given → HasAnswered given result → sends table station history old
     → (sends table station (accepted moment update ∷ history) new → Done)
-    → HasTried (option_or (option_map Clock (last_above (clock_of history) moment)) (option_map reason_of_update (give_refusal table (items table station history) moment update)))
+    → HasTried (option_or (option_map Clock (last_above (history_clock history) moment)) (option_map reason_of_update (give_refusal table (items table station history) moment update)))
     (λ done. Done) result
 update-answered sends table station history old new moment update (Ok given) (Ok done) Done h a s more =
     let against = h.nothing_against table station history s in (

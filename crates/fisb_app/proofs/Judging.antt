@@ -8,7 +8,7 @@ use Rattle.script_core.specs.Fields.{line_of}
 use Rattle.refusal_core.specs.declared.reason.Reason.{Reason}
 use Rattle.refusal_core.specs.declared.reason.Reason.TheVariants.{Station}
 use Rattle.fisb_app.specs.declared.party.Party.{Party}
-use Rattle.fisb_app.specs.Past.{lines_of, moment_of, latest, has_begun}
+use Rattle.fisb_app.specs.Past.{lines_of, line_moment, latest, has_begun}
 use Rattle.fisb_app.specs.Reading.{CanCome, front_refusal, party_refusal, station_refusal, clock_refusal, own_refusal, is_station}
 use Rattle.fisb_app.specs.Output.{Shows, given_text}
 use Rattle.fisb_app.specs.Work.{answer, answer_under, formed_answer, line_answer, text_unless, opening_table}
@@ -57,7 +57,7 @@ both-false false begun e is = cc
 pub record IsClear (party : Party) (acted : List Line) (line : Line) : Type 0 where
   pub can : CanCome acted line
   pub here : party_refusal party line ≡ None
-  pub clock : clock_refusal (moment_of line) (latest acted) ≡ None
+  pub clock : clock_refusal (line_moment line) (latest acted) ≡ None
 
 pub clear : (party : Party) (acted : List Line) (line : Line) → front_refusal party (has_begun acted) (latest acted) line ≡ None → IsClear party acted line
 clear party acted line e =

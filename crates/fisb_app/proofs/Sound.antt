@@ -6,6 +6,8 @@ use Rattle.std.proofs.lemmas.Bool.{cases_Bool, and_parts}
 use Rattle.std.proofs.lemmas.Bool.Decides.{nat_tests}
 use Rattle.std.proofs.lemmas.List.{get_or_past}
 use Rattle.list_members.specs.Membership.{IsIn}
+use Rattle.list_members.proofs.ListMembers.{got_in}
+use Rattle.list_members.proofs.Tests.{none_mapped}
 use Rattle.uplink_frame.specs.declared.station.StationId.{StationId}
 use Rattle.uplink_frame.specs.Station.{FitsStation}
 use Rattle.uplink_frame.specs.Laws.{StationsAreTold}
@@ -18,7 +20,7 @@ use Rattle.ground_core.specs.Update as updates
 use Rattle.ground_core.specs.Update.{IsUpdate}
 use Rattle.ground_core.specs.History.{Event, accepted, fill}
 use Rattle.ground_core.specs.Airing.{Frame, frame_payload}
-use Rattle.ground_core.specs.Broadcast.{StationEvent, IsBroadcast, IsNext, IsNotBefore, frames}
+use Rattle.ground_core.specs.Broadcast.{StationEvent, IsBroadcast, IsNext, IsNotBeforeLast, frames}
 use Rattle.ground_core.specs.Sent.{FramesReadBack}
 use Rattle.receiver_core.specs.Reception.{Reception, received_picture}
 use Rattle.receiver_core.specs.Hearing.{clock_of, is_valid, payload_refusal, refusal_of_air, clock, lost, no_application}
@@ -30,7 +32,7 @@ use Rattle.script_core.specs.Script.{Line, empty, station, text, radar, blank, t
 use Rattle.script_core.specs.LineView.{HasRanges}
 use Rattle.refusal_core.specs.declared.reason.Reason.TheVariants.{Clock, Late}
 use Rattle.fisb_app.specs.declared.party.Party.TheVariants.{Link}
-use Rattle.fisb_app.specs.Past.{events, broadcast, hearings, station_of, sent_frames, air_of, air_heard, reception_from, received_frame, reception_by, receptions, latest}
+use Rattle.fisb_app.specs.Past.{events, broadcast, hearings, station_after, sent_frames, air_of, air_heard, reception_from, received_frame, reception_by, receptions, latest}
 use Rattle.fisb_app.specs.Reading.{refusal_of, own_refusal, update_refusal, frame_refusal, receiver_refusal, earlier_than, reason_of_update}
 use Rattle.fisb_app.specs.Damage.{all_near, has_near_blocks, is_near_frame}
 use Rattle.fisb_app.proofs.Judging.{or-none, IsClear, clear}
@@ -50,11 +52,11 @@ IsNotBehind moment None = Unit {0}
 IsNotBehind moment (Some kept) = kept ≤ moment
 
 pub record IsSound (table : LifeTable) (acted : List Line) : Type 0 where
-  pub station : FitsStation (station_of acted)
+  pub station : FitsStation (station_after acted)
   pub is_broadcast : IsBroadcast table (broadcast acted)
   pub heard : AreHeard table.late (sent_frames table acted) (hearings acted)
   pub received_is : all_near table acted ≡ true → receptions table acted ≡ receptions_of (sent_frames table acted) (hearings acted)
-  pub events_before : (moment : ℕ) → IsNotBehind moment (latest acted) → IsNotBefore moment (events acted)
+  pub events_before : (moment : ℕ) → IsNotBehind moment (latest acted) → IsNotBeforeLast moment (events acted)
   pub heard_before : (moment : ℕ) → IsNotBehind moment (latest acted) → IsAfterHearings moment (hearings acted)
   pub sent_before : (moment place : ℕ) (frame : Frame) → IsNotBehind moment (latest acted)
       → slice_get (sent_frames table acted) place ≡ Some frame → frame.moment ≤ moment
@@ -69,10 +71,6 @@ sound-start table = record {
   heard_before = λ moment is. tt;
   sent_before = λ moment place frame is found. cc;
 }
-
-map-none : {A B : Type 0} (f : A → B) (o : Option A) → option_map f o ≡ None → o ≡ None
-map-none f None e = refl
-map-none f (Some x) e = cc
 
 -- a moment that is not behind a line is behind none before it
 pub not-behind : (moment : ℕ) (last : Option ℕ) → option_map Clock (earlier_than (Some moment) last) ≡ None → IsNotBehind moment last
@@ -96,11 +94,6 @@ found-last [] last (suc place) x e = cc
 found-last (y ∷ ys) last zero x e = inl e
 found-last (y ∷ ys) last (suc place) x e = found-last ys last place x e
 
-found-in : {A : Type 0} (xs : List A) (place : ℕ) (x : A) → slice_get xs place ≡ Some x → IsIn x xs
-found-in [] place x e = cc
-found-in (y ∷ ys) zero x e = inl cc
-found-in (y ∷ ys) (suc place) x e = inr (found-in ys place x e)
-
 byte-at : (bytes : List ℕ) → All (λ byte. byte < 256) bytes → (i : ℕ) → slice_index bytes i < 256
 byte-at bytes all i = elim (cases_Bool (nat_lt i (length bytes))) [
   | inl within ↦ all i 0 (grind (arith, nat_tests))
@@ -112,10 +105,10 @@ pub received-near : Laws → (table : LifeTable) (sent : List StationEvent) (pas
     → IsBroadcast table sent → receiver_refusal past moment ≡ None → slice_get (frames table sent) place ≡ Some frame → has_near_blocks air (air_of frame) ≡ true
     → reception_from past moment air ≡ Some (record { moment = moment; payload = frame_payload frame })
 received-near laws table sent past moment place air frame rules sound none found near =
-    let is = laws.frames_back table sent frame rules sound (found-in (frames table sent) place frame found) in
+    let is = laws.frames_back table sent frame rules sound (got_in frame (frames table sent) place found) in
     let woven = laws.near (frame_payload frame) air is.size (byte-at _ is.bytes) (near-blocks air (air_of frame) near) in
     let valid : is_valid (frame_payload frame) ≡ true = ap (λ h. h.app_valid) is.header_back in
-    let timely = map-none Clock (last_above (clock_of past) moment) none in
+    let timely = none_mapped Clock (last_above (clock_of past) moment) none in
     let first : refusal_of_air past moment air ≡ option_or (option_map lost (lost_block_in air)) (option_and_then payload_refusal (payload_in air)) =
     ap (λ c. option_or (option_map clock c) (option_or (option_map lost (lost_block_in air)) (option_and_then payload_refusal (payload_in air)))) timely in
     let second : refusal_of_air past moment air ≡ option_and_then payload_refusal (payload_in air) =
@@ -140,10 +133,10 @@ reception-heard laws table acted past moment place wrong (Some frame) rules soun
     received-near laws table (broadcast acted) past moment place (air_heard wrong (air_of frame)) frame rules sound none is near
 
 -- an update that is accepted, and a fill, are the next event of the broadcast
-next-event : StationsAreTold → (table : LifeTable) (acted : List Line) (event : Event) → IsSound table acted → IsNext table (station_of acted) (events acted) event
-    → IsBroadcast table (record { station = station_of acted; event = event } ∷ broadcast acted)
+next-event : StationsAreTold → (table : LifeTable) (acted : List Line) (event : Event) → IsSound table acted → IsNext table (station_after acted) (events acted) event
+    → IsBroadcast table (record { station = station_after acted; event = event } ∷ broadcast acted)
 next-event told table acted event s next =
-    (s.station, subst (λ past. IsNext table (station_of acted) past event) (sym (history-back told (station_of acted) (events acted))) next, s.is_broadcast)
+    (s.station, subst (λ past. IsNext table (station_after acted) past event) (sym (history-back told (station_after acted) (events acted))) next, s.is_broadcast)
 
 -- what is known of a broadcast with an update more
 record IsSoundWith (table : LifeTable) (acted : List Line) (moment : ℕ) (sent : List StationEvent) : Type 0 where
@@ -155,11 +148,11 @@ record IsSoundWith (table : LifeTable) (acted : List Line) (moment : ℕ) (sent 
 
 sound-update : Laws → (table : LifeTable) (acted : List Line) (moment : ℕ) (update : updates.Update) → IsMoment moment → IsUpdate update
     → option_map Clock (earlier_than (Some moment) (latest acted)) ≡ None → update_refusal table acted moment update ≡ None → IsSound table acted
-    → IsSoundWith table acted moment (record { station = station_of acted; event = accepted moment update } ∷ broadcast acted)
+    → IsSoundWith table acted moment (record { station = station_after acted; event = accepted moment update } ∷ broadcast acted)
 sound-update laws table acted moment update timely is behind_none own s =
     let behind = not-behind moment (latest acted) behind_none in
-    let given = map-none reason_of_update _ (or-none (option_map Clock _) _ own).1 in
-    let b : StationEvent = record { station = station_of acted; event = accepted moment update } in
+    let given = none_mapped reason_of_update _ (or-none (option_map Clock _) _ own).1 in
+    let b : StationEvent = record { station = station_after acted; event = accepted moment update } in
     let still = laws.stay table b (broadcast acted) (hearings acted) s.heard in
     record {
       is_broadcast = next-event laws.told table acted _ s (record {
@@ -180,7 +173,7 @@ sound-turn : Laws → (table : LifeTable) (acted : List Line) (moment slot size 
     → IsClear Link acted (turn moment slot) → IsSound table acted → IsSound table (turn moment slot ∷ acted)
 sound-turn laws table acted moment slot size ranges is s =
     let behind = not-behind moment (latest acted) is.clock in
-    let b : StationEvent = record { station = station_of acted; event = fill moment slot } in
+    let b : StationEvent = record { station = station_after acted; event = fill moment slot } in
     let still = laws.stay table b (broadcast acted) (hearings acted) s.heard in
     record {
       station = s.station;
@@ -242,7 +235,7 @@ sound-station table acted named fits is s =
     let same = unbegun-frames table acted line none refl in
     record {
       station = fits;
-      is_broadcast = subst (λ e. IsBroadcast table (map (λ event. record { station = station_of (line ∷ acted); event = event }) e)) (sym (unbegun-events acted none)) tt;
+      is_broadcast = subst (λ e. IsBroadcast table (map (λ event. record { station = station_after (line ∷ acted); event = event }) e)) (sym (unbegun-events acted none)) tt;
       heard = subst (λ f. AreHeard table.late f (hearings acted)) (sym same) s.heard;
       received_is = λ near. s.received_is near ∙ ap (λ f. receptions_of f (hearings acted)) (sym same);
       events_before = s.events_before;

@@ -13,7 +13,7 @@ use Rattle.picture_core.specs.Views.{entry_view, shown_value}
 use Rattle.picture_core.specs.declared.entry.Entry.{Entry as ShownEntry}
 use Rattle.ground_core.specs.History.{fill}
 use Rattle.ground_core.specs.Airing.{Frame, frame_after, frame_payload}
-use Rattle.ground_core.specs.OnAir.{IsOnAir, clock_of}
+use Rattle.ground_core.specs.OnAir.{IsOnAir, history_clock}
 use Rattle.ground_core.specs.declared.air_frame.AirFrame.{AirFrame}
 use Rattle.receiver_core.specs.Reception.{Reception, received_picture}
 use Rattle.receiver_core.specs.Hearing as heard
@@ -27,7 +27,7 @@ use Rattle.workload.specs.declared.step.Step.TheVariants as steps
 use Rattle.workload.specs.Hearings.{frame_after as changed_frame}
 use Rattle.fisb_app.specs.declared.making.Making.{Making}
 use Rattle.fisb_app.specs.declared.counts.Counts.{Counts}
-use Rattle.fisb_app.specs.Past.{events, station_of, sent_frames, receptions, latest, air_of, air_heard, reception_from, reception_by, received_frame}
+use Rattle.fisb_app.specs.Past.{events, station_after, sent_frames, receptions, latest, air_of, air_heard, reception_from, reception_by, received_frame}
 use Rattle.fisb_app.specs.Reading.{own_refusal, turn_refusal, frame_refusal, receiver_refusal, earlier_than, frame_limit}
 use Rattle.fisb_app.specs.declared.party.Party.TheVariants.{Link as LinkParty}
 use Rattle.fisb_app.specs.Stands.{Sends, Hears, sent_view, aired_view}
@@ -68,17 +68,17 @@ show-step table acted moment = record { after = refl; moment_is = refl }
 pub full-turn : (count : ℕ) (acted : List Line) (moment : ℕ) → frame_limit ≤ count → turn_refusal count acted moment ≡ Some Frames
 full-turn count acted moment full =
     let test : nat_lt count frame_limit ≡ false = search (rules, tests) in
-    ap (λ b. if b then option_map Clock (last_above (clock_of (events acted)) moment) else Some Frames) test
+    ap (λ b. if b then option_map Clock (last_above (history_clock (events acted)) moment) else Some Frames) test
 
-pub room-turn : (count : ℕ) (acted : List Line) (moment : ℕ) (last : Option ℕ) → count < frame_limit → last_above (clock_of (events acted)) moment ≡ last
+pub room-turn : (count : ℕ) (acted : List Line) (moment : ℕ) (last : Option ℕ) → count < frame_limit → last_above (history_clock (events acted)) moment ≡ last
     → turn_refusal count acted moment ≡ option_map Clock last
 room-turn count acted moment last room is =
     let test : nat_lt count frame_limit ≡ true = search (rules, tests) in
-    ap (λ b. if b then option_map Clock (last_above (clock_of (events acted)) moment) else Some Frames) test ∙ ap (option_map Clock) is
+    ap (λ b. if b then option_map Clock (last_above (history_clock (events acted)) moment) else Some Frames) test ∙ ap (option_map Clock) is
 
 pub turn-made : StationsAreTold → {G E : Type 0} (sends : Sends G) (hears : Hears E) (table : LifeTable) (acted : List Line) (moment slot : ℕ) (old : Making G E) (ground : G) (frame : AirFrame)
-    → Makes sends hears table acted old → sends table (station_of acted) (fill moment slot ∷ events acted) ground
-    → IsOnAir (frame_after table (station_of acted) (events acted) moment slot) frame
+    → Makes sends hears table acted old → sends table (station_after acted) (fill moment slot ∷ events acted) ground
+    → IsOnAir (frame_after table (station_after acted) (events acted) moment slot) frame
     → Makes sends hears table (turn moment slot ∷ acted) (record old {
       ground = ground;
       last = Some (record { moment = frame.moment; air = frame.air });
@@ -86,7 +86,7 @@ pub turn-made : StationsAreTold → {G E : Type 0} (sends : Sends G) (hears : He
       clock = Some moment;
     })
 turn-made told sends hears table acted moment slot old ground frame h s on =
-    let sent = frame_after table (station_of acted) (events acted) moment slot in
+    let sent = frame_after table (station_after acted) (events acted) moment slot in
     let more = frames-more told table acted moment slot in record {
       ground = s;
       ear = h.ear;

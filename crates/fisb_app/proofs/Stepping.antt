@@ -17,7 +17,7 @@ use Rattle.workload.specs.declared.step.Step.TheVariants as steps
 use Rattle.fisb_app.specs.declared.party.Party.TheVariants.{Link as LinkParty}
 use Rattle.fisb_app.specs.declared.making.Making.{Making}
 use Rattle.fisb_app.specs.declared.counts.Counts.{Counts}
-use Rattle.fisb_app.specs.Past.{events, station_of, sent_frames, receptions, latest, moment_of}
+use Rattle.fisb_app.specs.Past.{events, station_after, sent_frames, receptions, latest, line_moment}
 use Rattle.fisb_app.specs.Reading.{refusal_of, own_refusal, update_refusal, earlier_than}
 use Rattle.fisb_app.specs.Stands.{Sends, Hears, HasGiven, HasAnswered, HasTried}
 use Rattle.fisb_app.specs.Make.{acted_unless, after_step, step_line, block_named, counts_of, total, updates_by, corrected_by, entries_by, last_frame}
@@ -45,7 +45,7 @@ free-acted own line acted e = ap (λ r. acted_unless r line acted) e
 -- the line of a step is the next one, unless a reason stands against it
 pub record IsNext (table : LifeTable) (acted : List Line) (step : Step) (moment : ℕ) (line : Line) (own : Option Reason) : Type 0 where
   pub after : after_step table acted step ≡ acted_unless (against (earlier_than (Some moment) (latest acted)) own) line acted
-  pub moment_is : moment_of line ≡ Some moment
+  pub moment_is : line_moment line ≡ Some moment
 
 pub early-step : {G E : Type 0} (sends : Sends G) (hears : Hears E) (table : LifeTable) (acted : List Line) (step : Step) (moment : ℕ) (line : Line) (own : Option Reason) (making : Making G E)
     → IsNext table acted step moment line own → Makes sends hears table acted making → is_some (earlier_than (Some moment) making.clock) ≡ true
@@ -82,7 +82,7 @@ same-counts a b u t h c e =
 -- a line that gives an update
 pub record IsUpdateStep (table : LifeTable) (acted : List Line) (step : Step) (moment : ℕ) (line : Line) (update : Update) : Type 0 where
   pub next : IsNext table acted step moment line (update_refusal table acted moment update)
-  pub station : station_of (line ∷ acted) ≡ station_of acted
+  pub station : station_after (line ∷ acted) ≡ station_after acted
   pub events_are : events (line ∷ acted) ≡ accepted moment update ∷ events acted
   pub frames_are : sent_frames table (line ∷ acted) ≡ sent_frames table acted
   pub receptions_are : receptions table (line ∷ acted) ≡ receptions table acted
@@ -134,10 +134,10 @@ blanks-step table acted moment numbers = record {
 
 -- what was made with an update more
 update-made : {G E : Type 0} (sends : Sends G) (hears : Hears E) (table : LifeTable) (acted : List Line) (step : Step) (moment : ℕ) (line : Line) (update : Update) (old : Making G E) (ground : G)
-    → IsUpdateStep table acted step moment line update → Makes sends hears table acted old → sends table (station_of acted) (accepted moment update ∷ events acted) ground
+    → IsUpdateStep table acted step moment line update → Makes sends hears table acted old → sends table (station_after acted) (accepted moment update ∷ events acted) ground
     → Makes sends hears table (line ∷ acted) (with_update moment (record old { ground = ground }))
 update-made sends hears table acted step moment line update old ground is h s = record {
-  ground = subst (λ place. sends table place (events (line ∷ acted)) ground) (sym is.station) (subst (λ past. sends table (station_of acted) past ground) (sym is.events_are) s);
+  ground = subst (λ place. sends table place (events (line ∷ acted)) ground) (sym is.station) (subst (λ past. sends table (station_after acted) past ground) (sym is.events_are) s);
   ear = subst (λ past. hears table past old.ear) (sym is.receptions_are) h.ear;
   late = h.late;
   clock = ap (λ m. option_or m (latest acted)) (sym is.next.moment_is);
@@ -157,7 +157,7 @@ update-tried : {G E A B C : Type 0} (sends : Sends G) (hears : Hears E) (table :
     (given : Result A GiveFault) (tried : Result B Stop) (result : Result (Unit {0}) C)
     → IsUpdateStep table acted step moment line update → after_step table acted step ≡ acted_unless (update_refusal table acted moment update) line acted → Makes sends hears table acted old
     → HasGiven sends old.ground ground moment update given → HasAnswered given tried
-    → HasTried (update_refusal table acted moment update) (λ done. sends table (station_of acted) (accepted moment update ∷ events acted) ground) tried
+    → HasTried (update_refusal table acted moment update) (λ done. sends table (station_after acted) (accepted moment update ∷ events acted) ground) tried
     → IsCounted moment (record old { ground = ground }) new tried result
     → OnOk result (Makes sends hears table (after_step table acted step) new)
 update-tried sends hears table acted step moment line update old new ground given tried (Err fault) is after h g a t counted = tt
@@ -170,7 +170,7 @@ update-tried sends hears table acted step moment line update old new ground (Err
 update-tried sends hears table acted step moment line update old new ground (Err fault) (Err (Refused why)) (Ok u) is after h g a t counted =
     subst (Makes sends hears table (after_step table acted step)) (sym counted)
     (refused-step sends hears table acted _ line _ why (record old { ground = ground }) after t
-    (record { ground = g.same table (station_of acted) (events acted) h.ground; ear = h.ear; late = h.late; clock = h.clock; last = h.last; counts = h.counts }))
+    (record { ground = g.same table (station_after acted) (events acted) h.ground; ear = h.ear; late = h.late; clock = h.clock; last = h.last; counts = h.counts }))
 
 -- an update in time, which is counted where it is given
 pub update-taken : {G E A B C : Type 0} (sends : Sends G) (hears : Hears E) (table : LifeTable) (acted : List Line) (step : Step) (moment : ℕ) (line : Line) (update : Update) (old new : Making G E) (ground : G)
@@ -183,6 +183,6 @@ pub update-taken : {G E A B C : Type 0} (sends : Sends G) (hears : Hears E) (tab
 update-taken sends hears table acted step moment line update old new ground given tried result is early g a counted h =
     update-tried sends hears table acted step moment line update old new ground given tried result is
     (timely-step sends hears table acted step moment line _ old is.next h early) h g a
-    (update-answered sends table (station_of acted) (events acted) old.ground ground moment update given tried
-    (sends table (station_of acted) (accepted moment update ∷ events acted) ground) g a h.ground (λ s. s))
+    (update-answered sends table (station_after acted) (events acted) old.ground ground moment update given tried
+    (sends table (station_after acted) (accepted moment update ∷ events acted) ground) g a h.ground (λ s. s))
     counted

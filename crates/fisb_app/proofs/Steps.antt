@@ -18,7 +18,7 @@ use Rattle.run_core.specs.Actor.{HasActed}
 use Rattle.run_core.specs.declared.stop.Stop.{Stop}
 use Rattle.run_core.specs.declared.stop.Stop.TheVariants.{Refused, NoMemory}
 use Rattle.fisb_app.specs.declared.in_order.InOrder.{InOrder}
-use Rattle.fisb_app.specs.Past.{lines_of, reception_by, moment_of, latest, has_begun, is_empty}
+use Rattle.fisb_app.specs.Past.{lines_of, reception_by, line_moment, latest, has_begun, is_empty}
 use Rattle.fisb_app.specs.Reading.{receiver_refusal, reason_of_update}
 use Rattle.fisb_app.specs.Output.{heard_by}
 use Rattle.fisb_app.specs.Work.{text_unless}
@@ -41,12 +41,12 @@ tells-acted S told own given NoMemory e is = tt
 -- a line that was acted on in its order is one more
 pub in-order-more : {P : Type 0} (holds : List ℕ → List Line → P → Type 0) (bytes : List ℕ) (past : List (List ℕ)) (raw : List ℕ) (line : Line)
     (old new : InOrder P) (made : P) → line_of raw ≡ Some line → IsInOrder holds bytes past old → holds bytes (line ∷ lines_of past) made
-    → new.inner ≡ made → new.clock ≡ option_or (moment_of line) old.clock → new.has_begun ≡ (old.has_begun || not (is_empty line))
+    → new.inner ≡ made → new.clock ≡ option_or (line_moment line) old.clock → new.has_begun ≡ (old.has_begun || not (is_empty line))
     → IsInOrder holds bytes (raw ∷ past) new
 in-order-more holds bytes past raw line old new made is s h inner clocked begun =
     let more = lines-more raw past line is in record {
       parts = subst (λ acted. holds bytes acted new.inner) (sym more) (subst (λ p. holds bytes (line ∷ lines_of past) p) (sym inner) h);
-      clock = clocked ∙ ap (option_or (moment_of line)) s.clock ∙ ap latest (sym more);
+      clock = clocked ∙ ap (option_or (line_moment line)) s.clock ∙ ap latest (sym more);
       begun = begun ∙ ap (λ b. b || not (is_empty line)) s.begun ∙ ap has_begun (sym more);
     }
 

@@ -13,7 +13,7 @@ use Rattle.ground_core.specs.OnAir.{IsOnAir}
 use Rattle.ground_core.specs.declared.air_frame.AirFrame.{AirFrame}
 use Rattle.script_core.specs.Script.{Line, empty, turn}
 use Rattle.script_core.specs.Printed.{sent_line}
-use Rattle.fisb_app.specs.Past.{events, station_of, sent_frames, has_begun}
+use Rattle.fisb_app.specs.Past.{events, station_after, sent_frames, has_begun}
 use Rattle.fisb_app.specs.Output.{sent_frame}
 use Rattle.fisb_app.specs.Stands.{Aired, aired_view}
 
@@ -25,9 +25,9 @@ history-back told place (event ∷ past) =
     rw same (ap (λ rest. event ∷ rest) (history-back told place past))
 
 pub frames-more : StationsAreTold → (table : LifeTable) (acted : List Line) (moment slot : ℕ)
-    → sent_frames table (turn moment slot ∷ acted) ≡ sent_frames table acted ++ frame_after table (station_of acted) (events acted) moment slot ∷ []
+    → sent_frames table (turn moment slot ∷ acted) ≡ sent_frames table acted ++ frame_after table (station_after acted) (events acted) moment slot ∷ []
 frames-more told table acted moment slot =
-    ap (λ past. sent_frames table acted ++ frame_after table (station_of acted) past moment slot ∷ []) (history-back told (station_of acted) (events acted))
+    ap (λ past. sent_frames table acted ++ frame_after table (station_after acted) past moment slot ∷ []) (history-back told (station_after acted) (events acted))
 
 pub map-last : {A B : Type 0} (f : A → B) (xs : List A) (x : A) → map f (xs ++ x ∷ []) ≡ map f xs ++ f x ∷ []
 map-last f [] x = refl
@@ -43,10 +43,10 @@ aired-alike sent frame is =
 
 -- one frame more is kept
 pub kept-more : StationsAreTold → (table : LifeTable) (acted : List Line) (moment slot : ℕ) (kept : List Aired) (frame : AirFrame)
-    → kept ≡ map aired_view (sent_frames table acted) → IsOnAir (frame_after table (station_of acted) (events acted) moment slot) frame
+    → kept ≡ map aired_view (sent_frames table acted) → IsOnAir (frame_after table (station_after acted) (events acted) moment slot) frame
     → kept ++ record { moment = frame.moment; air = frame.air } ∷ [] ≡ map aired_view (sent_frames table (turn moment slot ∷ acted))
 kept-more told table acted moment slot kept frame is on =
-    let sent = frame_after table (station_of acted) (events acted) moment slot in
+    let sent = frame_after table (station_after acted) (events acted) moment slot in
     ap (λ list. list ++ record { moment = frame.moment; air = frame.air } ∷ []) is
     ∙ ap (λ one. map aired_view (sent_frames table acted) ++ one ∷ []) (aired-alike sent frame on)
     ∙ sym (map-last aired_view (sent_frames table acted) sent)
@@ -77,5 +77,5 @@ pub unbegun-frames : (table : LifeTable) (acted : List Line) (line : Line) → h
     → sent_frames table (line ∷ acted) ≡ sent_frames table acted
 unbegun-frames table acted line e same =
     let none = unbegun-events acted e in
-    ap (λ list. frames table (map (λ event. record { station = station_of (line ∷ acted); event = event }) list)) (same ∙ none)
-    ∙ sym (ap (λ list. frames table (map (λ event. record { station = station_of acted; event = event }) list)) none)
+    ap (λ list. frames table (map (λ event. record { station = station_after (line ∷ acted); event = event }) list)) (same ∙ none)
+    ∙ sym (ap (λ list. frames table (map (λ event. record { station = station_after acted; event = event }) list)) none)

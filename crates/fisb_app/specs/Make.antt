@@ -9,7 +9,7 @@ use Rattle.radar_core.specs.declared.key.BlockKey.{BlockKey}
 use Rattle.ground_core.specs.Airing.{Frame}
 use Rattle.receiver_core.specs.Reception.{Reception, received_picture}
 use Rattle.script_core.specs.Script.{Line, text, radar, blank, turn, hear, show}
-use Rattle.refusal_core.specs.Refusal.{spaced}
+use Rattle.refusal_core.specs.Refusal.{line_of_words}
 use Rattle.refusal_core.specs.declared.reason.Reason.{Reason}
 use Rattle.run_core.specs.declared.status.Status.{Status}
 use Rattle.run_core.specs.declared.status.Status.TheVariants.{Done, Usage, Refused, ReadFault}
@@ -119,7 +119,8 @@ counts_of table acted = record {
 -- a frame that was sent and not received is lost
 abbrev pub summary_text : ℕ → ℕ → Counts → List ℕ
 summary_text count seed counts =
-    spaced (codes "make" ∷ decimal count ∷ decimal seed ∷ codes "updates" ∷ decimal counts.updates
+    line_of_words (codes "make" ∷ decimal count ∷ decimal seed
+    ∷ codes "updates" ∷ decimal counts.updates
     ∷ codes "turns" ∷ decimal counts.turns ∷ codes "heard" ∷ decimal counts.heard ∷ codes "lost"
     ∷ decimal (counts.turns - counts.heard) ∷ codes "corrected" ∷ decimal counts.corrected
     ∷ codes "entries" ∷ decimal counts.entries ∷ [])

@@ -9,7 +9,7 @@ use Rattle.run_core.specs.declared.stop.Stop.{Stop}
 use Rattle.run_core.specs.declared.stop.Stop.TheVariants.{Refused, NoMemory}
 use Rattle.fisb_app.specs.declared.making.Making.{Making}
 use Rattle.fisb_app.specs.declared.sent.SentFrame.{SentFrame}
-use Rattle.fisb_app.specs.Past.{station_of, events, sent_frames, receptions, latest, air_of}
+use Rattle.fisb_app.specs.Past.{station_after, events, sent_frames, receptions, latest, air_of}
 use Rattle.fisb_app.specs.Reading.{frame_refusal}
 use Rattle.fisb_app.specs.Stands.{Sends, Hears, Aired, sent_view, aired_view}
 use Rattle.fisb_app.specs.Make.{after_step, counts_of, last_frame}
@@ -24,7 +24,7 @@ aired_one sent = option_map aired_view sent
 -- lines acted on
 pub record Makes {G E : Type 0} (sends : Sends G) (hears : Hears E) (table : LifeTable)
     (acted : List Line) (making : Making G E) : Type 0 where
-  pub ground : sends table (station_of acted) (events acted) making.ground
+  pub ground : sends table (station_after acted) (events acted) making.ground
   pub ear : hears table (receptions table acted) making.ear
   pub late : making.late ≡ table.late
   pub clock : making.clock ≡ latest acted

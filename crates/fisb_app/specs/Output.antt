@@ -17,7 +17,7 @@ use Rattle.script_core.specs.Script.{Line, turn, hear, rx, show}
 use Rattle.script_core.specs.Printed.{sent_line, heard_lines, lost_line, noapp_line, picture_text}
 use Rattle.fisb_app.specs.declared.party.Party.{Party}
 use Rattle.fisb_app.specs.declared.party.Party.TheVariants.{Ground, Gdl}
-use Rattle.fisb_app.specs.Past.{events, broadcast, hearings, station_of, sent_frames, air_of}
+use Rattle.fisb_app.specs.Past.{events, broadcast, hearings, station_after, sent_frames, air_of}
 use Rattle.fisb_app.specs.Past.{air_heard, receptions}
 
 -- a frame that was sent, as it is written; a ground alone writes its bytes on the air too
@@ -97,7 +97,7 @@ rx_text party table past moment air = heard_text table past moment air
 abbrev pub given_text : Party → Shows → LifeTable → List Line → Line → List ℕ
 given_text party shows table past (turn moment slot) =
     sent_text party (length (sent_frames table past))
-    (frame_after table (station_of past) (events past) moment slot)
+    (frame_after table (station_after past) (events past) moment slot)
 given_text party shows table past (hear moment frame wrong) =
     heard_frame table (receptions table past) moment wrong
     (slice_get (sent_frames table past) frame)

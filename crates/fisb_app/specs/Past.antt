@@ -27,9 +27,9 @@ abbrev pub station_named : Line → StationId → StationId
 station_named (station named) before = named
 station_named line before = before
 
-abbrev pub station_of : List Line → StationId
-station_of [] = no_station
-station_of (line ∷ past) = station_named line (station_of past)
+abbrev pub station_after : List Line → StationId
+station_after [] = no_station
+station_after (line ∷ past) = station_named line (station_after past)
 
 -- its history: what it was given, and the frames that it filled
 abbrev pub event_of : Line → Option Event
@@ -44,7 +44,8 @@ abbrev pub events : List Line → List Event
 events acted = filter_map event_of acted
 
 abbrev pub broadcast : List Line → List StationEvent
-broadcast acted = map (λ event. record { station = station_of acted; event = event }) (events acted)
+broadcast acted =
+    map (λ event. record { station = station_after acted; event = event }) (events acted)
 
 -- the frames that were sent, and a frame as it is on the air
 abbrev pub sent_frames : LifeTable → List Line → List Frame
@@ -100,19 +101,19 @@ receptions table (line ∷ past) =
     receptions_after (sent_frames table past) (receptions table past) line
 
 -- the moment of a line, and that of the last line with one; moments never fall
-abbrev pub moment_of : Line → Option ℕ
-moment_of (text moment version chars) = Some moment
-moment_of (radar moment version key cells) = Some moment
-moment_of (blank moment version product scale south numbers) = Some moment
-moment_of (turn moment slot) = Some moment
-moment_of (hear moment frame wrong) = Some moment
-moment_of (rx moment air) = Some moment
-moment_of (show moment) = Some moment
-moment_of line = None
+abbrev pub line_moment : Line → Option ℕ
+line_moment (text moment version chars) = Some moment
+line_moment (radar moment version key cells) = Some moment
+line_moment (blank moment version product scale south numbers) = Some moment
+line_moment (turn moment slot) = Some moment
+line_moment (hear moment frame wrong) = Some moment
+line_moment (rx moment air) = Some moment
+line_moment (show moment) = Some moment
+line_moment line = None
 
 abbrev pub latest : List Line → Option ℕ
 latest [] = None
-latest (line ∷ past) = option_or (moment_of line) (latest past)
+latest (line ∷ past) = option_or (line_moment line) (latest past)
 
 -- a script has begun with its first line that is not empty
 abbrev pub is_empty : Line → Bool

@@ -11,7 +11,7 @@ use Rattle.ground_core.specs.Airing.{Frame}
 use Rattle.ground_core.specs.Refusal.{GiveRefusal, bad_text, no_key, bad_block, coarse, ahead}
 use Rattle.ground_core.specs.Refusal.{expired, not_newer, no_file, give_refusal}
 use Rattle.segment_core.specs.Store.{last_above}
-use Rattle.ground_core.specs.OnAir.{clock_of}
+use Rattle.ground_core.specs.OnAir.{history_clock}
 use Rattle.receiver_core.specs.Reception.{Reception}
 use Rattle.receiver_core.specs.Hearing as heard
 use Rattle.script_core.specs.Script.{Line, empty, station, text, radar, blank, turn, hear, rx, show}
@@ -23,7 +23,7 @@ use Rattle.refusal_core.specs.declared.reason.Reason.TheVariants.{Coarse, Ahead,
 use Rattle.refusal_core.specs.declared.reason.Reason.TheVariants.{NoFile}
 use Rattle.fisb_app.specs.declared.party.Party.{Party}
 use Rattle.fisb_app.specs.declared.party.Party.TheVariants.{Link, Ground, Receive, Gdl}
-use Rattle.fisb_app.specs.Past.{events, station_of, sent_frames, receptions, moment_of, latest}
+use Rattle.fisb_app.specs.Past.{events, station_after, sent_frames, receptions, line_moment, latest}
 use Rattle.fisb_app.specs.Past.{has_begun}
 
 -- the most frames of a run
@@ -77,7 +77,7 @@ clock_refusal own last = option_map Clock (earlier_than own last)
 abbrev pub front_refusal : Party → Bool → Option ℕ → Line → Option Reason
 front_refusal party begun last line =
     option_or (party_refusal party line)
-    (option_or (station_refusal begun line) (clock_refusal (moment_of line) last))
+    (option_or (station_refusal begun line) (clock_refusal (line_moment line) last))
 
 -- the reason of a refused update
 abbrev pub reason_of_text : TextRefusal → Reason
@@ -102,13 +102,13 @@ reason_of_update no_file = NoFile
 -- the clock of the script keeps both
 abbrev pub update_refusal : LifeTable → List Line → ℕ → updates.Update → Option Reason
 update_refusal table acted moment update =
-    option_or (option_map Clock (last_above (clock_of (events acted)) moment))
+    option_or (option_map Clock (last_above (history_clock (events acted)) moment))
     (option_map reason_of_update
-    (give_refusal table (items table (station_of acted) (events acted)) moment update))
+    (give_refusal table (items table (station_after acted) (events acted)) moment update))
 
 abbrev pub turn_refusal : ℕ → List Line → ℕ → Option Reason
 turn_refusal count acted moment = if nat_lt count frame_limit
-    then option_map Clock (last_above (clock_of (events acted)) moment) else Some Frames
+    then option_map Clock (last_above (history_clock (events acted)) moment) else Some Frames
 
 -- a frame is heard once it was sent, and not too late
 abbrev pub frame_refusal : ℕ → ℕ → Option Frame → Option Reason

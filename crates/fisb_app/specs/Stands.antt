@@ -8,7 +8,7 @@ use Rattle.ground_core.specs.Update.{Update}
 use Rattle.ground_core.specs.History.{Event, accepted, items}
 use Rattle.ground_core.specs.Refusal.{GiveRefusal, give_refusal}
 use Rattle.ground_core.specs.Told.{IsToldAt}
-use Rattle.ground_core.specs.OnAir.{clock_of}
+use Rattle.ground_core.specs.OnAir.{history_clock}
 use Rattle.ground_core.specs.declared.fault.GiveFault.{GiveFault}
 use Rattle.segment_core.specs.Store.{last_above}
 use Rattle.ground_core.specs.Airing.{Frame}
@@ -25,7 +25,8 @@ use Rattle.fisb_app.specs.declared.ground_alone.GroundAlone.{GroundAlone}
 use Rattle.fisb_app.specs.declared.receiver_alone.ReceiverAlone.{ReceiverAlone}
 use Rattle.fisb_app.specs.declared.relay.Relay.{Relay}
 use Rattle.fisb_app.specs.declared.sent.SentFrame.{SentFrame}
-use Rattle.fisb_app.specs.Past.{lines_of, station_of, events, sent_frames, air_of, reception_from}
+use Rattle.fisb_app.specs.Past.{lines_of, station_after, events, sent_frames, air_of}
+use Rattle.fisb_app.specs.Past.{reception_from}
 use Rattle.fisb_app.specs.Past.{receptions, latest, has_begun}
 use Rattle.fisb_app.specs.Reading.{frame_refusal, receiver_refusal, reason_of_update}
 use Rattle.fisb_app.specs.Output.{heard_text}
@@ -48,11 +49,11 @@ pub record HasGiven {G A : Type 0} (sends : Sends G) (old new : G) (moment : ℕ
       → OnOk result (sends table station (accepted moment update ∷ history) new)
   pub nothing_against : (table : LifeTable) (station : StationId) (history : List Event)
       → sends table station history old
-      → OnOk result ((last_above (clock_of history) moment ≡ None)
+      → OnOk result ((last_above (history_clock history) moment ≡ None)
       × (give_refusal table (items table station history) moment update ≡ None))
   pub refused : (table : LifeTable) (station : StationId) (history : List Event)
       → sends table station history old
-      → IfErr result (IsToldAt (last_above (clock_of history) moment)
+      → IfErr result (IsToldAt (last_above (history_clock history) moment)
       (give_refusal table (items table station history) moment update))
   pub same : (table : LifeTable) (station : StationId) (history : List Event)
       → sends table station history old
@@ -62,7 +63,7 @@ pub record HasGiven {G A : Type 0} (sends : Sends G) (old new : G) (moment : ℕ
 pub record Holds {G : Type 0} (sends : Sends G) (bytes : List ℕ) (acted : List Line)
     (s : Sending G) : Type 0 where
   pub opened : opening_table bytes ≡ Ok s.table
-  pub ground : sends s.table (station_of acted) (events acted) s.ground
+  pub ground : sends s.table (station_after acted) (events acted) s.ground
 
 -- a frame by its moment and its bytes on the air
 pub record Aired : Type 0 where

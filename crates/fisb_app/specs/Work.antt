@@ -55,15 +55,15 @@ answer party shows table past line =
     answer_under party shows (opening_table table) (lines_of past) (line_of line)
 
 -- what is written of a refused line: nothing among bytes for displays
-abbrev pub refusal_by : Party → ℕ → Reason → List ℕ
-refusal_by Gdl line reason = []
-refusal_by party line reason = refusal_text line reason
+abbrev pub refusal_written : Party → ℕ → Reason → List ℕ
+refusal_written Gdl line reason = []
+refusal_written party line reason = refusal_text line reason
 
 abbrev pub work_of : Party → Shows → Work
 work_of party shows = record {
   opened = λ table. opened_with (opening_table table);
   told = answer party shows;
-  refusal = refusal_by party;
+  refusal = refusal_written party;
 }
 
 -- a ground and a receiver with the frames between them; a ground alone; a receiver alone; and what

@@ -7,12 +7,12 @@ ghost use Rattle.script_core.specs.LineView.{line_view, HasRanges};
 ghost use Rattle.script_core.specs.Script.{Line as ScriptLine};
 ghost use Rattle.fisb_app.specs.Output.{given_text, heard_picture};
 ghost use Rattle.fisb_app.specs.declared.party.Party.{Party as AnyParty};
-ghost use Rattle.fisb_app.specs.Past.{is_empty, moment_of};
+ghost use Rattle.fisb_app.specs.Past.{is_empty, line_moment};
 ghost use Rattle.fisb_app.specs.Reading.{CanCome, earlier_than, front_refusal, own_refusal, party_refusal};
 ghost use Rattle.fisb_app.specs.Stands.{HasTried, IsInOrder};
-ghost use Rattle.fisb_app.specs.Work.{opened_with, opening_table, refusal_by, work_of};
+ghost use Rattle.fisb_app.specs.Work.{opened_with, opening_table, refusal_written, work_of};
 
-use crate::line_kinds::{is_empty, is_station, moment_of, takes};
+use crate::line_kinds::{is_empty, is_station, line_moment, takes};
 use crate::party::Party;
 use fisb_time::Moment;
 use fisb_wire::Bytes;
@@ -113,7 +113,7 @@ impl<P: LineActor> InOrder<P> {
         if is_station(line) && self.has_begun {
             return Some(Reason::Station);
         }
-        match earlier_than(moment_of(line), self.clock) {
+        match earlier_than(line_moment(line), self.clock) {
             Some(kept) => Some(Reason::Clock { kept }),
             None => None,
         }
@@ -121,12 +121,13 @@ impl<P: LineActor> InOrder<P> {
 
     /// Sets the clock, and that a line was acted on.
     fn advance(&mut self, line: &Line)
-        ensures clock { self.new.clock ≡ option_or (moment_of (line_view line.now)) self.old.clock }
+        ensures clock { self.new.clock
+            ≡ option_or (line_moment (line_view line.now)) self.old.clock }
         ensures begun { self.new.has_begun
             ≡ (self.old.has_begun || not (is_empty (line_view line.now))) }
         ensures inner { self.new.inner ≡ self.old.inner }
     {
-        if let Some(moment) = moment_of(line) {
+        if let Some(moment) = line_moment(line) {
             self.clock = Some(moment);
         }
         self.has_begun = self.has_begun || !is_empty(line);
@@ -147,7 +148,7 @@ fn print_refusal(
     line: u64,
     reason: &Reason,
 ) -> Result<Bytes, AllocError>
-    ensures { IfOk result (λ text. text ≡ refusal_by party line reason.now) }
+    ensures { IfOk result (λ text. text ≡ refusal_written party line reason.now) }
 {
     match party {
         Party::Gdl => Ok(no_text(alloc)),

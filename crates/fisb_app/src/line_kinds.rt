@@ -1,7 +1,7 @@
 //! Of which kind a line is.
 ghost use Rattle.std.specs.Prelude.{◌≡◌};
 ghost use Rattle.script_core.specs.LineView.{line_view};
-ghost use Rattle.fisb_app.specs.Past.{is_empty, moment_of};
+ghost use Rattle.fisb_app.specs.Past.{is_empty, line_moment};
 ghost use Rattle.fisb_app.specs.Reading.{is_station, is_taken};
 
 use crate::party::Party;
@@ -36,8 +36,8 @@ pub(crate) fn is_empty(line: &Line) -> bool
 }
 
 /// The moment of a line.
-pub(crate) fn moment_of(line: &Line) -> Option<Moment>
-    ensures { result ≡ moment_of (line_view line.now) }
+pub(crate) fn line_moment(line: &Line) -> Option<Moment>
+    ensures { result ≡ line_moment (line_view line.now) }
 {
     match line {
         Line::Nothing | Line::Station(_) => None,

@@ -148,7 +148,8 @@ impl<G: Sender, E: Ear> Link<G, E> {
         ensures { (bytes : List ℕ) (acted : List ScriptLine)
             → CanCome acted (hear moment frame wrong.now)
             → LinkHolds G.stands E.stands bytes acted self.old
-            → HasTried (own_refusal Party.Link self.old.sending.table acted (hear moment frame wrong.now))
+            → HasTried
+            (own_refusal Party.Link self.old.sending.table acted (hear moment frame wrong.now))
             (λ given. (given ≡ given_text Party.Link heard_picture self.old.sending.table acted
             (hear moment frame wrong.now))
             × LinkHolds G.stands E.stands bytes (hear moment frame wrong.now ∷ acted) self.new)

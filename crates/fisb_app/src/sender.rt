@@ -8,7 +8,7 @@ ghost use Rattle.ground_core.specs.Airing.{frame_after};
 ghost use Rattle.ground_core.specs.Update.{text as text_update, block as block_update, blanks as blanks_update};
 ghost use Rattle.ground_core.specs.Told.{kept_told};
 ghost use Rattle.segment_core.specs.Store.{last_above};
-ghost use Rattle.ground_core.specs.OnAir.{IsOnAir, clock_of};
+ghost use Rattle.ground_core.specs.OnAir.{IsOnAir, history_clock};
 ghost use Rattle.ground_core.specs.StandsFor.{StandsFor};
 ghost use Rattle.fisb_app.specs.Stands.{HasGiven};
 
@@ -69,10 +69,11 @@ pub(crate) trait Sender: Drop {
             → IfOk result (IsOnAir (frame_after table station history moment slot)) }
         ensures in_time { (table : Table) (station : Place) (history : List Event)
             → stands table station history self.old
-            → OnOk result (last_above (clock_of history) moment ≡ None) }
+            → OnOk result (last_above (history_clock history) moment ≡ None) }
         ensures refused { (table : Table) (station : Place) (history : List Event)
             → stands table station history self.old
-            → IfErr result (λ fault. last_above (clock_of history) moment ≡ Some (kept_told fault)) }
+            → IfErr result (λ fault. last_above (history_clock history) moment
+            ≡ Some (kept_told fault)) }
         ensures same { OnErr result (self.new ≡ self.old) };
 }
 

@@ -7,7 +7,7 @@ ghost use Rattle.run_core.specs.Actor.{HasOpened};
 ghost use Rattle.script_core.specs.LineView.{line_view, HasRanges};
 ghost use Rattle.script_core.specs.Script.{Line as ScriptLine, station, turn};
 ghost use Rattle.fisb_app.specs.declared.party.Party.{Party as AnyParty};
-ghost use Rattle.fisb_app.specs.Past.{events, has_begun, station_of};
+ghost use Rattle.fisb_app.specs.Past.{events, has_begun, station_after};
 ghost use Rattle.fisb_app.specs.Reading.{is_update, own_refusal, turn_refusal};
 ghost use Rattle.fisb_app.specs.Stands.{HasRead, HasTried, Holds};
 ghost use Rattle.fisb_app.specs.Work.{opened_with, opening_table};
@@ -118,7 +118,7 @@ impl<G: Sender> Sending<G> {
         ensures frame { (bytes : List ℕ) (acted : List ScriptLine)
             → Holds G.stands bytes acted self.old
             → IfOk result (IsOnAir
-            (frame_after self.old.table (station_of acted) (events acted) moment slot)) }
+            (frame_after self.old.table (station_after acted) (events acted) moment slot)) }
         ensures in_time { (bytes : List ℕ) (acted : List ScriptLine)
             → Holds G.stands bytes acted self.old
             → OnOk result (turn_refusal count acted moment ≡ None) }

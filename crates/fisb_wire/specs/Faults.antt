@@ -3,16 +3,16 @@ use Rattle.std.specs.Prelude.{◌≡◌, ℕ, ◌+◌, ◌-◌, ◌^◌, ◌≤�
 use Rattle.std.proofs.Common.{arith}
 
 -- a count in 64 bits: it stands still at 2^64 − 1
-abbrev pub counted : ℕ → ℕ
-counted n = min n (2 ^ 64 - 1)
+abbrev pub u64_count : ℕ → ℕ
+u64_count n = min n (2 ^ 64 - 1)
 
 -- a count in 64 bits fits them
-pub counted-bound : (n : ℕ) → counted n ≤ 2 ^ 64 - 1
-counted-bound n = omega arith
+pub u64_count-bound : (n : ℕ) → u64_count n ≤ 2 ^ 64 - 1
+u64_count-bound n = omega arith
 
 -- the count after one more
 abbrev pub next_count : ℕ → ℕ
-next_count n = counted (n + 1)
+next_count n = u64_count (n + 1)
 
 -- the count rose: it is greater by one than before, or stands at 2^64 − 1
 abbrev pub Rose : ℕ → ℕ → Type 0

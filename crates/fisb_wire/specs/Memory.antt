@@ -1,5 +1,5 @@
 -- A source and a sink in memory, as their callers see them. Both fail at chosen calls.
-use Rattle.fisb_wire.specs.Faults.{counted}
+use Rattle.fisb_wire.specs.Faults.{u64_count}
 use Rattle.fisb_wire.specs.Ends.{IsReached}
 use Rattle.std.specs.Prelude.{◌≡◌, ℕ, ◌<◌, ◌≤◌, ◌⊎◌, Bool, true, false, eqb, leb, ◌&&◌, ◌||◌, if◌then◌else◌, List, length, Contains, Option, Some, None, refl}
 use Rattle.std.proofs.Common.{arith}
@@ -63,11 +63,13 @@ reached-where false reach faults taken full = tt
 
 -- where the test of `store_reach` holds, a fault comes only at the full room
 no-fault-or-full : (a b c : Bool) (room faults size : ℕ)
-    → b ≡ eqb faults 0 → c ≡ leb room size → a && (b || c) ≡ true → 0 < counted faults → room ≤ size
+    → b ≡ eqb faults 0 → c ≡ leb room size → a && (b || c) ≡ true
+    → 0 < u64_count faults → room ≤ size
 no-fault-or-full a b c room faults size b-is c-is holds faulty = grind arith
 
 -- a store's reach is reached before its first fault
-pub store-reached : (store : Store) → IsReached (store_reach store) (Some store.taken) (counted store.faults)
+pub store-reached : (store : Store)
+    → IsReached (store_reach store) (Some store.taken) (u64_count store.faults)
 store-reached store =
     reached-where _ store.room _ store.taken
     (no-fault-or-full (eqb (length store.fails) 0) _ _ _ _ _ refl refl)

@@ -2,20 +2,20 @@
 ghost use Rattle.std.specs.Prelude.{◌≡◌, ℕ, ◌-◌, ◌^◌, ◌≤◌, min, ◌++◌, length, take, drop, Some, None, IfOk, IsOk, OnOk};
 ghost use Rattle.std.specs.Io.{ReadsAtMost};
 ghost use Rattle.std.specs.Io.KnownBytes.{ReadConsumes, WriteAppends};
-ghost use Rattle.fisb_wire.specs.Faults.{HasCause, counted, counted-bound};
+ghost use Rattle.fisb_wire.specs.Faults.{HasCause, u64_count, u64_count-bound};
 ghost use Rattle.fisb_wire.specs.Ends.{TakesSome, FitsSpare, SpendsTaken, IsReached};
 ghost use Rattle.fisb_wire.specs.Faithful.{bytes_taken, room_left};
 
 use crate::copying::copy_behind;
 use crate::ends::{Failed, Sink, Source};
 use crate::lists::Bytes;
-use crate::unread::Unread;
+use crate::remaining::Remaining;
 use std::marker::Model;
 
 /// A source of the bytes of a list, no read of which fails.
 #[derive(Drop)]
 pub struct FaithfulSource {
-    unread: Unread,
+    remaining: Remaining,
 }
 
 impl Model for FaithfulSource {
@@ -23,7 +23,7 @@ impl Model for FaithfulSource {
 
     ghost Value = { List ℕ };
 
-    ghost view = { λ s. s.unread };
+    ghost view = { λ s. s.remaining };
 }
 
 impl FaithfulSource {
@@ -32,7 +32,7 @@ impl FaithfulSource {
         ensures { result ≡ input }
     {
         FaithfulSource {
-            unread: Unread::of(input),
+            remaining: Remaining::of(input),
         }
     }
 }
@@ -40,22 +40,22 @@ impl FaithfulSource {
 impl Source for FaithfulSource {
     ghost left = { λ s. Some s };
 
-    ghost faults = { λ _. counted 0 };
+    ghost faults = { λ _. u64_count 0 };
 
-    ghost bounded = { λ _. counted-bound 0 };
+    ghost bounded = { λ _. u64_count-bound 0 };
 
     fn read(&mut self, room: &mut [u8]) -> Result<usize, Failed>
         ensures bound { ReadsAtMost result room.new }
         ensures bytes { ReadConsumes (Some self.old) (Some self.new) result room.new }
-        ensures cause { HasCause (counted 0) (counted 0) result }
-        ensures kept { OnOk result (counted 0 ≡ counted 0) }
+        ensures cause { HasCause (u64_count 0) (u64_count 0) result }
+        ensures kept { OnOk result (u64_count 0 ≡ u64_count 0) }
 
         ensures faithful { IsOk result }
         ensures count { IfOk result (λ n. n ≡ min (length room.old) (length self.old)) }
         ensures given { IfOk result (λ n. room.new ≡ take n self.old ++ drop n room.old) }
         ensures left { IfOk result (λ n. self.new ≡ drop n self.old) }
     {
-        Ok(self.unread.give(room, usize::MAX))
+        Ok(self.remaining.give(room, usize::MAX))
     }
 }
 
@@ -82,13 +82,13 @@ impl<'a> FaithfulSink<'a> {
 impl Sink for FaithfulSink<'_> {
     ghost written = { λ s. Some (bytes_taken s) };
 
-    ghost faults = { λ _. counted 0 };
+    ghost faults = { λ _. u64_count 0 };
 
     ghost spare = { λ s. Some (room_left s) };
 
     ghost reach = { λ _. None };
 
-    ghost bounded = { λ _. counted-bound 0 };
+    ghost bounded = { λ _. u64_count-bound 0 };
 
     ghost reached = { λ _. tt };
 
@@ -98,8 +98,8 @@ impl Sink for FaithfulSink<'_> {
         ensures bytes { WriteAppends (Some (bytes_taken self.old)) (Some (bytes_taken self.new))
             result piece.now }
         ensures spare { SpendsTaken (Some (room_left self.old)) (Some (room_left self.new)) result }
-        ensures cause { HasCause (counted 0) (counted 0) result }
-        ensures kept { OnOk result (counted 0 ≡ counted 0) }
+        ensures cause { HasCause (u64_count 0) (u64_count 0) result }
+        ensures kept { OnOk result (u64_count 0 ≡ u64_count 0) }
 
         ensures all { result ≡ Ok (length piece.now) }
         ensures same_room { self.new.room.ghost_name ≡ self.old.room.ghost_name }

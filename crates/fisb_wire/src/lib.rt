@@ -7,8 +7,8 @@ mod faithful;
 mod lists;
 mod memory;
 mod pieces;
+mod remaining;
 mod standard;
-mod unread;
 
 pub use ends::{Failed, Sink, Source};
 pub use faithful::{FaithfulSink, FaithfulSource};

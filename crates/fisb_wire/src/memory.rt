@@ -2,21 +2,21 @@
 ghost use Rattle.std.specs.Prelude.{◌≡◌, ℕ, ◌+◌, ◌-◌, ◌<◌, ◌≤◌, ◌↔◌, min, [], ◌++◌, length, take, drop, Contains, Some, None, IsTrue, IsErr, IfOk, OnOk, OnErr};
 ghost use Rattle.std.specs.Io.{ReadsAtMost};
 ghost use Rattle.std.specs.Io.KnownBytes.{ReadConsumes, WriteAppends};
-ghost use Rattle.fisb_wire.specs.Faults.{HasCause, counted, counted-bound, next_count};
+ghost use Rattle.fisb_wire.specs.Faults.{HasCause, u64_count, u64_count-bound, next_count};
 ghost use Rattle.fisb_wire.specs.Ends.{TakesSome, FitsSpare, SpendsTaken, IsReached};
 ghost use Rattle.fisb_wire.specs.Memory.{FailsNext, RefusesNext, store_reach, store-reached};
 
 use crate::copying::copy_behind;
 use crate::ends::{Failed, Sink, Source};
 use crate::lists::{Bytes, Numbers};
-use crate::unread::Unread;
+use crate::remaining::Remaining;
 use std::alloc::{AllocError, Global};
 use std::marker::Model;
 
 /// A source of the bytes of a list. Chosen calls of it fail.
 #[derive(Drop)]
 pub struct MemorySource {
-    unread: Unread,
+    remaining: Remaining,
     // How many calls were made.
     calls: u64,
     fails: Numbers,
@@ -33,7 +33,7 @@ impl Model for MemorySource {
     ghost Value = { Supply };
 
     ghost view = { λ s. record {
-      left = s.unread;
+      left = s.remaining;
       next = s.calls;
       fails = s.fails;
       piece = s.piece;
@@ -57,7 +57,7 @@ impl MemorySource {
         } }
     {
         MemorySource {
-            unread: Unread::of(input),
+            remaining: Remaining::of(input),
             calls: 0,
             fails,
             piece,
@@ -69,15 +69,15 @@ impl MemorySource {
 impl Source for MemorySource {
     ghost left = { λ s. Some s.left };
 
-    ghost faults = { λ s. counted s.faults };
+    ghost faults = { λ s. u64_count s.faults };
 
-    ghost bounded = { λ s. counted-bound s.faults };
+    ghost bounded = { λ s. u64_count-bound s.faults };
 
     fn read(&mut self, room: &mut [u8]) -> Result<usize, Failed>
         ensures bound { ReadsAtMost result room.new }
         ensures bytes { ReadConsumes (Some self.old.left) (Some self.new.left) result room.new }
-        ensures cause { HasCause (counted self.old.faults) (counted self.new.faults) result }
-        ensures kept { OnOk result (counted self.new.faults ≡ counted self.old.faults) }
+        ensures cause { HasCause (u64_count self.old.faults) (u64_count self.new.faults) result }
+        ensures kept { OnOk result (u64_count self.new.faults ≡ u64_count self.old.faults) }
 
         ensures fails { IsErr result ↔ FailsNext self.old }
         ensures count { IfOk result (λ n.
@@ -99,7 +99,7 @@ impl Source for MemorySource {
             self.failed = self.failed.saturating_add(1);
             return Err(Failed);
         }
-        Ok(self.unread.give(room, self.piece))
+        Ok(self.remaining.give(room, self.piece))
     }
 }
 
@@ -167,13 +167,13 @@ impl MemorySink {
 impl Sink for MemorySink {
     ghost written = { λ s. Some s.taken };
 
-    ghost faults = { λ s. counted s.faults };
+    ghost faults = { λ s. u64_count s.faults };
 
     ghost spare = { λ _. None };
 
     ghost reach = { store_reach };
 
-    ghost bounded = { λ s. counted-bound s.faults };
+    ghost bounded = { λ s. u64_count-bound s.faults };
 
     ghost reached = { store-reached };
 
@@ -182,8 +182,8 @@ impl Sink for MemorySink {
         ensures bytes { WriteAppends (Some self.old.taken) (Some self.new.taken) result piece.now }
         ensures spare { SpendsTaken None None result }
         ensures reach { store_reach self.new ≡ store_reach self.old }
-        ensures cause { HasCause (counted self.old.faults) (counted self.new.faults) result }
-        ensures kept { OnOk result (counted self.new.faults ≡ counted self.old.faults) }
+        ensures cause { HasCause (u64_count self.old.faults) (u64_count self.new.faults) result }
+        ensures kept { OnOk result (u64_count self.new.faults ≡ u64_count self.old.faults) }
 
         ensures fails { IsErr result ↔ RefusesNext self.old (length piece.now) }
         ensures count { IfOk result (λ n.

@@ -2,19 +2,19 @@
 ghost use Rattle.std.specs.Prelude.{◌≡◌, ℕ, ◌<◌, ◌≤◌, min, ◌++◌, length, take, drop, Some, All, IfOk, IsOk, OnOk, nat_lt, if◌then◌else◌};
 ghost use Rattle.std.specs.Io.{ReadsAtMost};
 ghost use Rattle.std.specs.Io.KnownBytes.{ReadConsumes};
-ghost use Rattle.fisb_wire.specs.Faults.{HasCause, counted, counted-bound};
+ghost use Rattle.fisb_wire.specs.Faults.{HasCause, u64_count, u64_count-bound};
 ghost use Rattle.fisb_wire.specs.Pieces.{next_size};
 
 use crate::ends::{Failed, Source};
 use crate::lists::{Bytes, Numbers};
-use crate::unread::Unread;
+use crate::remaining::Remaining;
 use std::marker::Model;
 
 /// A source of the bytes of a list. Each read gives at most as many as its size says, and once the sizes
 /// are used up as many as fit. No read fails.
 #[derive(Drop)]
 pub struct PieceSource {
-    unread: Unread,
+    remaining: Remaining,
     sizes: Numbers,
     // How many sizes were used.
     next: usize,
@@ -26,7 +26,7 @@ impl Model for PieceSource {
 
     ghost Value = { Pieces };
 
-    ghost view = { λ s. record { left = s.unread; sizes = drop s.next s.sizes } };
+    ghost view = { λ s. record { left = s.remaining; sizes = drop s.next s.sizes } };
 
     ghost invariant = { λ s. (s.next ≤ length s.sizes) × All (λ size. 0 < size) s.sizes };
 }
@@ -38,7 +38,7 @@ impl PieceSource {
         ensures { result ≡ record { left = input; sizes = sizes } }
     {
         PieceSource {
-            unread: Unread::of(input),
+            remaining: Remaining::of(input),
             sizes,
             next: 0,
         }
@@ -48,7 +48,7 @@ impl PieceSource {
     pub fn rest(&self) -> &[u8]
         ensures { result.now ≡ self.now.left }
     {
-        self.unread.all()
+        self.remaining.all()
     }
 
     // The most bytes that the next read gives, and goes on to the next size.
@@ -69,15 +69,15 @@ impl PieceSource {
 impl Source for PieceSource {
     ghost left = { λ s. Some s.left };
 
-    ghost faults = { λ _. counted 0 };
+    ghost faults = { λ _. u64_count 0 };
 
-    ghost bounded = { λ _. counted-bound 0 };
+    ghost bounded = { λ _. u64_count-bound 0 };
 
     fn read(&mut self, room: &mut [u8]) -> Result<usize, Failed>
         ensures bound { ReadsAtMost result room.new }
         ensures bytes { ReadConsumes (Some self.old.left) (Some self.new.left) result room.new }
-        ensures cause { HasCause (counted 0) (counted 0) result }
-        ensures kept { OnOk result (counted 0 ≡ counted 0) }
+        ensures cause { HasCause (u64_count 0) (u64_count 0) result }
+        ensures kept { OnOk result (u64_count 0 ≡ u64_count 0) }
 
         ensures faithful { IsOk result }
         ensures count { IfOk result (λ n. n
@@ -87,6 +87,6 @@ impl Source for PieceSource {
             ≡ record { left = drop n self.old.left; sizes = drop 1 self.old.sizes }) }
     {
         let most = self.next_size();
-        Ok(self.unread.give(room, most))
+        Ok(self.remaining.give(room, most))
     }
 }

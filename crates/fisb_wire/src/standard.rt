@@ -3,7 +3,7 @@
 ghost use Rattle.std.specs.Prelude.{◌≡◌, ◌-◌, ◌^◌, length, None, OnOk, OnErr};
 ghost use Rattle.std.specs.Io.{ReadsAtMost};
 ghost use Rattle.std.specs.Io.KnownBytes.{ReadConsumes, WriteAppends};
-ghost use Rattle.fisb_wire.specs.Faults.{HasCause, counted, counted-bound, next_count};
+ghost use Rattle.fisb_wire.specs.Faults.{HasCause, u64_count, u64_count-bound, next_count};
 ghost use Rattle.fisb_wire.specs.Ends.{TakesSome, SpendsTaken, IsReached};
 ghost use Rattle.fisb_wire.specs.Standard.{reader_of, failed_reads, writer_of, failed_writes};
 
@@ -30,18 +30,18 @@ impl<R> StdSource<R> {
 impl<R: Read> Source for StdSource<R> {
     ghost left = { λ source. R.remaining (reader_of source) };
 
-    ghost faults = { λ source. counted (failed_reads source) };
+    ghost faults = { λ source. u64_count (failed_reads source) };
 
-    ghost bounded = { λ source. counted-bound (failed_reads source) };
+    ghost bounded = { λ source. u64_count-bound (failed_reads source) };
 
     fn read(&mut self, room: &mut [u8]) -> Result<usize, Failed>
         ensures bound { ReadsAtMost result room.new }
         ensures bytes { ReadConsumes (R.remaining (reader_of self.old))
             (R.remaining (reader_of self.new)) result room.new }
-        ensures cause { HasCause (counted (failed_reads self.old)) (counted (failed_reads self.new))
-            result }
+        ensures cause { HasCause (u64_count (failed_reads self.old))
+            (u64_count (failed_reads self.new)) result }
         ensures kept { OnOk result
-            (counted (failed_reads self.new) ≡ counted (failed_reads self.old)) }
+            (u64_count (failed_reads self.new) ≡ u64_count (failed_reads self.old)) }
 
         ensures ok { OnOk result (failed_reads self.new ≡ failed_reads self.old) }
         ensures err { OnErr result (failed_reads self.new ≡ next_count (failed_reads self.old)) }
@@ -77,13 +77,13 @@ impl<W> StdSink<W> {
 impl<W: Write> Sink for StdSink<W> {
     ghost written = { λ sink. W.contents (writer_of sink) };
 
-    ghost faults = { λ sink. counted (failed_writes sink) };
+    ghost faults = { λ sink. u64_count (failed_writes sink) };
 
     ghost spare = { λ _. None };
 
     ghost reach = { λ _. None };
 
-    ghost bounded = { λ sink. counted-bound (failed_writes sink) };
+    ghost bounded = { λ sink. u64_count-bound (failed_writes sink) };
 
     ghost reached = { λ _. tt };
 
@@ -92,10 +92,10 @@ impl<W: Write> Sink for StdSink<W> {
         ensures bytes { WriteAppends (W.contents (writer_of self.old))
             (W.contents (writer_of self.new)) result piece.now }
         ensures spare { SpendsTaken None None result }
-        ensures cause { HasCause (counted (failed_writes self.old))
-            (counted (failed_writes self.new)) result }
+        ensures cause { HasCause (u64_count (failed_writes self.old))
+            (u64_count (failed_writes self.new)) result }
         ensures kept { OnOk result
-            (counted (failed_writes self.new) ≡ counted (failed_writes self.old)) }
+            (u64_count (failed_writes self.new) ≡ u64_count (failed_writes self.old)) }
 
         ensures ok { OnOk result (failed_writes self.new ≡ failed_writes self.old) }
         ensures err { OnErr result (failed_writes self.new ≡ next_count (failed_writes self.old)) }

@@ -5,12 +5,9 @@ use Rattle.std.proofs.Common.{◌≡◌, ◌≢◌, ℕ, Bool, true, false, List
 use Rattle.std.proofs.Math.Path.{ap₂}
 use Rattle.std.proofs.lemmas.Bool.{ne_eqb}
 use Rattle.std.proofs.lemmas.List.{append-nil, append_assoc}
+use Rattle.list_members.proofs.Tests.{or_none}
 use Rattle.gdl90_core.specs.Stream.{before_flag, behind_flag, if_not_empty, pieces_of}
 use Rattle.gdl90_core.specs.Laws.{PiecesGoOn}
-
-option_or-none : (o : Option (List ℕ)) → option_or o None ≡ o
-option_or-none None = refl
-option_or-none (Some piece) = refl
 
 before_step :
     (x : ℕ) (begins ends : Bool) (o : Option (List ℕ)) (more : List ℕ)
@@ -44,7 +41,7 @@ no_flag (x ∷ more) e = at (λ is. no_flag more is) (x == 0x7E) (before_flag mo
     at rec true o is none = cc
     at rec false None is none =
         let none_more = rec is in
-        (option_or-none (behind_flag more) ∙ none_more.0, none_more.1)
+        (or_none (behind_flag more) ∙ none_more.0, none_more.1)
     at rec false (Some piece) is none = cc
 
 -- where a flag stands, something stands behind the last one
@@ -78,12 +75,12 @@ cut_step :
     (if ends then if_not_empty (option_or (behind_flag more) (if begins then Some more else None)) else None)
 unfolding piece_list
 cut_step true false more o is =
-    ap (λ (b : Option (List ℕ)). piece_list b ++ (pieces_of more ++ [])) (option_or-none (before_flag more))
+    ap (λ (b : Option (List ℕ)). piece_list b ++ (pieces_of more ++ [])) (or_none (before_flag more))
     ∙ sym (append_assoc (piece_list (before_flag more)) (pieces_of more) [])
 cut_step false ends more o is =
     let side : Option (List ℕ) → List (List ℕ) =
     λ b. pieces_of more ++ option_to_list (if ends then if_not_empty b else None) in
-    ap side (sym (option_or-none (behind_flag more)))
+    ap side (sym (or_none (behind_flag more)))
 cut_step true true more None is =
     let none = no_flag more is in
     let left : Option (List ℕ) → List (List ℕ) → Option (List ℕ) → List (List ℕ) =

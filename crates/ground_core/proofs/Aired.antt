@@ -1,5 +1,5 @@
 -- What a fill airs: segments of items that were given before and live on, as many as fit.
-use Rattle.std.proofs.Common.{◌≡◌, ℕ, ◌+◌, ◌-◌, ◌<◌, ◌≤◌, Bool, true, nat_le, List, [], ◌∷◌, ◌++◌, map, filter, flat_map, sum_by, Some, None, sym, ap, subst, ◌∙◌, inl, inr, arith}
+use Rattle.std.proofs.Common.{◌≡◌, ℕ, ◌+◌, ◌-◌, ◌<◌, ◌≤◌, Bool, true, false, nat_le, List, [], ◌∷◌, ◌++◌, map, filter, flat_map, sum_by, sym, ap, subst, ◌∙◌, inl, inr, arith}
 use Rattle.std.proofs.lemmas.Bool.{cases_Bool, cond-true, cond-false, ltb-true, leb-true, and_parts}
 use Rattle.std.proofs.lemmas.List.Sums.{sum_by-cons}
 use Rattle.life_table.specs.LifeTable.{LifeTable}
@@ -13,7 +13,7 @@ use Rattle.ground_core.specs.Item.{Weather, Item, Segment, segments_of, room_of,
 use Rattle.ground_core.specs.Update.{weather_of}
 use Rattle.ground_core.specs.History.{Event, accepted, fill, item_of, items_made, new_items, items}
 use Rattle.ground_core.specs.Airing.{Touch, touch, is_live, is_touched, last_touches, waiting_segments, longest_fitting, airing, touches, log}
-use Rattle.ground_core.specs.Broadcast.{IsNotBefore, IsHistory}
+use Rattle.ground_core.specs.Broadcast.{IsNotBeforeLast, IsHistory}
 use Rattle.ground_core.specs.Sound.{AreGiven, AcceptedIsGiven}
 use Rattle.ground_core.proofs.Segments.{is_segment_of}
 
@@ -88,7 +88,7 @@ log-items table station (accepted moment update ∷ past) t h =
     elim (IsIn-either t (log table station past) (touches table station before (log table station past) (accepted moment update)) h) [
       | inl old ↦ of_item-more before new t.segment (log-items table station past t old)
       | inr last ↦
-          let touched = in_map (touch None) t (flat_map segments_of new) last in
+          let touched = in_map (touch false moment) t (flat_map segments_of new) last in
           let found = in_flat_map segments_of touched.0 new touched.1 in
           let own = (is_segment_of found.0 touched.0 found.2).item_is in
           subst (IsOfItem (before ++ new)) (sym (ap (λ (x : Touch). x.segment) touched.2)) (record {
@@ -99,10 +99,10 @@ log-items table station (accepted moment update ∷ past) t h =
 log-items table station (fill moment slot ∷ past) t h =
     let before = items table station past in
     let past_log = log table station past in
-    of_item-more before [] t.segment (elim (IsIn-either t past_log (map (touch (Some moment)) (airing before past_log moment)) h) [
+    of_item-more before [] t.segment (elim (IsIn-either t past_log (map (touch true moment) (airing before past_log moment)) h) [
       | inl old ↦ log-items table station past t old
       | inr last ↦
-          let touched = in_map (touch (Some moment)) t (airing before past_log moment) last in
+          let touched = in_map (touch true moment) t (airing before past_log moment) last in
           let logged = aired-logged before past_log moment touched.0 touched.1 in
           subst (IsOfItem before) (sym (ap (λ (x : Touch). x.segment) touched.2 ∙ logged.segment)) (log-items table station past logged.last logged.in_log)
     ])
@@ -117,7 +117,7 @@ made-lead table station moment before (w ∷ more) i given (inr h) =
     made-lead table station moment (before ++ item_of table station moment before w ∷ []) more i given.1 h
 
 pub items-lead : AcceptedIsGiven → (table : LifeTable) (station : StationId) (history : List Event) (m : ℕ) (i : Item) → IsTable table
-    → IsHistory table station history → IsNotBefore m history → IsIn i (items table station history) → i.weather.version ≤ m + 60
+    → IsHistory table station history → IsNotBeforeLast m history → IsIn i (items table station history) → i.weather.version ≤ m + 60
 items-lead accepting table station [] m i is_table is not_before h = absurd h
 items-lead accepting table station (accepted moment update ∷ past) m i is_table is not_before h =
     let before = items table station past in

@@ -10,7 +10,7 @@ use Rattle.ground_core.specs.Item.{Segment, body_of, room_of}
 use Rattle.ground_core.specs.History.{Event, items}
 use Rattle.ground_core.specs.Airing.{airing, log}
 use Rattle.ground_core.specs.Piece.{Piece, piece_of, live_by, left_pieces, fitting_pieces}
-use Rattle.ground_core.specs.StandsFor.{StandsFor, clock_of}
+use Rattle.ground_core.specs.StandsFor.{StandsFor, history_clock}
 use Rattle.segment_core.specs.Store.{last_above}
 use Rattle.ground_core.specs.Views.{latest_at, pieces_in}
 use Rattle.ground_core.specs.declared.ground.Ground.{Ground}
@@ -23,7 +23,7 @@ abbrev pub sent_of : LifeTable → StationId → List Event → ℕ → List Seg
 sent_of table station history moment = airing (items table station history) (log table station history) moment
 
 pub aired_pieces : StationsAreTold → KeyLaws → (table : LifeTable) (station : StationId) (history : List Event) (moment slot : ℕ) (old : Ground) (new : List Piece) → StandsFor table station old history
-    → last_above (clock_of history) moment ≡ None
+    → last_above (history_clock history) moment ≡ None
     → filter (live_by (latest_at old.newest) moment) new
     ≡ left_pieces 424 (filter (live_by (latest_at old.newest) moment) (pieces_in old.line))
     ++ fitting_pieces 424 (filter (live_by (latest_at old.newest) moment) (pieces_in old.line))

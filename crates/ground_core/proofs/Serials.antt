@@ -77,9 +77,10 @@ logged_new all new = Each-in _ (flat_map segments_of new) (λ s i.
       of_item = subst (λ x. IsIn s (segments_of x)) (sym same) w.2;
     })
 
-pub segments_of_touches : (aired : Option ℕ) (xs : List Segment) → segments_in (map (touch aired) xs) ≡ xs
-segments_of_touches aired [] = refl
-segments_of_touches aired (x ∷ xs) = ap (λ l. x ∷ l) (segments_of_touches aired xs)
+pub segments_of_touches :
+    (is_airing : Bool) (moment : ℕ) (xs : List Segment) → segments_in (map (touch is_airing moment) xs) ≡ xs
+segments_of_touches is_airing moment [] = refl
+segments_of_touches is_airing moment (x ∷ xs) = ap (λ l. x ∷ l) (segments_of_touches is_airing moment xs)
 
 pub Each-last_places : (P : Segment → Type 0) (xs : List Segment) → Each P xs → Each P (last_places xs)
 Each-last_places P [] h = tt
@@ -101,16 +102,16 @@ pub log_given : (table : LifeTable) (station : StationId) (past : List Event) (m
     ≡ segments_in (log table station past) ++ flat_map segments_of (new_items table station (items table station past) (accepted moment update))
 log_given table station past moment update =
     let new : List Segment = flat_map segments_of (new_items table station (items table station past) (accepted moment update)) in
-    map-append (λ (t : Touch). t.segment) (log table station past) (map (touch None) new)
-    ∙ ap (λ l. segments_in (log table station past) ++ l) (segments_of_touches None new)
+    map-append (λ (t : Touch). t.segment) (log table station past) (map (touch false moment) new)
+    ∙ ap (λ l. segments_in (log table station past) ++ l) (segments_of_touches false moment new)
 
 pub log_filled : (table : LifeTable) (station : StationId) (past : List Event) (moment slot : ℕ)
     → segments_in (log table station (fill moment slot ∷ past))
     ≡ segments_in (log table station past) ++ airing (items table station past) (log table station past) moment
 log_filled table station past moment slot =
     let new : List Segment = airing (items table station past) (log table station past) moment in
-    map-append (λ (t : Touch). t.segment) (log table station past) (map (touch (Some moment)) new)
-    ∙ ap (λ l. segments_in (log table station past) ++ l) (segments_of_touches (Some moment) new)
+    map-append (λ (t : Touch). t.segment) (log table station past) (map (touch true moment) new)
+    ∙ ap (λ l. segments_in (log table station past) ++ l) (segments_of_touches true moment new)
 
 pub Each-waiting : (P : Segment → Type 0) (all : List Item) (touched : List Touch) (moment : ℕ) → Each P (segments_in touched) → Each P (waiting_segments all touched moment)
 Each-waiting P all touched moment h = subst (Each P) (sym (waiting_is all touched moment))

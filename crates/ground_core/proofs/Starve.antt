@@ -11,9 +11,9 @@ use Rattle.segment_core.specs.Cutting.{PartsFitFrames}
 use Rattle.ground_core.specs.Item.{Item, Segment, room_of, segments_of, file_of, end_of}
 use Rattle.ground_core.specs.Update.{Update}
 use Rattle.ground_core.specs.Piece.{piece_of}
-use Rattle.ground_core.specs.History.{Event, accepted, fill, moment_of, items}
+use Rattle.ground_core.specs.History.{Event, accepted, fill, event_moment, items}
 use Rattle.ground_core.specs.Airing.{log, longest_fitting, is_live}
-use Rattle.ground_core.specs.Broadcast.{IsHistory, IsNotBefore}
+use Rattle.ground_core.specs.Broadcast.{IsHistory, IsNotBeforeLast}
 use Rattle.ground_core.specs.Starving.{bytes_of, waiting_after, fills, WaitsStill, AreFrom, NoStarvation}
 use Rattle.ground_core.proofs.KeyLemmas.{KeyLaws}
 use Rattle.ground_core.proofs.ListLemmas.{Each, Each-weaker, Each-all, Each-at, filter_less}
@@ -228,13 +228,13 @@ waiting_given keys table station history given moment update =
 
 abbrev IsLater : ℕ → ℕ → List Event → Type 0
 IsLater at moment [] = at ≤ moment
-IsLater at moment (event ∷ later) = moment_of event ≤ moment
+IsLater at moment (event ∷ later) = event_moment event ≤ moment
 
-later_more : (at now moment : ℕ) (past later : List Event) (event : Event) → moment_of event ≤ moment → IsNotBefore (moment_of event) (later ++ past) → at ≤ moment_of event → IsLater at moment later
+later_more : (at now moment : ℕ) (past later : List Event) (event : Event) → event_moment event ≤ moment → IsNotBeforeLast (event_moment event) (later ++ past) → at ≤ event_moment event → IsLater at moment later
 later_more at now moment past [] event le h f = omega arith
 later_more at now moment past (e ∷ later) event le h f = omega arith
 
-later_now : (at : ℕ) (past later : List Event) (event : Event) → IsNotBefore (moment_of event) (later ++ past) → at ≤ moment_of event → IsLater at (moment_of event) later
+later_now : (at : ℕ) (past later : List Event) (event : Event) → IsNotBeforeLast (event_moment event) (later ++ past) → at ≤ event_moment event → IsLater at (event_moment event) later
 later_now at past [] event h f = f
 later_now at past (e ∷ later) event h f = h
 

@@ -6,19 +6,20 @@ use Rattle.list_members.specs.Membership.{IsIn}
 use Rattle.list_members.proofs.Members.{IsIn-before, IsIn-after, IsIn-either}
 use Rattle.list_members.proofs.ListMembers.{in_map}
 use Rattle.fisb_time.specs.Moment.{IsMoment}
+use Rattle.life_table.specs.Longest.{TextsAreWithin}
 use Rattle.life_table.specs.LifeTable.{LifeTable, greatest_life}
 use Rattle.uplink_frame.specs.declared.station.StationId.{StationId}
 use Rattle.uplink_frame.specs.Laws.{StationsAreTold}
 use Rattle.picture_core.specs.Key.{Key}
 use Rattle.ground_core.specs.Item.{Item, segments_of}
 use Rattle.ground_core.specs.Update.{Update, weather_of}
-use Rattle.ground_core.specs.History.{Event, accepted, fill, moment_of, items}
+use Rattle.ground_core.specs.History.{Event, accepted, fill, event_moment, items}
 use Rattle.ground_core.specs.Airing.{log, waiting_segments}
-use Rattle.ground_core.specs.Broadcast.{IsAccepted, IsNotBefore}
+use Rattle.ground_core.specs.Broadcast.{IsAccepted, IsNotBeforeLast}
 use Rattle.ground_core.specs.Refusal.{give_refusal}
 use Rattle.ground_core.specs.Piece.{Piece, IsLastOrEnded, HasPlace, ArePlaced, piece_of, live_by, left_pieces, fitting_pieces}
 use Rattle.ground_core.specs.Putting.{IsPut, IsAsBefore, AreItemsOf, count_put}
-use Rattle.ground_core.specs.StandsFor.{StandsFor, clock_of, moment_now, latest_after, latest_of}
+use Rattle.ground_core.specs.StandsFor.{StandsFor, history_clock, history_moment, latest_after, latest_of}
 use Rattle.ground_core.specs.Told.{refusal_by}
 use Rattle.segment_core.specs.Store.{last_above}
 use Rattle.ground_core.specs.Views.{latest_at, count_at, pieces_in}
@@ -30,7 +31,7 @@ use Rattle.ground_core.proofs.KeyLemmas.{KeyLaws}
 use Rattle.ground_core.proofs.Order.{segments_in}
 use Rattle.ground_core.proofs.Serials.{logged, log_given, log_filled, numbered_items, serial_in, latest_after-append}
 use Rattle.ground_core.proofs.Numbers.{filed_items, counted}
-use Rattle.ground_core.proofs.Versions.{GroundLaws, LivesAreLongest, one_life, given_version_is, refusal_alike}
+use Rattle.ground_core.proofs.Versions.{GroundLaws, one_life, given_version_is, refusal_alike}
 use Rattle.ground_core.proofs.Placed.{placed_put}
 use Rattle.ground_core.proofs.Queue.{IsFilled, filled, given_line, made_items}
 use Rattle.ground_core.proofs.SentItems.{AreSent, are_sent, latest_same, after_kept, count_same, pieces_same, length_same}
@@ -41,21 +42,21 @@ not_early last moment h = elim (cases_Bool (nat_lt moment last)) [
   | inr f ↦ ltb-false moment last f
 ]
 
-pub not_before : (history : List Event) (moment : ℕ) → last_above (clock_of history) moment ≡ None → IsNotBefore moment history
+pub not_before : (history : List Event) (moment : ℕ) → last_above (history_clock history) moment ≡ None → IsNotBeforeLast moment history
 not_before [] moment h = tt
-not_before (event ∷ past) moment h = not_early (moment_of event) moment h
+not_before (event ∷ past) moment h = not_early (event_moment event) moment h
 
-pub clock_below : (history : List Event) (moment : ℕ) → last_above (clock_of history) moment ≡ None → moment_now history ≤ moment
+pub clock_below : (history : List Event) (moment : ℕ) → last_above (history_clock history) moment ≡ None → history_moment history ≤ moment
 clock_below [] moment h = omega arith
-clock_below (event ∷ past) moment h = not_early (moment_of event) moment h
+clock_below (event ∷ past) moment h = not_early (event_moment event) moment h
 
 -- what is kept counts at each later moment as all that was given
 pub kept_at : (table : LifeTable) (station : StationId) (history : List Event) (moment : ℕ) (sender : Ground) → StandsFor table station sender history
-    → moment_now history ≤ moment → (key : Key) → IsLastOrEnded moment (latest_of (items table station history) key) (latest_at sender.newest key)
-kept_at table station history moment sender s le key = kept_later (moment_now history) moment _ _ le (s.newest_is key)
+    → history_moment history ≤ moment → (key : Key) → IsLastOrEnded moment (latest_of (items table station history) key) (latest_at sender.newest key)
+kept_at table station history moment sender s le key = kept_later (history_moment history) moment _ _ le (s.newest_is key)
 
 pub lives_same : (table : LifeTable) (station : StationId) (history : List Event) (moment : ℕ) (sender : Ground) → StandsFor table station sender history
-    → moment_now history ≤ moment → live_by (latest_at sender.newest) moment ≡ live_by (latest_of (items table station history)) moment
+    → history_moment history ≤ moment → live_by (latest_at sender.newest) moment ≡ live_by (latest_of (items table station history)) moment
 lives_same table station history moment sender s le =
     live_kept moment (latest_of (items table station history)) (latest_at sender.newest) (kept_at table station history moment sender s le)
 
@@ -70,18 +71,18 @@ counts_later f clock moment bound kept all le e = elim (cases_Bool (nat_lt momen
 ]
 
 counts_now : (table : LifeTable) (station : StationId) (history : List Event) (moment version product : ℕ) (sender : Ground) → StandsFor table station sender history
-    → moment_now history ≤ moment → moment < version + greatest_life table
+    → history_moment history ≤ moment → moment < version + greatest_life table
     → count_at sender.files version product ≡ length (filed_items version product (items table station history))
 counts_now table station history moment version product sender s le lt =
     s.files_are version product
-    ∙ ap (λ b. if b then length (filed_items version product (items table station history)) else 0) (lt-ltb (moment_now history) (version + greatest_life table) (omega arith))
+    ∙ ap (λ b. if b then length (filed_items version product (items table station history)) else 0) (lt-ltb (history_moment history) (version + greatest_life table) (omega arith))
 
 pub line_of : (table : LifeTable) (station : StationId) (history : List Event) (sender : Ground) (s : StandsFor table station sender history)
-    → filter (live_by (latest_of (items table station history)) (moment_now history)) (pieces_in sender.line)
-    ≡ map piece_of (waiting_segments (items table station history) (log table station history) (moment_now history))
+    → filter (live_by (latest_of (items table station history)) (history_moment history)) (pieces_in sender.line)
+    ≡ map piece_of (waiting_segments (items table station history) (log table station history) (history_moment history))
 line_of table station history sender s =
-    let now : moment_now history ≤ moment_now history = omega arith in
-    ap (λ f. filter f (pieces_in sender.line)) (sym (lives_same table station history (moment_now history) sender s now)) ∙ s.line_is
+    let now : history_moment history ≤ history_moment history = omega arith in
+    ap (λ f. filter f (pieces_in sender.line)) (sym (lives_same table station history (history_moment history) sender s now)) ∙ s.line_is
 
 -- what counts is as it was
 pub same_stands : (table : LifeTable) (station : StationId) (history : List Event) (old new : Ground) → StandsFor table station old history → IsAsBefore old new
@@ -92,12 +93,12 @@ same_stands table station history old new s b = record {
   station_is = b.station ∙ s.station_is;
   clock_is = b.clock ∙ s.clock_is;
   given_is = b.given ∙ s.given_is;
-  newest_is = λ key. subst (IsLastOrEnded (moment_now history) (latest_of (items table station history) key)) (sym (b.newest key)) (s.newest_is key);
+  newest_is = λ key. subst (IsLastOrEnded (history_moment history) (latest_of (items table station history) key)) (sym (b.newest key)) (s.newest_is key);
   files_are = λ v p. b.files v p ∙ s.files_are v p;
   placed = λ key kept e. subst (λ l. HasPlace l key kept) (sym b.line) (s.placed key kept (sym (b.newest key) ∙ e));
   of_log = λ p i. s.of_log p (subst (IsIn p) b.line i);
-  line_is = ap (λ l. filter (live_by l (moment_now history)) (pieces_in new.line)) (fun_ext b.newest)
-      ∙ ap (filter (live_by (latest_at old.newest) (moment_now history))) b.line ∙ s.line_is;
+  line_is = ap (λ l. filter (live_by l (history_moment history)) (pieces_in new.line)) (fun_ext b.newest)
+      ∙ ap (filter (live_by (latest_at old.newest) (history_moment history))) b.line ∙ s.line_is;
 }
 
 -- what a fill changes
@@ -116,25 +117,25 @@ pub record IsTaken (old : Ground) (moment : ℕ) (new : Ground) : Type 0 where
   pub among : (p : Piece) → IsIn p (pieces_in new.line) → IsIn p (pieces_in old.line)
 
 pub filled_of : StationsAreTold → KeyLaws → (table : LifeTable) (station : StationId) (history : List Event) (moment slot : ℕ) (old : Ground) (new : List Piece) → StandsFor table station old history
-    → last_above (clock_of history) moment ≡ None
+    → last_above (history_clock history) moment ≡ None
     → filter (live_by (latest_at old.newest) moment) new
     ≡ left_pieces 424 (filter (live_by (latest_at old.newest) moment) (pieces_in old.line))
     ++ fitting_pieces 424 (filter (live_by (latest_at old.newest) moment) (pieces_in old.line))
     → IsFilled table station history moment slot (pieces_in old.line) new
 filled_of told keys table station history moment slot old new s e n =
-    filled told keys table station history (moment_now history) moment slot (pieces_in old.line) new (clock_below history moment e)
+    filled told keys table station history (history_moment history) moment slot (pieces_in old.line) new (clock_below history moment e)
     (line_of table station history old s)
     (subst (λ f. filter f new ≡ left_pieces 424 (filter f (pieces_in old.line)) ++ fitting_pieces 424 (filter f (pieces_in old.line)))
     (lives_same table station history moment old s (clock_below history moment e)) n)
 
 pub fill_stands : StationsAreTold → KeyLaws → (table : LifeTable) (station : StationId) (history : List Event) (moment slot : ℕ) (old new : Ground) → StandsFor table station old history
-    → last_above (clock_of history) moment ≡ None → slot < 32 → IsMoment moment → IsTaken old moment new
+    → last_above (history_clock history) moment ≡ None → slot < 32 → IsMoment moment → IsTaken old moment new
     → StandsFor table station new (fill moment slot ∷ history)
 fill_stands told keys table station history moment slot old new s e lt m t =
     let all : List Item = items table station history in
     let same : items table station (fill moment slot ∷ history) ≡ all = append-nil all in
     let f = filled_of told keys table station history moment slot old (pieces_in new.line) s e t.line in
-    let le : moment_now history ≤ moment = clock_below history moment e in
+    let le : history_moment history ≤ moment = clock_below history moment e in
     let life : old.life ≡ greatest_life table = old.longest ∙ ap greatest_life s.table_is in
     record {
       is_history = (record { is_accepted = lt; moment_is = m; not_before = not_before history moment e }, s.is_history);
@@ -145,7 +146,7 @@ fill_stands told keys table station history moment slot old new s e lt m t =
       newest_is = λ key. subst (λ is. IsLastOrEnded moment (latest_of is key) (latest_at new.newest key)) (sym same)
           (kept_then moment (latest_of all key) (latest_at old.newest key) (latest_at new.newest key) (kept_at table station history moment old s le key) (t.newest key));
       files_are = λ v p. t.files v p ∙ ap (λ n. if nat_lt moment (v + n) then count_at old.files v p else 0) life
-          ∙ counts_later (λ n. n) (moment_now history) moment (v + greatest_life table) (count_at old.files v p) (length (filed_items v p all)) le (s.files_are v p)
+          ∙ counts_later (λ n. n) (history_moment history) moment (v + greatest_life table) (count_at old.files v p) (length (filed_items v p all)) le (s.files_are v p)
           ∙ ap (λ is. if nat_lt moment (v + greatest_life table) then length (filed_items v p is) else 0) (sym same);
       placed = t.placed s.placed;
       of_log = λ p i. (let o = s.of_log p (t.among p i) in record {
@@ -168,7 +169,7 @@ counts_then moment bound kept all f sum same e = elim (cases_Bool (nat_lt moment
 
 -- the items that are put are those that the update makes
 pub items_are_sent : (table : LifeTable) → GroundLaws table → (station : StationId) (history : List Event) (moment : ℕ) (update : Update) (old : Ground) (items_put : List SentItem)
-    → StandsFor table station old history → moment_now history ≤ moment
+    → StandsFor table station old history → history_moment history ≤ moment
     → IsAccepted table (items table station history) (accepted moment update)
     → AreItemsOf (count_at old.files) old.given (weather_of table update) items_put
     → AreSent (made_items table station moment history update) items_put
@@ -179,7 +180,7 @@ items_are_sent table laws station history moment update old items_put s le accep
     (λ v p lt. counts_now table station history moment v p old s le lt) are
 
 pub give_stands : (table : LifeTable) → GroundLaws table → (station : StationId) (history : List Event) (moment : ℕ) (update : Update) (old new : Ground) (items_put : List SentItem)
-    → StandsFor table station old history → last_above (clock_of history) moment ≡ None → IsMoment moment
+    → StandsFor table station old history → last_above (history_clock history) moment ≡ None → IsMoment moment
     → IsAccepted table (items table station history) (accepted moment update)
     → AreItemsOf (count_at old.files) old.given (weather_of table update) items_put → IsPut old moment items_put new
     → StandsFor table station new (accepted moment update ∷ history)
@@ -188,7 +189,7 @@ give_stands table laws station history moment update old new items_put s e m acc
     let all : List Item = items table station history in
     let made : List Item = made_items table station moment history update in
     let after : List Event = accepted moment update ∷ history in
-    let le : moment_now history ≤ moment = clock_below history moment e in
+    let le : history_moment history ≤ moment = clock_below history moment e in
     let sent : AreSent made items_put = items_are_sent table laws station history moment update old items_put s le accept are in
     let life : old.life ≡ greatest_life table = old.longest ∙ ap greatest_life s.table_is in
     let newest : (key : Key) → IsLastOrEnded moment (latest_of (items table station after) key) (latest_at new.newest key) = λ (key : Key).
@@ -224,7 +225,7 @@ give_stands table laws station history moment update old new items_put s e m acc
         })
       ];
       line_is = ap (λ f. filter f (pieces_in new.line)) (live_kept moment (latest_of (items table station after)) (latest_at new.newest) newest)
-          ∙ given_line keys table station history moment update (moment_now history) (pieces_in old.line) (pieces_in new.line) le
+          ∙ given_line keys table station history moment update (history_moment history) (pieces_in old.line) (pieces_in new.line) le
           (Each-in _ (pieces_in old.line) (λ q k.
           let o = s.of_log q k in
           let l = Each-at _ _ o.segment (logged table station history) o.given in
@@ -235,8 +236,8 @@ give_stands table laws station history moment update old new items_put s e m acc
     }
 
 -- what is kept tells the first reason
-pub refusal_same : (table : LifeTable) → GroundLaws table → (station : StationId) (history : List Event) (moment : ℕ) (update : Update) (sender : Ground) → LivesAreLongest
-    → StandsFor table station sender history → moment_now history ≤ moment
+pub refusal_same : (table : LifeTable) → GroundLaws table → (station : StationId) (history : List Event) (moment : ℕ) (update : Update) (sender : Ground) → TextsAreWithin
+    → StandsFor table station sender history → history_moment history ≤ moment
     → refusal_by sender.table (latest_at sender.newest) (count_at sender.files) moment update
     ≡ give_refusal table (items table station history) moment update
 refusal_same table laws station history moment update sender law s le =

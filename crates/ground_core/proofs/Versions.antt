@@ -9,6 +9,7 @@ use Rattle.std.proofs.lemmas.List.Elements.{filter-append}
 use Rattle.fisb_time.specs.TimeForm.{shows}
 use Rattle.dlac_text.specs.Refusal.{text_refusal}
 use Rattle.life_table.specs.LifeTable.{LifeTable, RadarRow, TextRow, radar_row, text_row, greatest_of, longest, greatest_life}
+use Rattle.life_table.specs.Longest.{TextsAreWithin}
 use Rattle.life_table.specs.Products.{is_read_product}
 use Rattle.life_table.specs.Rules.{IsTable}
 use Rattle.uplink_frame.specs.declared.station.StationId.{StationId}
@@ -216,11 +217,6 @@ file_alike table before moment w lt h =
     ap (λ b. if is_segmented w && b then Some no_file else None)
     (sym (none_there (length (filed_items w.version w.product before))) ∙ ap is_none (sym (file_is_count table moment before w lt h)))
 
--- no row of reports lives longer than the longest life
-abbrev pub LivesAreLongest : Type 0
-LivesAreLongest = (table : LifeTable) (word : List ℕ) (row : TextRow) → text_row table word ≡ Some row
-    → (life : ℕ) × (longest table 413 ≡ Some life) × (row.life ≤ life)
-
 row_alike : (table : LifeTable) (before : List Item) (moment version : ℕ) (chars : List ℕ) (key : TextKey) (row : TextRow) (latest : Key → Option Latest) (count : ℕ → ℕ → ℕ)
     → Keeps table before moment latest count
     → (moment < version + row.life → moment < version + unwrap_or (longest table 413) 0)
@@ -237,7 +233,7 @@ row_alike table before moment version chars key row latest count k f er =
     ∙ ages_alike table before moment version row.life latest count keys (file_refusal table before moment w) k lt (ap life_of_row er, tt))
 
 listed_alike : (table : LifeTable) (before : List Item) (moment version : ℕ) (chars : List ℕ) (key : TextKey) (row : Option TextRow) (latest : Key → Option Latest) (count : ℕ → ℕ → ℕ)
-    → LivesAreLongest → Keeps table before moment latest count
+    → TextsAreWithin → Keeps table before moment latest count
     → text_key table chars ≡ Ok key → text_row table key.kind ≡ row
     → weather_refusal_by latest count moment key (weather_by_row version chars (report_entries table version chars) (text_row table key.kind))
     ≡ weather_refusal table before moment key (weather_by_row version chars (report_entries table version chars) (text_row table key.kind))
@@ -251,7 +247,7 @@ listed_alike table before moment version chars key (Some row) latest count law k
     ∙ ap (weather_refusal table before moment key) (sym ws)
 
 key_alike : (table : LifeTable) (before : List Item) (moment version : ℕ) (chars : List ℕ) (key : Result TextKey KeyFault) (latest : Key → Option Latest) (count : ℕ → ℕ → ℕ)
-    → LivesAreLongest → Keeps table before moment latest count
+    → TextsAreWithin → Keeps table before moment latest count
     → text_key table chars ≡ key
     → key_refusal_by table latest count moment version chars key ≡ key_refusal table before moment version chars key
 key_alike table before moment version chars (Err fault) latest count law k ek = refl
@@ -276,7 +272,7 @@ numbers_own table product scale south (n ∷ more) = (refl, numbers_own table pr
 
 -- what is kept tells the first reason against an update
 pub refusal_alike : (table : LifeTable) (before : List Item) (moment : ℕ) (update : Update) (latest : Key → Option Latest) (count : ℕ → ℕ → ℕ)
-    → LivesAreLongest → Keeps table before moment latest count
+    → TextsAreWithin → Keeps table before moment latest count
     → refusal_by table latest count moment update ≡ give_refusal table before moment update
 unfolding give_refusal
 refusal_alike table before moment (text version text_chars) latest count law k =

@@ -1,6 +1,6 @@
 -- What each fill of a frame airs, by the history before it.
-use Rattle.std.specs.Prelude.{ℕ, ◌-◌, Bool, not, ◌&&◌, nat_lt, nat_le, if◌then◌else◌, List, [], ◌∷◌}
-use Rattle.std.specs.Prelude.{◌++◌, map, filter, flat_map, sum_by, Option, Some, None}
+use Rattle.std.specs.Prelude.{ℕ, ◌-◌, Bool, true, false, not, ◌&&◌, nat_lt, nat_le, List, [], ◌∷◌}
+use Rattle.std.specs.Prelude.{if◌then◌else◌, ◌++◌, map, filter, flat_map, sum_by}
 use Rattle.std.specs.List.{list_any}
 use Rattle.life_table.specs.LifeTable.{LifeTable}
 use Rattle.uplink_frame.specs.declared.station.StationId.{StationId}
@@ -24,13 +24,14 @@ abbrev pub is_live : List Item → ℕ → Item → Bool
 is_live all moment item = nat_lt moment (end_of item.weather)
     && list_any (λ entry. is_newest_for all item entry.key) item.weather.entries
 
--- a segment that was given, or was aired at a moment
+-- a giving or an airing of a segment, at its moment
 pub record Touch : Type 0 where
   pub segment : Segment
-  pub aired : Option ℕ
+  pub moment : ℕ
+  pub is_airing : Bool
 
-abbrev pub touch : Option ℕ → Segment → Touch
-touch aired s = record { segment = s; aired = aired }
+abbrev pub touch : Bool → ℕ → Segment → Touch
+touch is_airing moment s = record { segment = s; moment = moment; is_airing = is_airing }
 
 -- of each segment the last touch, at its place in the log
 abbrev pub is_touched : List Touch → Segment → Bool
@@ -60,10 +61,10 @@ airing all log moment = longest_fitting frame_room (waiting_segments all log mom
 -- what an event adds to the log
 abbrev pub touches : LifeTable → StationId → List Item → List Touch → Event → List Touch
 touches table station before log (accepted moment update) =
-    map (touch None) (flat_map segments_of
+    map (touch false moment) (flat_map segments_of
     (new_items table station before (accepted moment update)))
 touches table station before log (fill moment slot) =
-    map (touch (Some moment)) (airing before log moment)
+    map (touch true moment) (airing before log moment)
 
 -- every giving and every airing of a segment, in order
 abbrev pub log : LifeTable → StationId → List Event → List Touch

@@ -8,7 +8,7 @@ use Rattle.uplink_frame.specs.declared.station.StationId.{StationId}
 use Rattle.uplink_frame.specs.Station.{same_station, FitsStation}
 use Rattle.ground_core.specs.Item.{Item}
 use Rattle.ground_core.specs.Update.{IsUpdate}
-use Rattle.ground_core.specs.History.{Event, accepted, fill, moment_of, items, new_items}
+use Rattle.ground_core.specs.History.{Event, accepted, fill, event_moment, items, new_items}
 use Rattle.ground_core.specs.Airing.{Frame, frame_after}
 use Rattle.ground_core.specs.Refusal.{give_refusal}
 
@@ -19,16 +19,16 @@ IsAccepted table before (accepted moment update) =
 IsAccepted table before (fill moment slot) = slot < 32
 
 -- the event is not before the one before it
-abbrev pub IsNotBefore : ℕ → List Event → Type 0
-IsNotBefore moment [] = Unit {0}
-IsNotBefore moment (event ∷ past) = moment_of event ≤ moment
+abbrev pub IsNotBeforeLast : ℕ → List Event → Type 0
+IsNotBeforeLast moment [] = Unit {0}
+IsNotBeforeLast moment (event ∷ past) = event_moment event ≤ moment
 
 -- the event can come after this history
 pub record IsNext (table : LifeTable) (station : StationId) (past : List Event)
     (event : Event) : Type 0 where
   pub is_accepted : IsAccepted table (items table station past) event
-  pub moment_is : IsMoment (moment_of event)
-  pub not_before : IsNotBefore (moment_of event) past
+  pub moment_is : IsMoment (event_moment event)
+  pub not_before : IsNotBeforeLast (event_moment event) past
 
 abbrev pub IsHistory : LifeTable → StationId → List Event → Type 0
 IsHistory table station [] = Unit {0}

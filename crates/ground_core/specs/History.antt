@@ -14,9 +14,9 @@ pub data Event : Type 0 where
   accepted : (moment : ℕ) (update : Update) → Event
   fill : (moment slot : ℕ) → Event
 
-abbrev pub moment_of : Event → ℕ
-moment_of (accepted moment update) = moment
-moment_of (fill moment slot) = moment
+abbrev pub event_moment : Event → ℕ
+event_moment (accepted moment update) = moment
+event_moment (fill moment slot) = moment
 
 -- An item is kept until its version and the longest life of its product have passed. A rival is
 -- kept, is sent in segments, and is of the same product and version.

@@ -8,6 +8,7 @@ use Rattle.fisb_time.specs.TimeForm.{shows}
 use Rattle.fisb_time.specs.declared.form.TimeForm.{TimeForm}
 use Rattle.dlac_text.specs.Refusal.{TextRefusal, text_refusal}
 use Rattle.life_table.specs.LifeTable.{LifeTable, RadarRow, radar_row, text_row, greatest_of}
+use Rattle.radar_core.specs.Keys.{first_high}
 use Rattle.radar_core.specs.declared.key.BlockKey.{BlockKey}
 use Rattle.text_reports.specs.TextKey.{TextKey, KeyFault, unlisted, text_key}
 use Rattle.picture_core.specs.Key.{Key, radar_block, text_report}
@@ -103,7 +104,7 @@ most_blanks = 1024
 abbrev pub are_blanks : ℕ → List ℕ → Bool
 are_blanks scale numbers = nat_le scale 2 && nat_lt 0 (length numbers)
     && nat_le (length numbers) most_blanks && rise numbers
-    && list_all (λ number. nat_lt number 405000) numbers
+    && list_all (λ number. nat_lt number first_high) numbers
 
 -- radar: a row of its product, blocks that records can name, and then the version. It is sent whole
 abbrev pub radar_refusal : ℕ → ℕ → Bool → List (Option ℕ) → Option RadarRow → Option GiveRefusal

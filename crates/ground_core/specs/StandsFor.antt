@@ -10,7 +10,7 @@ use Rattle.ground_core.specs.Item.{Item, Segment, is_segmented, end_of}
 use Rattle.ground_core.specs.History.{Event, items}
 use Rattle.ground_core.specs.Airing.{has_key, log, waiting_segments}
 use Rattle.ground_core.specs.Broadcast.{IsHistory}
-pub use Rattle.ground_core.specs.OnAir.{clock_of, moment_now, IsOnAir}
+pub use Rattle.ground_core.specs.OnAir.{history_clock, history_moment, IsOnAir}
 use Rattle.ground_core.specs.Piece.{Piece, Latest, IsLastOrEnded, ArePlaced, piece_of, live_by}
 use Rattle.ground_core.specs.Views.{latest_at, count_at, pieces_in}
 use Rattle.ground_core.specs.declared.ground.Ground.{Ground}
@@ -51,19 +51,19 @@ pub record StandsFor (table : LifeTable) (station : StationId) (sender : Ground)
   pub is_history : IsHistory table station history
   pub table_is : sender.table ≡ table
   pub station_is : sender.station ≡ station
-  pub clock_is : sender.clock ≡ clock_of history
+  pub clock_is : sender.clock ≡ history_clock history
   pub given_is : sender.given ≡ length (items table station history)
   pub newest_is : (key : Key)
-      → IsLastOrEnded (moment_now history) (latest_of (items table station history) key)
+      → IsLastOrEnded (history_moment history) (latest_of (items table station history) key)
       (latest_at sender.newest key)
   pub files_are : (version product : ℕ)
       → count_at sender.files version product
-      ≡ (if nat_lt (moment_now history) (version + greatest_life table)
+      ≡ (if nat_lt (history_moment history) (version + greatest_life table)
       then length (filter (is_filed version product) (items table station history))
       else 0)
   pub placed : ArePlaced (latest_at sender.newest) (pieces_in sender.line)
   pub of_log : (p : Piece) → IsIn p (pieces_in sender.line) → IsOfLog table station history p
-  pub line_is : filter (live_by (latest_at sender.newest) (moment_now history))
+  pub line_is : filter (live_by (latest_at sender.newest) (history_moment history))
       (pieces_in sender.line)
       ≡ map piece_of (waiting_segments (items table station history) (log table station history)
-      (moment_now history))
+      (history_moment history))

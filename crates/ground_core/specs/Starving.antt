@@ -4,7 +4,7 @@ use Rattle.list_members.specs.Membership.{IsIn}
 use Rattle.life_table.specs.LifeTable.{LifeTable}
 use Rattle.uplink_frame.specs.declared.station.StationId.{StationId}
 use Rattle.ground_core.specs.Item.{Segment, room_of}
-use Rattle.ground_core.specs.History.{Event, accepted, fill, moment_of, items}
+use Rattle.ground_core.specs.History.{Event, accepted, fill, event_moment, items}
 use Rattle.ground_core.specs.Airing.{log, waiting_segments, airing}
 use Rattle.ground_core.specs.Broadcast.{IsHistory}
 
@@ -40,7 +40,7 @@ WaitsStill table station past s (fill moment slot ∷ later) =
 -- no event is before the moment
 abbrev pub AreFrom : ℕ → List Event → Type 0
 AreFrom moment [] = Unit {0}
-AreFrom moment (event ∷ later) = (moment ≤ moment_of event) × AreFrom moment later
+AreFrom moment (event ∷ later) = (moment ≤ event_moment event) × AreFrom moment later
 
 -- A segment before which these wait, at a moment that no later event is before, is aired by the
 -- n-th next fill while it stays live, n being twice the bytes before it by 425, rounded down, plus

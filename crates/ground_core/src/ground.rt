@@ -61,7 +61,7 @@ impl Ground {
     ghost use Rattle.ground_core.specs.Airing.{frame_after};
     ghost use Rattle.ground_core.specs.Told.{IsTold, IsToldAt, kept_told, refusal_by};
     ghost use Rattle.segment_core.specs.Store.{last_above};
-    ghost use Rattle.ground_core.specs.StandsFor.{StandsFor, IsOnAir, clock_of};
+    ghost use Rattle.ground_core.specs.StandsFor.{StandsFor, IsOnAir, history_clock};
     ghost use Rattle.ground_core.specs.Views.{latest_at, count_at};
     ghost use Rattle.ground_core.specs.Putting.{IsPut, IsAsBefore, AreItemsOf, IsWhole, AreWhole};
     ghost use Rattle.ground_core.specs.Putting.{AreItemsFrom, values_of};
@@ -112,14 +112,14 @@ impl Ground {
             (text_update version text.now) ∷ history)) }
         ensures nothing_against { (table : Table) (station : Place) (history : List Event)
             → StandsFor table station self.old history
-            → OnOk result ((last_above (clock_of history) moment ≡ None)
+            → OnOk result ((last_above (history_clock history) moment ≡ None)
             × (give_refusal table (items table station history) moment
             (text_update version text.now) ≡ None)) }
 
         // The fault is the first reason, and the object stands for the same history.
         ensures refused { (table : Table) (station : Place) (history : List Event)
             → StandsFor table station self.old history
-            → IfErr result (IsToldAt (last_above (clock_of history) moment)
+            → IfErr result (IsToldAt (last_above (history_clock history) moment)
             (give_refusal table (items table station history) moment
             (text_update version text.now))) }
         ensures same { (table : Table) (station : Place) (history : List Event)
@@ -158,14 +158,14 @@ impl Ground {
             (block_update version key.now cells.now) ∷ history)) }
         ensures nothing_against { (table : Table) (station : Place) (history : List Event)
             → StandsFor table station self.old history
-            → OnOk result ((last_above (clock_of history) moment ≡ None)
+            → OnOk result ((last_above (history_clock history) moment ≡ None)
             × (give_refusal table (items table station history) moment
             (block_update version key.now cells.now) ≡ None)) }
 
         // The fault is the first reason, and the object stands for the same history.
         ensures refused { (table : Table) (station : Place) (history : List Event)
             → StandsFor table station self.old history
-            → IfErr result (IsToldAt (last_above (clock_of history) moment)
+            → IfErr result (IsToldAt (last_above (history_clock history) moment)
             (give_refusal table (items table station history) moment
             (block_update version key.now cells.now))) }
         ensures same { (table : Table) (station : Place) (history : List Event)
@@ -209,14 +209,14 @@ impl Ground {
             (blanks_update version product scale south numbers.now) ∷ history)) }
         ensures nothing_against { (table : Table) (station : Place) (history : List Event)
             → StandsFor table station self.old history
-            → OnOk result ((last_above (clock_of history) moment ≡ None)
+            → OnOk result ((last_above (history_clock history) moment ≡ None)
             × (give_refusal table (items table station history) moment
             (blanks_update version product scale south numbers.now) ≡ None)) }
 
         // The fault is the first reason, and the object stands for the same history.
         ensures refused { (table : Table) (station : Place) (history : List Event)
             → StandsFor table station self.old history
-            → IfErr result (IsToldAt (last_above (clock_of history) moment)
+            → IfErr result (IsToldAt (last_above (history_clock history) moment)
             (give_refusal table (items table station history) moment
             (blanks_update version product scale south numbers.now))) }
         ensures same { (table : Table) (station : Place) (history : List Event)
@@ -258,11 +258,11 @@ impl Ground {
             → IfOk result (IsOnAir (frame_after table station history moment slot)) }
         ensures in_time { (table : Table) (station : Place) (history : List Event)
             → StandsFor table station self.old history
-            → OnOk result (last_above (clock_of history) moment ≡ None) }
+            → OnOk result (last_above (history_clock history) moment ≡ None) }
 
         ensures refused { (table : Table) (station : Place) (history : List Event)
             → StandsFor table station self.old history
-            → IfErr result (λ fault. last_above (clock_of history) moment
+            → IfErr result (λ fault. last_above (history_clock history) moment
             ≡ Some (kept_told fault)) }
         ensures same { OnErr result (self.new ≡ self.old) }
 

@@ -9,6 +9,7 @@ ghost use Rattle.fisb_time.specs.TimeForm.{shows};
 ghost use Rattle.dlac_text.specs.Payload.{text_payload};
 ghost use Rattle.life_table.specs.LifeTable.{thirty_days, radar, radar_row};
 ghost use Rattle.dlac_text.specs.Refusal.{IsSendable, text_refusal};
+ghost use Rattle.radar_core.specs.Keys.{first_high};
 ghost use Rattle.text_reports.specs.TextKey.{text_key};
 ghost use Rattle.text_reports.specs.Views.{key_view};
 ghost use Rattle.picture_core.specs.Key.{Key};
@@ -28,7 +29,7 @@ use dlac_text::{TextFault, encode_text};
 use fisb_time::{Moment, TimeForm, shows};
 use fisb_wire::Bytes;
 use life_table::LifeTable;
-use radar_core::BlockKey;
+use radar_core::{BlockKey, FIRST_HIGH};
 use std::alloc::Global;
 use text_reports::{KeyFault, TextKey, key_of};
 
@@ -37,9 +38,6 @@ const FILE_NUMBERS: u64 = 1024;
 
 /// How many empty blocks one update may have.
 const MOST_BLANKS: usize = 1024;
-
-/// From this number on no empty record names a block.
-const HIGH_EMPTY: u32 = 405_000;
 
 /// The payload of a text, or why it cannot be sent.
 pub(crate) fn payload_of_text(alloc: Global, text: &str) -> Result<Bytes, GiveFault>
@@ -170,11 +168,11 @@ pub(crate) fn are_blanks(scale: u8, numbers: &[u32]) -> bool
 
 /// Whether each number is above the one before it, and all are numbers of blocks that may be empty.
 fn are_low_and_rise(numbers: &[u32]) -> bool
-    ensures { result ≡ (rise numbers.now && list_all (λ n. nat_lt n 405000) numbers.now) }
+    ensures { result ≡ (rise numbers.now && list_all (λ n. nat_lt n first_high) numbers.now) }
 {
     let mut least = 0;
     for number in numbers {
-        if *number < least || *number >= HIGH_EMPTY {
+        if *number < least || *number >= FIRST_HIGH {
             return false;
         }
         least = *number + 1;

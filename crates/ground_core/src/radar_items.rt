@@ -2,7 +2,7 @@
 ghost use Rattle.std.specs.Prelude.{◌≡◌, ◌<◌, ◌≤◌, ◌+◌, ◌^◌, ◌∷◌, [], length, flat_map, IfOk};
 ghost use Rattle.std.specs.List.{All};
 ghost use Rattle.life_table.specs.LifeTable.{radar};
-ghost use Rattle.radar_core.specs.Keys.{FitsKey};
+ghost use Rattle.radar_core.specs.Keys.{FitsKey, first_high};
 ghost use Rattle.radar_core.specs.Runs.{run_record};
 ghost use Rattle.radar_core.specs.Blanks.{IsGroup, blank_record};
 ghost use Rattle.radar_core.specs.Laws.{IsOneRecord};
@@ -67,7 +67,7 @@ fn run_payload(alloc: Global, key: &BlockKey, cells: &Cells) -> Result<Bytes, Al
 /// The empty record of a group of blocks.
 fn blank_payload(alloc: Global, base: &BlockKey, further: &[u32]) -> Result<Bytes, AllocError>
     requires scale { base.now.scale ≤ 2 }
-    requires number { base.now.number < 405000 }
+    requires number { base.now.number < first_high }
     requires group { IsGroup base.now.number further.now }
     ensures record { IfOk result (λ bytes. bytes ≡ blank_record base.now further.now) }
     ensures short { IfOk result (λ bytes. length bytes ≤ 131) }

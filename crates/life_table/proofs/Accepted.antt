@@ -6,14 +6,14 @@ use Rattle.std.specs.Ordering.{int_eq}
 use Rattle.std.specs.Prelude.{int_lt, unsigned_abs}
 use Rattle.std.proofs.lemmas.Bool.{cases_Bool, leb-true, ltb-false, false≢true, not-false}
 use Rattle.std.proofs.lemmas.Slice.Eq.{bytes_eq-Decides}
-use Rattle.list_members.proofs.Tests.{none_from}
+use Rattle.list_members.proofs.Tests.{none_from, ok_past_test}
 use Rattle.toml.specs.Data.{Data, Items, no_items, item}
 use Rattle.fisb_time.specs.declared.form.TimeForm.{TimeForm}
 use Rattle.fisb_time.specs.declared.form.TimeForm.TheVariants.{Minute, Second, DayMinute, DaySecond}
 use Rattle.life_table.specs.LifeTable.{TextRow, RadarRow, row, radar}
 use Rattle.life_table.specs.Rules.{IsTable, IsWithinForm}
 use Rattle.life_table.specs.Document.{or_fault, member_count, integer_at, text_at, is_word, key_words, form_of, radar_product, life_in, is_within}
-use Rattle.life_table.specs.RowsOf.{followed, numbered, own_row, own_text, alike_row, alike_text, text_entry, radar_entry, text_rows, radar_rows}
+use Rattle.life_table.specs.RowsOf.{and_then, with_row_number, own_row, own_text, alike_row, alike_text, text_entry, radar_entry, text_rows, radar_rows}
 use Rattle.life_table.specs.declared.fault.RowFault.{RowFault}
 use Rattle.life_table.specs.declared.fault.RowFault.TheVariants.{Shape, Word, Twice, As, Words, Form, Life, Product}
 use Rattle.life_table.specs.Fault.{Fault}
@@ -21,20 +21,16 @@ use Rattle.life_table.proofs.Behind.{AllBehind, AllBehind-nil, AllBehind-push, e
 use Rattle.life_table.proofs.Finding.{found_word, found_each}
 use Rattle.life_table.proofs.Ruled.{IsSound, IsNew, IsNewRadar, table_keeps}
 
--- what a test or a missing value let through
-pub let_through : {B : Type 0} (b : Bool) (e : RowFault) (r : Result B RowFault) (y : B) → cond b (Err e) r ≡ Ok y → (b ≡ false) × (r ≡ Ok y)
-let_through true e r y h = absurd (cc)
-let_through false e r y h = (refl, h)
-
+-- what a missing value let through
 pub had : {A B : Type 0} (e : RowFault) (o : Option A) (go : A → Result B RowFault) (y : B) → or_fault e o go ≡ Ok y → (x : A) × (o ≡ Some x) × (go x ≡ Ok y)
 had e None go y h = absurd (cc)
 had e (Some x) go y h = (x, refl, h)
 
-pub went_on : {A B : Type 0} (o : Result A Fault) (go : A → Result B Fault) (y : B) → followed go o ≡ Ok y → (x : A) × (o ≡ Ok x) × (go x ≡ Ok y)
+pub went_on : {A B : Type 0} (o : Result A Fault) (go : A → Result B Fault) (y : B) → and_then go o ≡ Ok y → (x : A) × (o ≡ Ok x) × (go x ≡ Ok y)
 went_on (Ok x) go y h = (x, refl, h)
 went_on (Err e) go y h = absurd (cc)
 
-pub was_ok : {A : Type 0} (n : ℕ) (r : Result A RowFault) (y : A) → numbered n r ≡ Ok y → r ≡ Ok y
+pub was_ok : {A : Type 0} (n : ℕ) (r : Result A RowFault) (y : A) → with_row_number n r ≡ Ok y → r ≡ Ok y
 was_ok n (Ok x) y h = let same : x ≡ y = cc in rw same
 was_ok n (Err e) y h = absurd (cc)
 
@@ -71,8 +67,8 @@ two_or_three z n h =
 
 own_is_new : (late : ℕ) (rows : List TextRow) (word : List ℕ) (words life form : ℤ) (r : TextRow) → own_row late rows word words life form ≡ Ok r → IsNew late rows r
 own_is_new late rows word words life form r h =
-    let (spelt, h1) = let_through (not (is_word word)) Word _ r h in
-    let (none, h2) = let_through (is_some (find (λ q. bytes_eq q.word word) rows)) Twice _ r h1 in
+    let (spelt, h1) = ok_past_test (not (is_word word)) Word _ r h in
+    let (none, h2) = ok_past_test (is_some (find (λ q. bytes_eq q.word word) rows)) Twice _ r h1 in
     let (count, e3, h3) = had Words (key_words words) _ r h2 in
     let (shown, e4, h4) = had Form (form_of form) _ r h3 in
     let (seconds, e5, h5) = had Life (life_in late shown life) _ r h4 in
@@ -84,11 +80,11 @@ own_is_new late rows word words life form r h =
 
 alike_is_new : (late : ℕ) (rows : List TextRow) (word kind : List ℕ) (r : TextRow) → AllBehind (IsNew late) rows → alike_row rows word kind ≡ Ok r → IsNew late rows r
 alike_is_new late rows word kind r all h =
-    let (spelt, h1) = let_through (not (is_word word)) Word _ r h in
-    let (spelt_kind, h2) = let_through (not (is_word kind)) Word _ r h1 in
-    let (none, h3) = let_through (is_some (find (λ q. bytes_eq q.word word) rows)) Twice _ r h2 in
+    let (spelt, h1) = ok_past_test (not (is_word word)) Word _ r h in
+    let (spelt_kind, h2) = ok_past_test (not (is_word kind)) Word _ r h1 in
+    let (none, h3) = ok_past_test (is_some (find (λ q. bytes_eq q.word word) rows)) Twice _ r h2 in
     let (own, e4, h4) = had As (find (λ q. bytes_eq q.word kind) rows) _ r h3 in
-    let (alike, h5) = let_through (not (bytes_eq own.kind kind)) As _ r h4 in
+    let (alike, h5) = ok_past_test (not (bytes_eq own.kind kind)) As _ r h4 in
     let same : row word kind own.words own.life own.form ≡ r = cc in
     let each : AllByRecursion (IsSound late) rows = each_placed (IsSound late) rows (λ before after q e. (all before after q e).sound) in
     let base : IsSound late own = found_each (IsSound late) (λ q. bytes_eq q.word kind) rows each own e4 in
@@ -125,7 +121,7 @@ entry_is_new late rows value r all h =
 texts_behind : (late : ℕ) (rows : List TextRow) (items : Items) (all : List TextRow) → AllBehind (IsNew late) rows → text_rows late rows items ≡ Ok all → AllBehind (IsNew late) all
 texts_behind late rows no_items all behind h = let same : rows ≡ all = cc in subst (AllBehind (IsNew late)) same behind
 texts_behind late rows (item value more) all behind h =
-    let (r, e, h') = went_on (numbered (length rows + 1) (text_entry late rows value)) (λ r. text_rows late (rows ++ r ∷ []) more) all h in
+    let (r, e, h') = went_on (with_row_number (length rows + 1) (text_entry late rows value)) (λ r. text_rows late (rows ++ r ∷ []) more) all h in
     let n = entry_is_new late rows value r behind (was_ok (length rows + 1) (text_entry late rows value) r e) in
     texts_behind late (rows ++ r ∷ []) more all (AllBehind-push (IsNew late) rows r behind n) h'
 
@@ -139,12 +135,12 @@ radar_number z n h =
 radar_is_new : (late : ℕ) (rows : List RadarRow) (value : Data) (r : RadarRow) → radar_entry late rows value ≡ Ok r → IsNewRadar late rows r
 unfolding radar_entry
 radar_is_new late rows value r h =
-    let (_, h0) = let_through (not (member_count value == 3)) Shape _ r h in
+    let (_, h0) = ok_past_test (not (member_count value == 3)) Shape _ r h in
     let (product, e1, h1) = had Shape (integer_at (codes "product") value) _ r h0 in
     let (life, e2, h2) = had Shape (integer_at (codes "life") value) _ r h1 in
     let (form, e3, h3) = had Shape (integer_at (codes "form") value) _ r h2 in
     let (number, e4, h4) = had Product (radar_product product) _ r h3 in
-    let (none, h5) = let_through (is_some (find (λ q. q.product == number) rows)) Twice _ r h4 in
+    let (none, h5) = ok_past_test (is_some (find (λ q. q.product == number) rows)) Twice _ r h4 in
     let (shown, e6, h6) = had Form (form_of form) _ r h5 in
     let (seconds, e7, h7) = had Life (life_in late shown life) _ r h6 in
     let same : radar number seconds shown ≡ r = cc in
@@ -156,7 +152,7 @@ radars_behind : (late before : ℕ) (rows : List RadarRow) (items : Items) (all 
     → AllBehind (IsNewRadar late) all
 radars_behind late before rows no_items all behind h = let same : rows ≡ all = cc in subst (AllBehind (IsNewRadar late)) same behind
 radars_behind late before rows (item value more) all behind h =
-    let (r, e, h') = went_on (numbered (before + length rows + 1) (radar_entry late rows value)) (λ r. radar_rows late before (rows ++ r ∷ []) more) all h in
+    let (r, e, h') = went_on (with_row_number (before + length rows + 1) (radar_entry late rows value)) (λ r. radar_rows late before (rows ++ r ∷ []) more) all h in
     let n = radar_is_new late rows value r (was_ok (before + length rows + 1) (radar_entry late rows value) r e) in
     radars_behind late before (rows ++ r ∷ []) more all (AllBehind-push (IsNewRadar late) rows r behind n) h'
 

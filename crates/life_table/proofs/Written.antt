@@ -7,7 +7,7 @@ use Rattle.toml.specs.Data.{Data, Members, table}
 use Rattle.toml.specs.Parse.{parse_document}
 use Rattle.life_table.specs.LifeTable.{TextRow, RadarRow}
 use Rattle.life_table.specs.Document.{Head, head}
-use Rattle.life_table.specs.RowsOf.{followed, text_rows, radar_rows}
+use Rattle.life_table.specs.RowsOf.{and_then, text_rows, radar_rows}
 use Rattle.life_table.specs.TableIn.{table_of_tree, table_in}
 use Rattle.life_table.specs.declared.fault.RowFault.{RowFault}
 use Rattle.life_table.specs.declared.fault.TableFault.{TableFault}
@@ -16,9 +16,9 @@ use Rattle.life_table.specs.Fault.{Fault, not_toml, bad_row}
 use Rattle.life_table.specs.Views.{IsFault}
 
 -- a fault is that of what follows too
-fault_followed : {A B : Type 0} (fault : TableFault) (answer : Result A Fault) (go : A → Result B Fault) → IsFault fault answer → IsFault fault (followed go answer)
-fault_followed NotToml answer go is = ap (followed go) is
-fault_followed (BadRow row reason) answer go is = ap (followed go) is
+fault_followed : {A B : Type 0} (fault : TableFault) (answer : Result A Fault) (go : A → Result B Fault) → IsFault fault answer → IsFault fault (and_then go answer)
+fault_followed NotToml answer go is = ap (and_then go) is
+fault_followed (BadRow row reason) answer go is = ap (and_then go) is
 fault_followed NoMemory answer go is = tt
 
 -- but for want of memory a fault is told

@@ -104,14 +104,14 @@ pub record Head : Type 0 where
   pub texts : Items
   pub radars : Items
 
-abbrev pub counted : Bool → ℕ
-counted true = 1
-counted false = 0
+abbrev pub one_if : Bool → ℕ
+one_if true = 1
+one_if false = 0
 
 -- the keys that stand in a document that has the two that it needs
 abbrev pub known_keys : Data → ℕ
 known_keys value =
-    2 + counted (is_some (get (codes "text") value)) + counted (is_some (get (codes "radar") value))
+    2 + one_if (is_some (get (codes "text") value)) + one_if (is_some (get (codes "radar") value))
 
 abbrev pub judged_head : Data → ℤ → ℤ → Items → Items → Result Head RowFault
 judged_head value version late texts radars =

@@ -13,19 +13,19 @@ use Rattle.life_table.specs.declared.fault.RowFault.TheVariants.{Form, Life, Pro
 use Rattle.life_table.specs.Fault.{Fault, bad_row}
 
 -- an answer, its value seen by a function
-abbrev pub mapped : {A B E : Type 0} → (A → B) → Result A E → Result B E
-mapped f (Ok x) = Ok (f x)
-mapped f (Err e) = Err e
+abbrev pub map_answer : {A B E : Type 0} → (A → B) → Result A E → Result B E
+map_answer f (Ok x) = Ok (f x)
+map_answer f (Err e) = Err e
 
 -- what follows an answer
-abbrev pub followed : {A B E : Type 0} → (A → Result B E) → Result A E → Result B E
-followed go (Ok x) = go x
-followed go (Err e) = Err e
+abbrev pub and_then : {A B E : Type 0} → (A → Result B E) → Result A E → Result B E
+and_then go (Ok x) = go x
+and_then go (Err e) = Err e
 
 -- a fault of a row, with the row's number
-abbrev pub numbered : {A : Type 0} → ℕ → Result A RowFault → Result A Fault
-numbered number (Ok x) = Ok x
-numbered number (Err reason) = Err (bad_row number reason)
+abbrev pub with_row_number : {A : Type 0} → ℕ → Result A RowFault → Result A Fault
+with_row_number number (Ok x) = Ok x
+with_row_number number (Err reason) = Err (bad_row number reason)
 
 abbrev pub own_row : ℕ → List TextRow → List ℕ → ℤ → ℤ → ℤ → Result TextRow RowFault
 own_row late rows word words life form =
@@ -81,12 +81,12 @@ radar_entry late rows value =
 -- the rows of reports, behind those that are read; the document is row 0
 abbrev pub text_rows : ℕ → List TextRow → Items → Result (List TextRow) Fault
 text_rows late rows no_items = Ok rows
-text_rows late rows (item value more) = followed (λ r. text_rows late (rows ++ r ∷ []) more)
-    (numbered (length rows + 1) (text_entry late rows value))
+text_rows late rows (item value more) = and_then (λ r. text_rows late (rows ++ r ∷ []) more)
+    (with_row_number (length rows + 1) (text_entry late rows value))
 
 -- the rows of radar, behind so many rows of reports
 abbrev pub radar_rows : ℕ → ℕ → List RadarRow → Items → Result (List RadarRow) Fault
 radar_rows late before rows no_items = Ok rows
-radar_rows late before rows (item value more) = followed
+radar_rows late before rows (item value more) = and_then
     (λ r. radar_rows late before (rows ++ r ∷ []) more)
-    (numbered (before + length rows + 1) (radar_entry late rows value))
+    (with_row_number (before + length rows + 1) (radar_entry late rows value))

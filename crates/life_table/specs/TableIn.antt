@@ -6,17 +6,17 @@ use Rattle.toml.specs.Data.{Data, table, Members}
 use Rattle.toml.specs.Parse.{parse_document}
 use Rattle.life_table.specs.LifeTable.{LifeTable}
 use Rattle.life_table.specs.Document.{Head, head}
-use Rattle.life_table.specs.RowsOf.{followed, numbered, text_rows, radar_rows}
+use Rattle.life_table.specs.RowsOf.{and_then, with_row_number, text_rows, radar_rows}
 use Rattle.life_table.specs.Fault.{Fault, not_toml}
 
 abbrev pub table_of_head : Head → Result LifeTable Fault
-table_of_head h = followed
-    (λ texts. followed (λ radars. Ok (record { late = h.late; texts = texts; radars = radars }))
+table_of_head h = and_then
+    (λ texts. and_then (λ radars. Ok (record { late = h.late; texts = texts; radars = radars }))
     (radar_rows h.late (length texts) [] h.radars)) (text_rows h.late [] h.texts)
 
 -- the table of a document's tree, or its first faulty row with the first fault
 unfoldable pub table_of_tree : Data → Result LifeTable Fault
-table_of_tree tree = followed table_of_head (numbered 0 (head tree))
+table_of_tree tree = and_then table_of_head (with_row_number 0 (head tree))
 
 abbrev pub table_of_document : Option Members → Result LifeTable Fault
 table_of_document None = Err not_toml

@@ -81,7 +81,7 @@ fn table_of_tree(alloc: Global, tree: &Value) -> Result<LifeTable, TableFault>
 /// The document's own entries, or its first fault.
 #[tactic(auto, using(crate::proofs::Trees::count_items), unfolding(crate::specs::Document::head))]
 fn head_of(tree: &Value) -> Result<Head<'_>, RowFault>
-    ensures head { rows_of.mapped head_view result ≡ document.head (view tree.now) }
+    ensures head { rows_of.map_answer head_view result ≡ document.head (view tree.now) }
     ensures late { IfOk result (λ head. head.late ≤ 43200) }
     ensures texts { IfOk result (λ head. length head.texts.now ≤ 64) }
     ensures radars { IfOk result (λ head. length head.radars.now ≤ 2) }
@@ -181,7 +181,7 @@ fn text_rows(alloc: Global, late: u64, rows: &[Value]) -> Result<Vec<KeptText>, 
                 });
             }
         };
-        let kept = judged.kept(alloc).map_err(|_| TableFault::NoMemory)?;
+        let kept = judged.to_kept(alloc).map_err(|_| TableFault::NoMemory)?;
         texts.push(kept).map_err(|_| TableFault::NoMemory)?;
         rest = more;
     }

@@ -136,7 +136,7 @@ pub(crate) fn judged_text<'a>(
     row: &'a Value,
 ) -> Result<JudgedText<'a>, RowFault>
     requires { late ≤ 43200 }
-    ensures { rows_of.mapped judged_view result
+    ensures { rows_of.map_answer judged_view result
         ≡ rows_of.text_entry late (map text_view earlier.now) (view row.now) }
 {
     match member_count(row) {
@@ -150,7 +150,7 @@ pub(crate) fn judged_text<'a>(
 #[tactic(auto, unfolding(crate::specs::RowsOf::own_text))]
 fn own_text<'a>(late: u64, earlier: &[KeptText], row: &'a Value) -> Result<JudgedText<'a>, RowFault>
     requires { late ≤ 43200 }
-    ensures { rows_of.mapped judged_view result
+    ensures { rows_of.map_answer judged_view result
         ≡ rows_of.own_text late (map text_view earlier.now) (view row.now) }
 {
     let Some(word) = text_at(row, "type") else {
@@ -177,7 +177,7 @@ fn own_row<'a>(
     form: i64,
 ) -> Result<JudgedText<'a>, RowFault>
     requires { late ≤ 43200 }
-    ensures { rows_of.mapped judged_view result
+    ensures { rows_of.map_answer judged_view result
         ≡ rows_of.own_row late (map text_view earlier.now) word.now words life form }
 {
     if !is_word(word) {
@@ -207,7 +207,7 @@ fn own_row<'a>(
 /// A row that is kept as an earlier one.
 #[tactic(auto, unfolding(crate::specs::RowsOf::alike_text))]
 fn alike_text<'a>(earlier: &[KeptText], row: &'a Value) -> Result<JudgedText<'a>, RowFault>
-    ensures { rows_of.mapped judged_view result
+    ensures { rows_of.map_answer judged_view result
         ≡ rows_of.alike_text (map text_view earlier.now) (view row.now) }
 {
     let Some(word) = text_at(row, "type") else {
@@ -245,7 +245,7 @@ pub(crate) fn judged_radar(
     row: &Value,
 ) -> Result<KeptRadar, RowFault>
     requires { late ≤ 43200 }
-    ensures { rows_of.mapped radar_view result
+    ensures { rows_of.map_answer radar_view result
         ≡ rows_of.radar_entry late (map radar_view earlier.now) (view row.now) }
 {
     if member_count(row) != 3 {

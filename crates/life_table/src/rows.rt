@@ -82,7 +82,7 @@ pub(crate) struct JudgedText<'a> {
 
 impl JudgedText<'_> {
     /// The row with its words copied.
-    pub(crate) fn kept(&self, alloc: Global) -> Result<KeptText, AllocError>
+    pub(crate) fn to_kept(&self, alloc: Global) -> Result<KeptText, AllocError>
         ensures { IfOk result (λ kept. text_view kept ≡ judged_view self.now) }
     {
         KeptText::new(

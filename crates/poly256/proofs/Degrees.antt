@@ -4,7 +4,7 @@ use Rattle.std.proofs.lemmas.List.{get_or_past}
 use Rattle.std.proofs.lemmas.Bool.{cases_eq}
 use Rattle.std.specs.Int.Bits.{bit_xor, xor_zero_r}
 use Rattle.gf256_core.specs.Field.{IsField}
-use Rattle.poly256.specs.Polynomial.{element_product, sum_of, product_of, trimmed, IsDivision}
+use Rattle.poly256.specs.Polynomial.{element_product, sum_of, list_product, trimmed, IsDivision}
 use Rattle.poly256.proofs.ListSums.{coefficient-sum, length-sum_left, length-sum_at_most, coefficient-scaled}
 use Rattle.poly256.proofs.ListProducts.{coefficient-product, product-single, product-empty_left, product-empty_right, length-product, product-sum_left}
 use Rattle.bit_fields.proofs.Xors.{xor-swap, xor-equal}
@@ -30,7 +30,7 @@ sum_of_lower xs ys e h =
 -- the last coefficient of a product
 coefficient-product_last :
     (F : IsField 391) (xs ys : List ℕ) (n m : ℕ) → length xs ≡ suc n → length ys ≡ suc m
-    → get_or (product_of xs ys) (n + m) 0 ≡ element_product (get_or xs n 0) (get_or ys m 0)
+    → get_or (list_product xs ys) (n + m) 0 ≡ element_product (get_or xs n 0) (get_or ys m 0)
 coefficient-product_last F [] ys n m ex ey = absurd (omega arith)
 coefficient-product_last F (x ∷ []) ys zero m ex ey =
     ap₂ (λ (us : List ℕ) (k : ℕ). get_or us k 0) (product-single x ys) (let z : 0 + m ≡ m = omega arith in z) ∙ coefficient-scaled F x ys m
@@ -38,7 +38,7 @@ coefficient-product_last F (x ∷ []) ys (suc n) m ex ey = absurd (omega arith)
 coefficient-product_last F (x ∷ x' ∷ xs) ys zero m ex ey = absurd (omega arith)
 coefficient-product_last F (x ∷ x' ∷ xs) ys (suc n) m ex ey =
     let past : get_or ys (suc (n + m)) 0 ≡ 0 = get_or_past ys (suc (n + m)) 0 (omega arith) in
-    ap (λ (k : ℕ). get_or (product_of (x ∷ x' ∷ xs) ys) k 0) (let e : suc n + m ≡ suc (n + m) = omega arith in e)
+    ap (λ (k : ℕ). get_or (list_product (x ∷ x' ∷ xs) ys) k 0) (let e : suc n + m ≡ suc (n + m) = omega arith in e)
     ∙ coefficient-product F x (x' ∷ xs) ys (n + m)
     ∙ ap₂ bit_xor (ap (element_product x) past ∙ F.product_zero_right x)
     (coefficient-product_last F (x' ∷ xs) ys n m (omega arith) ey)
@@ -51,46 +51,46 @@ not_zero F a b la ha lb hb = elim (cases_eq (element_product a b) 0) [
 
 pub product_keeps :
     (F : IsField 391) (xs ys : List ℕ) → ((k : ℕ) → get_or xs k 0 < 256) → ((k : ℕ) → get_or ys k 0 < 256)
-    → trimmed xs ≡ xs → trimmed ys ≡ ys → trimmed (product_of xs ys) ≡ product_of xs ys
+    → trimmed xs ≡ xs → trimmed ys ≡ ys → trimmed (list_product xs ys) ≡ list_product xs ys
 product_keeps F [] ys bx by tx ty = ap trimmed (product-empty_left ys) ∙ tx ∙ sym (product-empty_left ys)
 product_keeps F (x ∷ xs) [] bx by tx ty = ap trimmed (product-empty_right (x ∷ xs)) ∙ ty ∙ sym (product-empty_right (x ∷ xs))
 product_keeps F (x ∷ xs) (y ∷ ys) bx by tx ty =
     let n : ℕ = length xs in
-    let l : length (product_of (x ∷ xs) (y ∷ ys)) + 1 ≡ length (x ∷ xs) + length (y ∷ ys) =
+    let l : length (list_product (x ∷ xs) (y ∷ ys)) + 1 ≡ length (x ∷ xs) + length (y ∷ ys) =
     length-product (x ∷ xs) (y ∷ ys) (omega arith) (omega arith) in
     let last : 0 < element_product (get_or (x ∷ xs) (length xs) 0) (get_or (y ∷ ys) (length ys) 0) =
     not_zero F (get_or (x ∷ xs) (length xs) 0) (get_or (y ∷ ys) (length ys) 0)
     (last_from_trimmed (x ∷ xs) (length xs) tx refl) (bx (length xs)) (last_from_trimmed (y ∷ ys) (length ys) ty refl) (by (length ys)) in
-    let e : get_or (product_of (x ∷ xs) (y ∷ ys)) (length xs + length ys) 0
+    let e : get_or (list_product (x ∷ xs) (y ∷ ys)) (length xs + length ys) 0
     ≡ element_product (get_or (x ∷ xs) (length xs) 0) (get_or (y ∷ ys) (length ys) 0) =
     coefficient-product_last F (x ∷ xs) (y ∷ ys) (length xs) (length ys) refl refl in
-    trimmed_from_last (product_of (x ∷ xs) (y ∷ ys)) (length xs + length ys) (omega arith) (rw e last)
+    trimmed_from_last (list_product (x ∷ xs) (y ∷ ys)) (length xs + length ys) (omega arith) (rw e last)
 
 -- ---- one division
 -- the difference of two quotients, times the divisor, has the coefficients of the difference of the rests
 difference :
     (F : IsField 391) (whole ds qs rs us vs : List ℕ)
-    → trimmed (sum_of (product_of qs ds) rs) ≡ trimmed whole → trimmed (sum_of (product_of us ds) vs) ≡ trimmed whole
-    → (k : ℕ) → get_or (product_of (sum_of qs us) ds) k 0 ≡ get_or (sum_of rs vs) k 0
+    → trimmed (sum_of (list_product qs ds) rs) ≡ trimmed whole → trimmed (sum_of (list_product us ds) vs) ≡ trimmed whole
+    → (k : ℕ) → get_or (list_product (sum_of qs us) ds) k 0 ≡ get_or (sum_of rs vs) k 0
 difference F whole ds qs rs us vs e e' k =
-    let same : get_or (sum_of (product_of qs ds) rs) k 0 ≡ get_or (sum_of (product_of us ds) vs) k 0 =
-    same_from_trimmed (sum_of (product_of qs ds) rs) (sum_of (product_of us ds) vs) (e ∙ sym e') k in
+    let same : get_or (sum_of (list_product qs ds) rs) k 0 ≡ get_or (sum_of (list_product us ds) vs) k 0 =
+    same_from_trimmed (sum_of (list_product qs ds) rs) (sum_of (list_product us ds) vs) (e ∙ sym e') k in
     ap (λ (xs : List ℕ). get_or xs k 0) (product-sum_left F qs us ds)
-    ∙ coefficient-sum (product_of qs ds) (product_of us ds) k
-    ∙ xor-swap (get_or (product_of qs ds) k 0) (get_or rs k 0) (get_or (product_of us ds) k 0) (get_or vs k 0)
-    (sym (coefficient-sum (product_of qs ds) rs k) ∙ same ∙ coefficient-sum (product_of us ds) vs k)
+    ∙ coefficient-sum (list_product qs ds) (list_product us ds) k
+    ∙ xor-swap (get_or (list_product qs ds) k 0) (get_or rs k 0) (get_or (list_product us ds) k 0) (get_or vs k 0)
+    (sym (coefficient-sum (list_product qs ds) rs k) ∙ same ∙ coefficient-sum (list_product us ds) vs k)
     ∙ sym (coefficient-sum rs vs k)
 
 -- a list that is a multiple of the divisor and shorter is zero
 multiple_too_short :
     (F : IsField 391) (ts ds ws : List ℕ) → ((k : ℕ) → get_or ts k 0 < 256) → ((k : ℕ) → get_or ds k 0 < 256)
-    → trimmed ts ≡ ts → trimmed ds ≡ ds → trimmed (product_of ts ds) ≡ trimmed ws → length ws < length ds → ts ≡ []
+    → trimmed ts ≡ ts → trimmed ds ≡ ds → trimmed (list_product ts ds) ≡ trimmed ws → length ws < length ds → ts ≡ []
 multiple_too_short F [] ds ws bt bd tt' td e h = refl
 multiple_too_short F (t ∷ ts) ds ws bt bd tt' td e h =
-    let keeps : length (product_of (t ∷ ts) ds) ≡ length (trimmed ws) =
+    let keeps : length (list_product (t ∷ ts) ds) ≡ length (trimmed ws) =
     ap length (sym (product_keeps F (t ∷ ts) ds bt bd tt' td) ∙ e) in
     let short : length (trimmed ws) ≤ length ws = length-trimmed ws in
-    let long : length (product_of (t ∷ ts) ds) + 1 ≡ length (t ∷ ts) + length ds =
+    let long : length (list_product (t ∷ ts) ds) + 1 ≡ length (t ∷ ts) + length ds =
     length-product (t ∷ ts) ds (omega arith) (omega arith) in
     absurd (omega arith)
 
@@ -107,7 +107,7 @@ pub one_division :
     → trimmed us ≡ us → ((k : ℕ) → get_or us k 0 < 256) → trimmed vs ≡ vs
     → IsDivision whole ds qs rs → IsDivision whole ds us vs → (qs ≡ us) × (rs ≡ vs)
 one_division F whole ds qs rs us vs td bd tq bq tr tu bu tv i j =
-    let d : (k : ℕ) → get_or (product_of (sum_of qs us) ds) k 0 ≡ get_or (sum_of rs vs) k 0 =
+    let d : (k : ℕ) → get_or (list_product (sum_of qs us) ds) k 0 ≡ get_or (sum_of rs vs) k 0 =
     difference F whole ds qs rs us vs i.whole j.whole in
     let lower : length rs < length ds = i.lower in
     let lower' : length vs < length ds = j.lower in
@@ -115,11 +115,11 @@ one_division F whole ds qs rs us vs td bd tq bq tr tu bu tv i j =
     length-sum_at_most rs vs (length ds - 1) (omega arith) (omega arith) in
     let bytes : (k : ℕ) → get_or (trimmed (sum_of qs us)) k 0 < 256 =
     λ k. rw (coefficient-trimmed (sum_of qs us) k, coefficient-sum qs us k) (F.sum_fits (get_or qs k 0) (get_or us k 0) (bq k) (bu k)) in
-    let multiple : trimmed (product_of (trimmed (sum_of qs us)) ds) ≡ trimmed (sum_of rs vs) =
-    trimmed-product F (sum_of qs us) ds ∙ trimmed_from_same (product_of (sum_of qs us) ds) (sum_of rs vs) d in
+    let multiple : trimmed (list_product (trimmed (sum_of qs us)) ds) ≡ trimmed (sum_of rs vs) =
+    trimmed-product F (sum_of qs us) ds ∙ trimmed_from_same (list_product (sum_of qs us) ds) (sum_of rs vs) d in
     let none : trimmed (sum_of qs us) ≡ [] =
     multiple_too_short F (trimmed (sum_of qs us)) ds (sum_of rs vs) bytes bd (trimmed-trimmed (sum_of qs us)) td multiple (omega arith) in
     let rests : trimmed (sum_of rs vs) ≡ [] =
-    sym multiple ∙ ap (λ (xs : List ℕ). trimmed (product_of xs ds)) none ∙ ap trimmed (product-empty_left ds)
+    sym multiple ∙ ap (λ (xs : List ℕ). trimmed (list_product xs ds)) none ∙ ap trimmed (product-empty_left ds)
     ∙ trimmed-empty in
     (empty_sum qs us tq tu none, empty_sum rs vs tr tv rests)

@@ -4,7 +4,7 @@ use Rattle.std.proofs.lemmas.List.{get_or_past, length-take}
 use Rattle.std.proofs.lemmas.Bool.{cases_eq}
 use Rattle.std.specs.Int.Bits.{bit_xor, xor_self}
 use Rattle.gf256_core.specs.Field.{IsField}
-use Rattle.poly256.specs.Polynomial.{element_product, sum_of, scaled, shifted, raised, product_of, trimmed, IsDivision}
+use Rattle.poly256.specs.Polynomial.{element_product, sum_of, scaled, shifted, raised, list_product, trimmed, IsDivision}
 use Rattle.bit_fields.proofs.Xors.{xor-same_right}
 use Rattle.poly256.proofs.ListSums.{coefficient-sum, sum-empty_right, coefficient-scaled, length-scaled}
 use Rattle.poly256.proofs.ListProducts.{product-sum_left, product-shifted_left, product-single}
@@ -14,7 +14,7 @@ use Rattle.poly256.proofs.Shapes.{coefficient-front}
 
 -- the quotient so far times the divisor, and what is left, are the dividend; `top` coefficients are left
 pub record Divides (dividend divisor quotient rest : List ℕ) (top len : ℕ) : Type 0 where
-  pub whole : (k : ℕ) → get_or (sum_of (product_of quotient divisor) rest) k 0 ≡ get_or dividend k 0
+  pub whole : (k : ℕ) → get_or (sum_of (list_product quotient divisor) rest) k 0 ≡ get_or dividend k 0
   pub high : (k : ℕ) → top ≤ k → get_or rest k 0 ≡ 0
   pub short : (k : ℕ) → len ≤ k → get_or quotient k 0 ≡ 0
   pub unset : (k : ℕ) → k + length divisor ≤ top → get_or quotient k 0 ≡ 0
@@ -25,7 +25,7 @@ pub division_init :
     → ((k : ℕ) → len ≤ k → get_or dividend k 0 ≡ 0) → Divides dividend divisor quotient dividend len len
 division_init F dividend divisor quotient len zeros past = record {
   whole = λ k.
-      coefficient-sum (product_of quotient divisor) dividend k
+      coefficient-sum (list_product quotient divisor) dividend k
       ∙ ap (λ (a : ℕ). bit_xor a (get_or dividend k 0)) (zeros-product F quotient divisor zeros k);
   high = past;
   short = λ k h. zeros k;
@@ -33,7 +33,7 @@ division_init F dividend divisor quotient len zeros past = record {
   within = omega arith;
 }
 
-raised-product : (F : IsField 391) (n c : ℕ) (ds : List ℕ) → product_of (raised n (c ∷ [])) ds ≡ raised n (scaled c ds)
+raised-product : (F : IsField 391) (n c : ℕ) (ds : List ℕ) → list_product (raised n (c ∷ [])) ds ≡ raised n (scaled c ds)
 unfolding raised
 raised-product F zero c ds = product-single c ds
 raised-product F (suc n) c ds = product-shifted_left F (raised n (c ∷ [])) ds ∙ ap shifted (raised-product F n c ds)
@@ -47,20 +47,20 @@ set-sum xs i c h none =
 
 step-whole :
     (F : IsField 391) (divisor quotient rest : List ℕ) (place f k : ℕ) → place < length quotient → get_or quotient place 0 ≡ 0
-    → get_or (sum_of (product_of (set quotient place f) divisor) (sum_of rest (raised place (scaled f divisor)))) k 0
-    ≡ get_or (sum_of (product_of quotient divisor) rest) k 0
+    → get_or (sum_of (list_product (set quotient place f) divisor) (sum_of rest (raised place (scaled f divisor)))) k 0
+    ≡ get_or (sum_of (list_product quotient divisor) rest) k 0
 step-whole F divisor quotient rest place f k h none =
     let multiple : List ℕ = raised place (scaled f divisor) in
-    let more : product_of (set quotient place f) divisor ≡ sum_of (product_of quotient divisor) (raised place (scaled f divisor)) =
-    ap (λ (xs : List ℕ). product_of xs divisor) (set-sum quotient place f h none)
+    let more : list_product (set quotient place f) divisor ≡ sum_of (list_product quotient divisor) (raised place (scaled f divisor)) =
+    ap (λ (xs : List ℕ). list_product xs divisor) (set-sum quotient place f h none)
     ∙ product-sum_left F quotient (raised place (f ∷ [])) divisor
-    ∙ ap (sum_of (product_of quotient divisor)) (raised-product F place f divisor) in
-    coefficient-sum (product_of (set quotient place f) divisor) (sum_of rest (raised place (scaled f divisor))) k
+    ∙ ap (sum_of (list_product quotient divisor)) (raised-product F place f divisor) in
+    coefficient-sum (list_product (set quotient place f) divisor) (sum_of rest (raised place (scaled f divisor))) k
     ∙ ap₂ bit_xor
-    (ap (λ (xs : List ℕ). get_or xs k 0) more ∙ coefficient-sum (product_of quotient divisor) (raised place (scaled f divisor)) k)
+    (ap (λ (xs : List ℕ). get_or xs k 0) more ∙ coefficient-sum (list_product quotient divisor) (raised place (scaled f divisor)) k)
     (coefficient-sum rest (raised place (scaled f divisor)) k)
-    ∙ xor-same_right (get_or (product_of quotient divisor) k 0) (get_or rest k 0) (get_or (raised place (scaled f divisor)) k 0)
-    ∙ sym (coefficient-sum (product_of quotient divisor) rest k)
+    ∙ xor-same_right (get_or (list_product quotient divisor) k 0) (get_or rest k 0) (get_or (raised place (scaled f divisor)) k 0)
+    ∙ sym (coefficient-sum (list_product quotient divisor) rest k)
 
 -- the multiple takes the first coefficient away, and has none above
 step-high :
@@ -103,20 +103,20 @@ division_step F dividend divisor quotient rest place f top len d some e inside l
 -- what is kept of the quotient and the rest is the division
 pub kept-IsDivision :
     (F : IsField 391) (dividend divisor quotient rest : List ℕ) (len : ℕ) → 0 < length divisor
-    → ((k : ℕ) → get_or (sum_of (product_of quotient divisor) rest) k 0 ≡ get_or dividend k 0)
+    → ((k : ℕ) → get_or (sum_of (list_product quotient divisor) rest) k 0 ≡ get_or dividend k 0)
     → ((k : ℕ) → length divisor - 1 ≤ k → get_or rest k 0 ≡ 0) → ((k : ℕ) → len ≤ k → get_or quotient k 0 ≡ 0)
     → IsDivision dividend divisor (trimmed (take len quotient)) (trimmed (take (length divisor - 1) rest))
 kept-IsDivision F dividend divisor quotient rest len some whole lower short =
     let q : List ℕ = trimmed (take len quotient) in
     let r : List ℕ = trimmed (take (length divisor - 1) rest) in
     record {
-      whole = trimmed_from_same (sum_of (product_of (trimmed (take len quotient)) divisor) (trimmed (take (length divisor - 1) rest))) dividend
+      whole = trimmed_from_same (sum_of (list_product (trimmed (take len quotient)) divisor) (trimmed (take (length divisor - 1) rest))) dividend
           (λ k.
-          coefficient-sum (product_of (trimmed (take len quotient)) divisor) (trimmed (take (length divisor - 1) rest)) k
+          coefficient-sum (list_product (trimmed (take len quotient)) divisor) (trimmed (take (length divisor - 1) rest)) k
           ∙ ap₂ bit_xor
           (same-product F (trimmed (take len quotient)) quotient divisor (coefficient-front quotient len short) k)
           (coefficient-front rest (length divisor - 1) lower k)
-          ∙ sym (coefficient-sum (product_of quotient divisor) rest k)
+          ∙ sym (coefficient-sum (list_product quotient divisor) rest k)
           ∙ whole k);
       lower = omega (arith, length-trimmed (take (length divisor - 1) rest), length-take (length divisor - 1) rest);
     }

@@ -1,7 +1,7 @@
 -- A list with room that sums are written into, one coefficient after another.
 use Rattle.std.proofs.Common.{◌≡◌, ℕ, zero, suc, ◌+◌, ◌-◌, ◌<◌, ◌≤◌, List, [], ◌∷◌, length, get_or, set, take, drop, refl, sym, ◌∙◌, ap, ap₂, arith, inl, inr, drop-cons, add-one}
 use Rattle.std.specs.Int.Bits.{bit_xor, xor_zero_r}
-use Rattle.poly256.specs.Polynomial.{element_product, sum_of, scaled, shifted, raised, product_of, trimmed}
+use Rattle.poly256.specs.Polynomial.{element_product, sum_of, scaled, shifted, raised, list_product, trimmed}
 use Rattle.std.proofs.lemmas.List.{get_or_past, get_or-take, length-take}
 use Rattle.std.proofs.lemmas.Bool.{cases_eq, cases_lt}
 use Rattle.poly256.proofs.Trims.{trimmed_from_same, trimmed_from_last}
@@ -100,22 +100,22 @@ raised-shifted (suc n) cs = ap shifted (raised-shifted n cs)
 
 pub product_step :
     (room first second : List ℕ) (place : ℕ) → place < length first
-    → sum_of (sum_of room (raised place (scaled (get_or first place 0) second))) (raised (place + 1) (product_of (drop (place + 1) first) second))
-    ≡ sum_of room (raised place (product_of (drop place first) second))
+    → sum_of (sum_of room (raised place (scaled (get_or first place 0) second))) (raised (place + 1) (list_product (drop (place + 1) first) second))
+    ≡ sum_of room (raised place (list_product (drop place first) second))
 product_step room first second place h =
     let x : ℕ = get_or first place 0 in
-    ap (λ (k : ℕ). sum_of (sum_of room (raised place (scaled (get_or first place 0) second))) (raised k (product_of (drop k first) second))) (add-one place)
-    ∙ sum_assoc room (raised place (scaled (get_or first place 0) second)) (raised (suc place) (product_of (drop (suc place) first) second))
+    ap (λ (k : ℕ). sum_of (sum_of room (raised place (scaled (get_or first place 0) second))) (raised k (list_product (drop k first) second))) (add-one place)
+    ∙ sum_assoc room (raised place (scaled (get_or first place 0) second)) (raised (suc place) (list_product (drop (suc place) first) second))
     ∙ ap (sum_of room)
-    (ap (sum_of (raised place (scaled (get_or first place 0) second))) (sym (raised-shifted place (product_of (drop (suc place) first) second)))
-    ∙ sym (raised-sum place (scaled (get_or first place 0) second) (shifted (product_of (drop (suc place) first) second)))
+    (ap (sum_of (raised place (scaled (get_or first place 0) second))) (sym (raised-shifted place (list_product (drop (suc place) first) second)))
+    ∙ sym (raised-sum place (scaled (get_or first place 0) second) (shifted (list_product (drop (suc place) first) second)))
     ∙ ap (raised place) (sym (product-cons (get_or first place 0) (drop (suc place) first) second)
-    ∙ ap (λ (xs : List ℕ). product_of xs second) (sym (drop-cons first place 0 h))))
+    ∙ ap (λ (xs : List ℕ). list_product xs second) (sym (drop-cons first place 0 h))))
 
 pub product_end :
-    (room first second : List ℕ) (n : ℕ) → n ≡ length first → sum_of room (raised n (product_of (drop n first) second)) ≡ room
+    (room first second : List ℕ) (n : ℕ) → n ≡ length first → sum_of room (raised n (list_product (drop n first) second)) ≡ room
 product_end room first second n e =
-    ap (λ (xs : List ℕ). sum_of room (raised n (product_of xs second))) (drop-all n first e)
+    ap (λ (xs : List ℕ). sum_of room (raised n (list_product xs second))) (drop-all n first e)
     ∙ ap (λ (xs : List ℕ). sum_of room (raised n xs)) (product-empty_left second)
     ∙ ap (sum_of room) (raised-empty n) ∙ sum-empty_right room
 

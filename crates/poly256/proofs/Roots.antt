@@ -11,18 +11,18 @@ use Rattle.poly256.proofs.Trims.{trimmed-zeros}
 use Rattle.poly256.proofs.Values.{value-empty, value-cons, value-fits}
 
 -- the quotient by x + at
-divided : ℕ → List ℕ → List ℕ
-divided at [] = []
-divided at (c ∷ []) = []
-divided at (c ∷ d ∷ ds) = value_at (d ∷ ds) at ∷ divided at (d ∷ ds)
+quotient_by_root : ℕ → List ℕ → List ℕ
+quotient_by_root at [] = []
+quotient_by_root at (c ∷ []) = []
+quotient_by_root at (c ∷ d ∷ ds) = value_at (d ∷ ds) at ∷ quotient_by_root at (d ∷ ds)
 
-length-divided : (at c : ℕ) (cs : List ℕ) → length (divided at (c ∷ cs)) ≡ length cs
-unfolding divided
-length-divided at c [] = refl
-length-divided at c (d ∷ ds) = ap suc (length-divided at d ds)
+length-quotient : (at c : ℕ) (cs : List ℕ) → length (quotient_by_root at (c ∷ cs)) ≡ length cs
+unfolding quotient_by_root
+length-quotient at c [] = refl
+length-quotient at c (d ∷ ds) = ap suc (length-quotient at d ds)
 
-divided-bytes : (F : IsField 391) (at : ℕ) (cs : List ℕ) (k : ℕ) → get_or (divided at cs) k 0 < 256
-unfolding divided
+divided-bytes : (F : IsField 391) (at : ℕ) (cs : List ℕ) (k : ℕ) → get_or (quotient_by_root at cs) k 0 < 256
+unfolding quotient_by_root
 divided-bytes F at [] k = lit< tt
 divided-bytes F at (c ∷ []) k = lit< tt
 divided-bytes F at (c ∷ d ∷ ds) zero = value-fits F (d ∷ ds) at
@@ -41,8 +41,8 @@ regrouped F a b u v =
 -- the difference of two values is a multiple of the difference of the elements
 divided-value :
     (F : IsField 391) (at other : ℕ) (cs : List ℕ) → ((k : ℕ) → get_or cs k 0 < 256)
-    → bit_xor (value_at cs other) (value_at cs at) ≡ element_product (bit_xor other at) (value_at (divided at cs) other)
-unfolding divided
+    → bit_xor (value_at cs other) (value_at cs at) ≡ element_product (bit_xor other at) (value_at (quotient_by_root at cs) other)
+unfolding quotient_by_root
 divided-value F at other [] bytes =
     ap₂ bit_xor (value-empty other) (value-empty at)
     ∙ sym (ap (element_product (bit_xor other at)) (value-empty other) ∙ F.product_zero_right (bit_xor other at))
@@ -59,9 +59,9 @@ divided-value F at other (c ∷ d ∷ ds) bytes =
     ∙ regrouped F at other (value_at (d ∷ ds) at) (value_at (d ∷ ds) other)
     ∙ ap (bit_xor (element_product (bit_xor other at) (value_at (d ∷ ds) at)))
     (ap (element_product other) (divided-value F at other (d ∷ ds) (λ k. bytes (suc k)))
-    ∙ F.product_turned other (bit_xor other at) (value_at (divided at (d ∷ ds)) other))
-    ∙ sym (F.distributive_right (bit_xor other at) (value_at (d ∷ ds) at) (element_product other (value_at (divided at (d ∷ ds)) other)))
-    ∙ ap (element_product (bit_xor other at)) (sym (value-cons F (value_at (d ∷ ds) at) (divided at (d ∷ ds)) other (value-fits F (d ∷ ds) at)))
+    ∙ F.product_turned other (bit_xor other at) (value_at (quotient_by_root at (d ∷ ds)) other))
+    ∙ sym (F.distributive_right (bit_xor other at) (value_at (d ∷ ds) at) (element_product other (value_at (quotient_by_root at (d ∷ ds)) other)))
+    ∙ ap (element_product (bit_xor other at)) (sym (value-cons F (value_at (d ∷ ds) at) (quotient_by_root at (d ∷ ds)) other (value-fits F (d ∷ ds) at)))
 
 first_zero :
     (F : IsField 391) (c : ℕ) (cs : List ℕ) (at : ℕ) → c < 256 → value_at (c ∷ cs) at ≡ 0 → value_at cs at ≡ 0 → c ≡ 0
@@ -72,8 +72,8 @@ first_zero F c cs at h e e' =
 -- where the quotient and the value are zero, all is
 zero_from_quotient :
     (F : IsField 391) (at : ℕ) (cs : List ℕ) → ((k : ℕ) → get_or cs k 0 < 256) → value_at cs at ≡ 0
-    → ((k : ℕ) → get_or (divided at cs) k 0 ≡ 0) → (k : ℕ) → get_or cs k 0 ≡ 0
-unfolding divided
+    → ((k : ℕ) → get_or (quotient_by_root at cs) k 0 ≡ 0) → (k : ℕ) → get_or cs k 0 ≡ 0
+unfolding quotient_by_root
 zero_from_quotient F at [] bytes e none k = refl
 zero_from_quotient F at (c ∷ []) bytes e none zero = first_zero F c [] at (bytes 0) e (value-empty at)
 zero_from_quotient F at (c ∷ []) bytes e none (suc k) = refl
@@ -84,9 +84,9 @@ zero_from_quotient F at (c ∷ d ∷ ds) bytes e none (suc k) =
 -- another root is a root of the quotient
 other_root :
     (F : IsField 391) (at other : ℕ) (cs : List ℕ) → ((k : ℕ) → get_or cs k 0 < 256) → at < 256 → other < 256
-    → (other ≡ at → ⊥) → value_at cs at ≡ 0 → value_at cs other ≡ 0 → value_at (divided at cs) other ≡ 0
+    → (other ≡ at → ⊥) → value_at cs at ≡ 0 → value_at cs other ≡ 0 → value_at (quotient_by_root at cs) other ≡ 0
 other_root F at other cs bytes ha ho apart e e' =
-    elim (F.zero_factor (bit_xor other at) (value_at (divided at cs) other) (F.sum_fits other at ho ha) (value-fits F (divided at cs) other)
+    elim (F.zero_factor (bit_xor other at) (value_at (quotient_by_root at cs) other) (F.sum_fits other at ho ha) (value-fits F (quotient_by_root at cs) other)
     (sym (divided-value F at other cs bytes) ∙ ap₂ bit_xor e' e)) [
       | inl same ↦ absurd (apart (xor-equal other at same))
       | inr root ↦ root
@@ -108,7 +108,7 @@ zero_from_roots F (p ∷ ps) [] bytes h d roots k = refl
 zero_from_roots F (p ∷ ps) (c ∷ cs) bytes h d roots k =
     let root : value_at (c ∷ cs) p ≡ 0 = roots 0 (omega arith) in
     zero_from_quotient F p (c ∷ cs) bytes root
-    (zero_from_roots F ps (divided p (c ∷ cs)) (divided-bytes F p (c ∷ cs)) (let l = length-divided p c cs in omega arith)
+    (zero_from_roots F ps (quotient_by_root p (c ∷ cs)) (divided-bytes F p (c ∷ cs)) (let l = length-quotient p c cs in omega arith)
     (rest-AreDifferent p ps d)
     (λ i h'. other_root F p (get_or ps i 0) (c ∷ cs) bytes (d.bytes 0 (omega arith)) (d.bytes (suc i) (omega arith))
     (λ e. d.apart 0 (suc i) (omega arith) (omega arith) (sym e)) root (roots (suc i) (omega arith))))

@@ -4,7 +4,7 @@ use Rattle.std.proofs.lemmas.List.{get_or_past, get_or-take, length-take}
 use Rattle.std.proofs.lemmas.Bool.{cases_lt}
 use Rattle.std.specs.Int.Bits.{bit_xor}
 use Rattle.list_members.proofs.Places.{get_or-zeros}
-use Rattle.poly256.specs.Polynomial.{trimmed, sum_of, product_of, IsPolynomial}
+use Rattle.poly256.specs.Polynomial.{trimmed, sum_of, list_product, IsPolynomial}
 use Rattle.poly256.proofs.ListProducts.{product-empty_left, product-empty_right, length-product}
 use Rattle.poly256.proofs.ListSums.{coefficient-sum}
 use Rattle.poly256.proofs.Trims.{trimmed-empty, trimmed-trimmed, trimmed_from_same, coefficient-trimmed, length-trimmed}
@@ -78,11 +78,11 @@ written-trimmed capacity n room target e h =
 
 pub length-product_fits :
     (xs ys : List ℕ) (capacity : ℕ) → (0 < length xs → 0 < length ys → length xs + length ys ≤ capacity + 1)
-    → length (product_of xs ys) ≤ min (length xs + length ys) capacity
+    → length (list_product xs ys) ≤ min (length xs + length ys) capacity
 length-product_fits [] ys capacity h = rw (product-empty_left ys) (omega arith)
 length-product_fits (x ∷ xs) [] capacity h = rw (product-empty_right (x ∷ xs)) (omega arith)
 length-product_fits (x ∷ xs) (y ∷ ys) capacity h =
-    let l : length (product_of (x ∷ xs) (y ∷ ys)) + 1 ≡ length (x ∷ xs) + length (y ∷ ys) =
+    let l : length (list_product (x ∷ xs) (y ∷ ys)) + 1 ≡ length (x ∷ xs) + length (y ∷ ys) =
     length-product (x ∷ xs) (y ∷ ys) (omega arith) (omega arith) in
     let room : length (x ∷ xs) + length (y ∷ ys) ≤ capacity + 1 = h (omega arith) (omega arith) in
     omega arith

@@ -4,7 +4,7 @@ use Rattle.std.proofs.lemmas.List.{get_or_past}
 use Rattle.std.proofs.lemmas.Bool.{cases_eq}
 use Rattle.std.specs.Int.Bits.{bit_xor, xor_self}
 use Rattle.gf256_core.specs.Field.{IsField}
-use Rattle.poly256.specs.Polynomial.{element_product, sum_of, product_of, trimmed, prepended}
+use Rattle.poly256.specs.Polynomial.{element_product, sum_of, list_product, trimmed, prepended}
 use Rattle.poly256.proofs.ListSums.{coefficient-sum}
 use Rattle.poly256.proofs.ListProducts.{coefficient-product, coefficient-product_first, product-empty_left}
 
@@ -83,7 +83,7 @@ sum-self xs = trimmed-zeros (sum_of xs xs) (λ k. coefficient-sum xs xs k ∙ xo
 
 -- a product has the coefficients of its first factor alone
 pub zeros-product :
-    (F : IsField 391) (xs ys : List ℕ) → ((k : ℕ) → get_or xs k 0 ≡ 0) → (k : ℕ) → get_or (product_of xs ys) k 0 ≡ 0
+    (F : IsField 391) (xs ys : List ℕ) → ((k : ℕ) → get_or xs k 0 ≡ 0) → (k : ℕ) → get_or (list_product xs ys) k 0 ≡ 0
 zeros-product F [] ys h k = ap (λ (us : List ℕ). get_or us k 0) (product-empty_left ys)
 zeros-product F (x ∷ xs) ys h zero =
     coefficient-product_first F x xs ys ∙ ap (λ (a : ℕ). element_product a (get_or ys 0 0)) (h 0) ∙ F.product_zero (get_or ys 0 0)
@@ -94,7 +94,7 @@ zeros-product F (x ∷ xs) ys h (suc k) =
 
 pub same-product :
     (F : IsField 391) (xs zs ys : List ℕ) → ((k : ℕ) → get_or xs k 0 ≡ get_or zs k 0)
-    → (k : ℕ) → get_or (product_of xs ys) k 0 ≡ get_or (product_of zs ys) k 0
+    → (k : ℕ) → get_or (list_product xs ys) k 0 ≡ get_or (list_product zs ys) k 0
 same-product F [] zs ys h k =
     ap (λ (us : List ℕ). get_or us k 0) (product-empty_left ys) ∙ sym (zeros-product F zs ys (λ j. sym (h j)) k)
 same-product F (x ∷ xs) [] ys h k =
@@ -107,9 +107,9 @@ same-product F (x ∷ xs) (z ∷ zs) ys h (suc k) =
     ∙ ap₂ bit_xor (ap (λ (a : ℕ). element_product a (get_or ys (suc k) 0)) (h 0)) (same-product F xs zs ys (λ j. h (suc j)) k)
     ∙ sym (coefficient-product F z zs ys k)
 
-pub trimmed-product : (F : IsField 391) (xs ys : List ℕ) → trimmed (product_of (trimmed xs) ys) ≡ trimmed (product_of xs ys)
+pub trimmed-product : (F : IsField 391) (xs ys : List ℕ) → trimmed (list_product (trimmed xs) ys) ≡ trimmed (list_product xs ys)
 trimmed-product F xs ys =
-    trimmed_from_same (product_of (trimmed xs) ys) (product_of xs ys) (same-product F (trimmed xs) xs ys (coefficient-trimmed xs))
+    trimmed_from_same (list_product (trimmed xs) ys) (list_product xs ys) (same-product F (trimmed xs) xs ys (coefficient-trimmed xs))
 
 -- ---- lengths
 length-prepended : (c : ℕ) (cs : List ℕ) (n : ℕ) → length cs ≤ n → length (prepended c cs) ≤ suc n

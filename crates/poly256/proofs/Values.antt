@@ -2,7 +2,7 @@
 use Rattle.std.proofs.Common.{◌≡◌, ℕ, zero, suc, ◌<◌, List, [], ◌∷◌, refl, sym, ◌∙◌, ap, ap₂, lit<}
 use Rattle.std.specs.Int.Bits.{bit_xor, xor_zero_r}
 use Rattle.gf256_core.specs.Field.{power, IsField}
-use Rattle.poly256.specs.Polynomial.{element_product, element_power, sum_of, scaled, shifted, product_of, trimmed, prepended, terms_from, value_at}
+use Rattle.poly256.specs.Polynomial.{element_product, element_power, sum_of, scaled, shifted, list_product, trimmed, prepended, terms_from, value_at}
 use Rattle.bit_fields.proofs.Xors.{xor-shuffle}
 use Rattle.poly256.proofs.ListProducts.{product-cons, product-empty_left}
 use Rattle.poly256.proofs.Trims.{trimmed-cons, trimmed-empty}
@@ -75,19 +75,19 @@ value-shifted F [] at = value-empty at ∙ sym (ap (element_product at) (value-e
 value-shifted F (x ∷ xs) at = value-cons F 0 (x ∷ xs) at (lit< tt)
 
 pub value-product :
-    (F : IsField 391) (xs ys : List ℕ) (at : ℕ) → value_at (product_of xs ys) at ≡ element_product (value_at xs at) (value_at ys at)
+    (F : IsField 391) (xs ys : List ℕ) (at : ℕ) → value_at (list_product xs ys) at ≡ element_product (value_at xs at) (value_at ys at)
 value-product F [] ys at =
     ap (λ (us : List ℕ). value_at us at) (product-empty_left ys) ∙ value-empty at
     ∙ sym (ap (λ (a : ℕ). element_product a (value_at ys at)) (value-empty at) ∙ F.product_zero (value_at ys at))
 value-product F (x ∷ xs) ys at =
     let v : ℕ = value_at ys at in
     ap (λ (us : List ℕ). value_at us at) (product-cons x xs ys)
-    ∙ value-sum F (scaled x ys) (shifted (product_of xs ys)) at
+    ∙ value-sum F (scaled x ys) (shifted (list_product xs ys)) at
     ∙ ap₂ bit_xor
     (value-scaled F x ys at
     ∙ sym (F.product_one (element_product x (value_at ys at)) (F.product_fits x (value_at ys at)))
     ∙ sym (F.product_assoc 1 x (value_at ys at)))
-    (value-shifted F (product_of xs ys) at ∙ ap (element_product at) (value-product F xs ys at)
+    (value-shifted F (list_product xs ys) at ∙ ap (element_product at) (value-product F xs ys at)
     ∙ sym (F.product_assoc at (value_at xs at) (value_at ys at)))
     ∙ sym (F.distributive (element_product 1 x) (element_product at (value_at xs at)) (value_at ys at))
     ∙ ap (λ (a : ℕ). element_product a (value_at ys at)) (sym (value-cons_reduced F x xs at))

@@ -1,20 +1,20 @@
 -- Laws of polynomials. Those of sums and products hold of all lists, as they stand.
 use Rattle.std.specs.Prelude.{◌≡◌, ◌≢◌, ℕ, suc, ◌+◌, ◌-◌, ◌<◌, ◌≤◌, List, [], ◌∷◌, length, slice_index, bit_xor}
-use Rattle.poly256.specs.Polynomial.{element_product, trimmed, sum_of, scaled, shifted, raised, product_of, value_at, IsDivision}
+use Rattle.poly256.specs.Polynomial.{element_product, trimmed, sum_of, scaled, shifted, raised, list_product, value_at, IsDivision}
 
 pub record IsRing : Type 0 where
   pub sum_comm : (xs ys : List ℕ) → sum_of xs ys ≡ sum_of ys xs
   pub sum_assoc : (xs ys zs : List ℕ) → sum_of (sum_of xs ys) zs ≡ sum_of xs (sum_of ys zs)
   pub sum_zero : (xs : List ℕ) → sum_of xs [] ≡ xs
   pub sum_self : (xs : List ℕ) → trimmed (sum_of xs xs) ≡ []
-  pub product_comm : (xs ys : List ℕ) → product_of xs ys ≡ product_of ys xs
-  pub product_assoc : (xs ys zs : List ℕ) → product_of (product_of xs ys) zs ≡ product_of xs (product_of ys zs)
-  pub product_zero : (xs : List ℕ) → product_of xs [] ≡ []
-  pub product_one : (xs : List ℕ) → ((k : ℕ) → slice_index xs k < 256) → product_of (1 ∷ []) xs ≡ xs
-  pub product_constant : (c : ℕ) (xs : List ℕ) → product_of (c ∷ []) xs ≡ scaled c xs
-  pub product_shifted : (xs ys : List ℕ) → product_of (shifted xs) ys ≡ shifted (product_of xs ys)
+  pub product_comm : (xs ys : List ℕ) → list_product xs ys ≡ list_product ys xs
+  pub product_assoc : (xs ys zs : List ℕ) → list_product (list_product xs ys) zs ≡ list_product xs (list_product ys zs)
+  pub product_zero : (xs : List ℕ) → list_product xs [] ≡ []
+  pub product_one : (xs : List ℕ) → ((k : ℕ) → slice_index xs k < 256) → list_product (1 ∷ []) xs ≡ xs
+  pub product_constant : (c : ℕ) (xs : List ℕ) → list_product (c ∷ []) xs ≡ scaled c xs
+  pub product_shifted : (xs ys : List ℕ) → list_product (shifted xs) ys ≡ shifted (list_product xs ys)
   pub distributive :
-      (xs ys zs : List ℕ) → product_of (sum_of xs ys) zs ≡ sum_of (product_of xs zs) (product_of ys zs)
+      (xs ys zs : List ℕ) → list_product (sum_of xs ys) zs ≡ sum_of (list_product xs zs) (list_product ys zs)
 
 -- zeros at the end change no result
 pub record IgnoresEndZeros : Type 0 where
@@ -23,7 +23,7 @@ pub record IgnoresEndZeros : Type 0 where
   pub by_coefficients :
       (xs ys : List ℕ) → ((k : ℕ) → slice_index xs k ≡ slice_index ys k) → trimmed xs ≡ trimmed ys
   pub sums : (xs ys : List ℕ) → trimmed (sum_of (trimmed xs) ys) ≡ trimmed (sum_of xs ys)
-  pub products : (xs ys : List ℕ) → trimmed (product_of (trimmed xs) ys) ≡ trimmed (product_of xs ys)
+  pub products : (xs ys : List ℕ) → trimmed (list_product (trimmed xs) ys) ≡ trimmed (list_product xs ys)
   pub values : (xs : List ℕ) (at : ℕ) → value_at (trimmed xs) at ≡ value_at xs at
 
 -- degrees, and the coefficients of sums and products: a list with no zeros at its end has one member more than its degree
@@ -36,15 +36,15 @@ pub record HasDegrees : Type 0 where
       (xs ys : List ℕ) → trimmed xs ≡ xs → length ys < length xs
       → (trimmed (sum_of xs ys) ≡ sum_of xs ys) × (length (sum_of xs ys) ≡ length xs)
   pub product_coefficient_first :
-      (x : ℕ) (xs ys : List ℕ) → slice_index (product_of (x ∷ xs) ys) 0 ≡ element_product x (slice_index ys 0)
+      (x : ℕ) (xs ys : List ℕ) → slice_index (list_product (x ∷ xs) ys) 0 ≡ element_product x (slice_index ys 0)
   pub product_coefficient :
       (x : ℕ) (xs ys : List ℕ) (k : ℕ)
-      → slice_index (product_of (x ∷ xs) ys) (suc k) ≡ bit_xor (element_product x (slice_index ys (suc k))) (slice_index (product_of xs ys) k)
+      → slice_index (list_product (x ∷ xs) ys) (suc k) ≡ bit_xor (element_product x (slice_index ys (suc k))) (slice_index (list_product xs ys) k)
   pub product_length :
-      (xs ys : List ℕ) → 0 < length xs → 0 < length ys → length (product_of xs ys) + 1 ≡ length xs + length ys
+      (xs ys : List ℕ) → 0 < length xs → 0 < length ys → length (list_product xs ys) + 1 ≡ length xs + length ys
   pub product_keeps :
       (xs ys : List ℕ) → ((k : ℕ) → slice_index xs k < 256) → ((k : ℕ) → slice_index ys k < 256)
-      → trimmed xs ≡ xs → trimmed ys ≡ ys → trimmed (product_of xs ys) ≡ product_of xs ys
+      → trimmed xs ≡ xs → trimmed ys ≡ ys → trimmed (list_product xs ys) ≡ list_product xs ys
   pub one_division :
       (dividend divisor quotient rest other_quotient other_rest : List ℕ)
       → trimmed divisor ≡ divisor → ((k : ℕ) → slice_index divisor k < 256)
@@ -77,7 +77,7 @@ pub record HasValues : Type 0 where
   pub of_scaled : (c : ℕ) (xs : List ℕ) (at : ℕ) → value_at (scaled c xs) at ≡ element_product c (value_at xs at)
   pub of_shifted : (xs : List ℕ) (at : ℕ) → value_at (shifted xs) at ≡ element_product at (value_at xs at)
   pub of_product :
-      (xs ys : List ℕ) (at : ℕ) → value_at (product_of xs ys) at ≡ element_product (value_at xs at) (value_at ys at)
+      (xs ys : List ℕ) (at : ℕ) → value_at (list_product xs ys) at ≡ element_product (value_at xs at) (value_at ys at)
 
 -- the points are bytes, and different
 pub record AreDifferent (points : List ℕ) : Type 0 where

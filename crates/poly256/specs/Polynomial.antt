@@ -43,9 +43,9 @@ raised zero cs = cs
 raised (suc n) cs = shifted (raised n cs)
 
 -- the first coefficient times the second factor, and x times the product with the rest
-unfoldable pub product_of : List ℕ → List ℕ → List ℕ
-product_of [] ys = []
-product_of (x ∷ xs) ys = sum_of (scaled x ys) (shifted (product_of xs ys))
+unfoldable pub list_product : List ℕ → List ℕ → List ℕ
+list_product [] ys = []
+list_product (x ∷ xs) ys = sum_of (scaled x ys) (shifted (list_product xs ys))
 
 -- the value at an element: the sum of the coefficients, each times the power of the element
 unfoldable pub terms_from : ℕ → List ℕ → ℕ → ℕ
@@ -84,5 +84,5 @@ pub record IsPolynomial (capacity : ℕ) (cs : List ℕ) : Type 0 where
 
 -- the dividend is the quotient times the divisor and the rest, which is zero or of lower degree than the divisor
 pub record IsDivision (dividend divisor quotient rest : List ℕ) : Type 0 where
-  pub whole : trimmed (sum_of (product_of quotient divisor) rest) ≡ trimmed dividend
+  pub whole : trimmed (sum_of (list_product quotient divisor) rest) ≡ trimmed dividend
   pub lower : length rest < length divisor

@@ -24,7 +24,7 @@ impl<const CAP: usize> Model for Poly<CAP> {
 }
 
 impl<const CAP: usize> Poly<CAP> {
-    ghost use Rattle.poly256.specs.Polynomial.{IsPolynomial, trimmed, sum_of, product_of, value_at, derivative_of, degree_of, IsDivision};
+    ghost use Rattle.poly256.specs.Polynomial.{IsPolynomial, trimmed, sum_of, list_product, value_at, derivative_of, degree_of, IsDivision};
 
     /// The polynomial that is 0 everywhere.
     pub fn zero() -> Self
@@ -110,7 +110,7 @@ impl<const CAP: usize> Poly<CAP> {
     pub fn mul(&self, other: &Self) -> Self
         requires { 0 < length self.now → 0 < length other.now →
             length self.now + length other.now ≤ CAP + 1 }
-        ensures value { result ≡ trimmed (product_of self.now other.now) }
+        ensures value { result ≡ trimmed (list_product self.now other.now) }
         ensures shape { IsPolynomial CAP result }
     {
         let first = self.coefficients();

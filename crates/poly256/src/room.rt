@@ -1,5 +1,5 @@
 ghost use Rattle.std.specs.Prelude.{◌≡◌, ◌+◌, ◌-◌, ◌<◌, ◌≤◌, ℕ, length, take, slice_index};
-ghost use Rattle.poly256.specs.Polynomial.{sum_of, scaled, raised, product_of, derivative_of, value_at, trimmed};
+ghost use Rattle.poly256.specs.Polynomial.{sum_of, scaled, raised, list_product, derivative_of, value_at, trimmed};
 
 use gf256_core::{Uat, UatTables, field_laws};
 
@@ -46,7 +46,7 @@ pub(crate) fn add_product(room: &mut [u8], first: &[u8], second: &[u8])
     requires first { length first.now ≤ length room.old }
     requires product { 0 < length second.now →
         length first.now + length second.now ≤ length room.old + 1 }
-    ensures { room.new ≡ sum_of room.old (product_of first.now second.now) }
+    ensures { room.new ≡ sum_of room.old (list_product first.now second.now) }
 {
     for (place, factor) in first.iter().enumerate() {
         add_multiple(room, place, Uat::of(*factor), second);
@@ -78,7 +78,7 @@ pub(crate) fn divide(rest: &mut [u8], quotient: &mut [u8], len: usize, divisor: 
     requires zeros { (k : ℕ) → slice_index quotient.old k ≡ 0 }
     requires past { (k : ℕ) → len ≤ k → slice_index rest.old k ≡ 0 }
     ensures whole { (k : ℕ) →
-        slice_index (sum_of (product_of quotient.new divisor.now) rest.new) k
+        slice_index (sum_of (list_product quotient.new divisor.now) rest.new) k
         ≡ slice_index rest.old k }
     ensures lower { (k : ℕ) → length divisor.now - 1 ≤ k → slice_index rest.new k ≡ 0 }
     ensures short { (k : ℕ) → len ≤ k → slice_index quotient.new k ≡ 0 }

@@ -4,7 +4,7 @@ use Rattle.std.specs.Prelude.{[], ◌∷◌, ◌++◌, length, take, map, filter
 use Rattle.std.specs.Int.{bit_at}
 use Rattle.std.specs.List.{list_any, range_with_len}
 use Rattle.std.specs.List.Sorted.{IsStrictlyIncreasing}
-use Rattle.bit_fields.specs.Bits.{Field, joined, field_at}
+use Rattle.bit_fields.specs.Bits.{Field, as_number, field_at}
 use Rattle.radar_core.specs.declared.key.BlockKey.{BlockKey}
 use Rattle.bit_fields.specs.Bits.{bit}
 use Rattle.radar_core.specs.Keys.{front_bytes}
@@ -54,12 +54,14 @@ mark base further offset =
 -- then eight offsets a byte
 abbrev pub first_bitmap_byte : ℕ → List ℕ → ℕ
 first_bitmap_byte base further =
-    joined 0 (mark base further 4 ∷ mark base further 3 ∷ mark base further 2 ∷ mark base further 1
+    as_number 0 (mark base further 4 ∷ mark base further 3 ∷ mark base further 2
+    ∷ mark base further 1
     ∷ record { width = 4; number = length_for base further } ∷ [])
 
 abbrev pub bitmap_byte : ℕ → List ℕ → ℕ → ℕ
 bitmap_byte base further place =
-    let low = 8 * place - 3 in joined 0 (mark base further (low + 7) ∷ mark base further (low + 6)
+    let low = 8 * place - 3 in as_number 0 (mark base further (low + 7)
+    ∷ mark base further (low + 6)
     ∷ mark base further (low + 5) ∷ mark base further (low + 4) ∷ mark base further (low + 3)
     ∷ mark base further (low + 2)
     ∷ mark base further (low + 1) ∷ mark base further low ∷ [])

@@ -5,7 +5,7 @@ use Rattle.std.specs.Cmp.{IsTotalOrder, nat_cmp_total, on_total, then_total}
 use Rattle.std.specs.Int.{bytes_high_first}
 use Rattle.std.specs.Ordering.{nat_cmp, ordering_then}
 use Rattle.std.specs.declared.cmp.Ordering.{Ordering}
-use Rattle.bit_fields.specs.Bits.{bit, joined, field_at}
+use Rattle.bit_fields.specs.Bits.{bit, as_number, field_at}
 use Rattle.radar_core.specs.declared.key.BlockKey.{BlockKey}
 
 -- keys stand in the order of product, scale, north before south, number
@@ -27,6 +27,10 @@ abbrev pub key_number : BlockKey → ℕ
 key_number key =
     ((key.product * 256 + key.scale) * 2 + bit key.south) * 4294967296 + key.number
 
+-- the first block at high latitudes: from it on no empty record names a block
+abbrev pub first_high : ℕ
+first_high = 405000
+
 -- the scale is 0 to 2, and the number fits its field
 pub record FitsKey (key : BlockKey) : Type 0 where
   pub scale : key.scale ≤ 2
@@ -35,7 +39,7 @@ pub record FitsKey (key : BlockKey) : Type 0 where
 -- the three bytes before a record: 1 bit of run flag, 1 of hemisphere, 2 of scale, 20 of block
 -- number
 abbrev pub front_bytes : Bool → BlockKey → List ℕ
-front_bytes is_run key = bytes_high_first 3 (joined 0 (record { width = 1; number = bit is_run }
+front_bytes is_run key = bytes_high_first 3 (as_number 0 (record { width = 1; number = bit is_run }
     ∷ record { width = 1; number = bit key.south } ∷ record { width = 2; number = key.scale }
     ∷ record { width = 20; number = key.number } ∷ []))
 

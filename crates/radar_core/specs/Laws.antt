@@ -5,7 +5,7 @@ use Rattle.std.specs.List.Sorted.{IsStrictlyIncreasing}
 use Rattle.bit_fields.specs.Bits.{AreBytes}
 use Rattle.radar_core.specs.declared.key.BlockKey.{BlockKey}
 use Rattle.radar_core.specs.declared.run.Run.{Run}
-use Rattle.radar_core.specs.Keys.{FitsKey}
+use Rattle.radar_core.specs.Keys.{FitsKey, first_high}
 use Rattle.radar_core.specs.Cells.{IsCells}
 use Rattle.radar_core.specs.Runs.{FitsRun, run_cells, longest_runs, run_record}
 use Rattle.radar_core.specs.Blanks.{IsGroup, blank_record}
@@ -35,7 +35,8 @@ pub record BlankRecordReadsBack (base : BlockKey) (further : List ℕ) : Type 0 
   pub bytes : AreBytes (blank_record base further)
 
 abbrev pub BlankRecordsReadBack : Type 0
-BlankRecordsReadBack = (base : BlockKey) (further : List ℕ) → base.scale ≤ 2 → base.number < 405000
+BlankRecordsReadBack = (base : BlockKey) (further : List ℕ) → base.scale ≤ 2
+    → base.number < first_high
     → IsGroup base.number further
     → BlankRecordReadsBack base further
 
@@ -52,7 +53,7 @@ LongestRunsAreFewest = (cells : List ℕ) → All (λ cell. cell < 8) cells → 
 -- a group has a first number, and one record can name it and the others
 abbrev pub IsOneRecord : List ℕ → Type 0
 IsOneRecord [] = ⊥
-IsOneRecord (base ∷ further) = (base < 405000) × IsGroup base further
+IsOneRecord (base ∷ further) = (base < first_high) × IsGroup base further
 
 -- the groups of rising numbers, one after another, are those numbers, so each number is in one
 -- group; one record names each group
@@ -62,4 +63,4 @@ pub record IsGrouping (numbers : List ℕ) : Type 0 where
 
 abbrev pub GroupsAreRecords : Type 0
 GroupsAreRecords = (numbers : List ℕ) → IsStrictlyIncreasing numbers
-    → All (λ number. number < 405000) numbers → IsGrouping numbers
+    → All (λ number. number < first_high) numbers → IsGrouping numbers

@@ -5,7 +5,7 @@ use Rattle.radar_core.specs.declared.key.BlockKey.{BlockKey}
 use Rattle.radar_core.specs.declared.fault.RadarFault.{RadarFault}
 use Rattle.radar_core.specs.declared.fault.RadarFault.TheVariants.{Short, BadScale, RunsNot128}
 use Rattle.radar_core.specs.declared.fault.RadarFault.TheVariants.{HighEmpty, BadBitmap}
-use Rattle.radar_core.specs.Keys.{is_run_in, scale_in, key_in}
+use Rattle.radar_core.specs.Keys.{is_run_in, scale_in, key_in, first_high}
 use Rattle.radar_core.specs.Cells.{blank_cells}
 use Rattle.radar_core.specs.Runs.{cells_in}
 use Rattle.radar_core.specs.Blanks.{block_in_ring, bitmap_length, named_offsets, key_beside}
@@ -31,7 +31,7 @@ read_runs key runs = if length (cells_in runs) == 128 then Ok (run_blocks key ru
     else Err RunsNot128
 
 abbrev pub read_bitmap : BlockKey → List ℕ → Result (List Block) RadarFault
-read_bitmap base bytes = if nat_le 405000 base.number then Err HighEmpty
+read_bitmap base bytes = if nat_le first_high base.number then Err HighEmpty
     else (if nat_lt (length bytes) (bitmap_length bytes) then Err BadBitmap
     else Ok (named_blocks base (take (bitmap_length bytes) bytes)))
 

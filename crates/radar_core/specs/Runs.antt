@@ -2,7 +2,7 @@
 -- less 1 and 3 of its intensity.
 use Rattle.std.specs.Prelude.{ℕ, ◌+◌, ◌-◌, ◌<◌, ◌≤◌, true, ◌&&◌, ◌==◌, nat_lt, if◌then◌else◌, List}
 use Rattle.std.specs.Prelude.{[], ◌∷◌, ◌++◌, replicate, map, flat_map}
-use Rattle.bit_fields.specs.Bits.{joined, field_at}
+use Rattle.bit_fields.specs.Bits.{as_number, field_at}
 use Rattle.radar_core.specs.declared.key.BlockKey.{BlockKey}
 use Rattle.radar_core.specs.declared.run.Run.{Run}
 use Rattle.radar_core.specs.Keys.{front_bytes}
@@ -14,7 +14,7 @@ pub record FitsRun (run : Run) : Type 0 where
   pub intensity : run.intensity < 8
 
 abbrev pub run_byte : Run → ℕ
-run_byte run = joined 0
+run_byte run = as_number 0
     (record { width = 5; number = run.length - 1 } ∷ record { width = 3; number = run.intensity }
     ∷ [])
 

@@ -4,10 +4,10 @@ use Rattle.std.specs.Prelude.{◌≡◌, ℕ, ◌+◌, ◌*◌, ◌<◌, ◌≤�
 use Rattle.std.specs.Prelude.{length, take, map, flat_map, slice_index, All, Contains, Ok}
 use Rattle.std.specs.Int.{bit_at}
 use Rattle.std.specs.List.Sorted.{IsStrictlyIncreasing}
-use Rattle.bit_fields.specs.Bits.{AreBytes, joined}
+use Rattle.bit_fields.specs.Bits.{AreBytes, as_number}
 use Rattle.radar_core.specs.declared.key.BlockKey.{BlockKey}
 use Rattle.radar_core.specs.declared.run.Run.{Run}
-use Rattle.radar_core.specs.Keys.{FitsKey, front_bytes}
+use Rattle.radar_core.specs.Keys.{FitsKey, front_bytes, first_high}
 use Rattle.radar_core.specs.Cells.{IsCells}
 use Rattle.radar_core.specs.Runs.{FitsRun, run_byte, run_cells}
 use Rattle.radar_core.specs.Radar.{Block, blank_block, radar_blocks}
@@ -31,13 +31,14 @@ pub data Names (bitmap : List ℕ) (offset : ℕ) : Type 0 where
 -- the low four bits of the first byte say, and any others. The blocks are those of the named
 -- offsets, which rise
 pub record SpellsBitmap (base : BlockKey) (payload : List ℕ) (blocks : List Block) : Type 0 where
-  pub ring : base.number < 405000
+  pub ring : base.number < first_high
   pub bitmap : List ℕ
   pub others : List ℕ
   pub high : ℕ
   pub size : length bitmap < 16
   pub first : take 1 (bitmap ++ others)
-      ≡ joined 0 (record { width = 4; number = high } ∷ record { width = 4; number = length bitmap }
+      ≡ as_number 0 (record { width = 4; number = high }
+      ∷ record { width = 4; number = length bitmap }
       ∷ []) ∷ []
   pub bytes : payload ≡ front_bytes false base ++ (bitmap ++ others)
   pub offsets : List ℕ

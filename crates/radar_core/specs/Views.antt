@@ -1,5 +1,6 @@
 -- What a part of a payload stands for.
 use Rattle.std.specs.Prelude.{◌≡◌, ◌<◌, ◌≤◌, List, length}
+use Rattle.radar_core.specs.Keys.{first_high}
 use Rattle.radar_core.specs.declared.key.BlockKey.{BlockKey}
 use Rattle.radar_core.specs.declared.part.Body.{Body}
 use Rattle.radar_core.specs.declared.part.Body.TheVariants.{Runs, Bitmap}
@@ -14,4 +15,4 @@ part_blocks key (Bitmap bitmap) = named_blocks key bitmap.now
 -- the runs are 128 cells; a bitmap has at most 15 bytes, and its base a ring
 abbrev pub IsBody : BlockKey → Body → Type 0
 IsBody key (Runs runs) = length (cells_in runs.now) ≡ 128
-IsBody key (Bitmap bitmap) = (length bitmap.now ≤ 15) × (key.number < 405000)
+IsBody key (Bitmap bitmap) = (length bitmap.now ≤ 15) × (key.number < first_high)

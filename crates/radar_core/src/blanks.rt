@@ -5,7 +5,7 @@ ghost use Rattle.std.specs.List.{slice_index_or};
 ghost use Rattle.radar_core.specs.Blanks.{IsGroup, blank_record, bitmap_of, length_for};
 ghost use Rattle.radar_core.specs.Marks.{is_marked, four_bits};
 ghost use Rattle.radar_core.specs.Cells.{blank_cells};
-ghost use Rattle.radar_core.specs.Keys.{FitsKey};
+ghost use Rattle.radar_core.specs.Keys.{FitsKey, first_high};
 ghost use Rattle.radar_core.specs.Radar.{radar_blocks, blank_blocks};
 
 use crate::key::BlockKey;
@@ -15,7 +15,7 @@ use crate::runs::{FRONT, put_front};
 /// shortest that names them. The answer is its length.
 pub fn write_blank(base: &BlockKey, further: &[u32], room: &mut [u8; 18]) -> usize
     requires scale { base.now.scale ≤ 2 }
-    requires number { base.now.number < 405000 }
+    requires number { base.now.number < first_high }
     requires group { IsGroup base.now.number further.now }
     ensures size { result ≡ length (blank_record base.now further.now) }
     ensures record { take result room.new ≡ blank_record base.now further.now }
@@ -29,7 +29,7 @@ pub fn write_blank(base: &BlockKey, further: &[u32], room: &mut [u8; 18]) -> usi
 
 /// Writes the bitmap behind the front of a record. The answer is the place behind it.
 fn put_bitmap(base: u32, further: &[u32], room: &mut [u8; 18]) -> usize
-    requires base { base < 405000 }
+    requires base { base < first_high }
     requires group { IsGroup base further.now }
     ensures size { result ≡ 3 + length_for base further.now }
     ensures bitmap { take result room.new ≡ take 3 room.old ++ bitmap_of base further.now }
@@ -47,7 +47,7 @@ fn put_bitmap(base: u32, further: &[u32], room: &mut [u8; 18]) -> usize
 
 /// How many bytes the bitmap has.
 fn length_for(base: u32, further: &[u32]) -> usize
-    requires base { base < 405000 }
+    requires base { base < first_high }
     requires group { IsGroup base further.now }
     ensures value { result ≡ length_for base further.now }
     ensures some { 1 ≤ result }
@@ -70,7 +70,7 @@ fn last_number(base: u32, further: &[u32]) -> u32
 
 /// The bits of the longest bitmap that name these blocks beside a base: bit o + 3 is offset o.
 fn marks_of(base: u32, further: &[u32]) -> [bool; 120]
-    requires base { base < 405000 }
+    requires base { base < first_high }
     requires group { IsGroup base further.now }
     ensures size { length result ≡ 120 }
     ensures marks { EachIndex result

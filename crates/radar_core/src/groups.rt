@@ -2,6 +2,7 @@
 ghost use Rattle.std.specs.Prelude.{◌≡◌, ℕ, ◌+◌, ◌<◌, ◌≤◌, true, false, IfOk, All, length};
 ghost use Rattle.std.specs.Prelude.{slice_get, slice_index, Some};
 ghost use Rattle.std.specs.List.Sorted.{IsStrictlyIncreasing};
+ghost use Rattle.radar_core.specs.Keys.{first_high};
 ghost use Rattle.radar_core.specs.Groups.{blank_groups, is_joined};
 
 use crate::part::RING;
@@ -50,7 +51,7 @@ impl Groups {
 pub fn group_blanks(alloc: Global, numbers: &[u32]) -> Result<Groups, AllocError>
     requires rises { IsStrictlyIncreasing numbers.now }
     requires some { 0 < length numbers.now }
-    requires fits { All (λ number. number < 405000) numbers.now }
+    requires fits { All (λ number. number < first_high) numbers.now }
     ensures { IfOk result (λ groups. groups ≡ blank_groups numbers.now) }
 {
     let mut groups = Vec::new(alloc);
@@ -66,7 +67,7 @@ pub fn group_blanks(alloc: Global, numbers: &[u32]) -> Result<Groups, AllocError
 /// How many of some rising numbers are of the group that begins with the first.
 fn group_length(numbers: &[u32]) -> usize
     requires some { 0 < length numbers.now }
-    requires fits { All (λ number. number < 405000) numbers.now }
+    requires fits { All (λ number. number < first_high) numbers.now }
     ensures some { 1 ≤ result }
     ensures most { result ≤ length numbers.now }
     ensures joined { (k : ℕ) → k < result

@@ -8,6 +8,9 @@ ghost use Rattle.radar_core.specs.Keys.{block_key_cmp, block_keys_total, key_num
 
 use std::cmp::Ordering;
 
+/// The first block at high latitudes: from it on no empty record names a block (RTCA DO-358).
+pub const FIRST_HIGH: u32 = 405_000;
+
 /// What names a block. Keys stand in the order of product, scale, north before south, number.
 #[derive(Clone, Copy, Debug, PartialEq, Eq)]
 pub struct BlockKey {

@@ -19,7 +19,7 @@ pub use blanks::write_blank;
 pub use cells::Cells;
 pub use fault::RadarFault;
 pub use groups::{Groups, group_blanks};
-pub use key::{BlockKey, order_of_block_keys};
+pub use key::{BlockKey, FIRST_HIGH, order_of_block_keys};
 pub use part::RadarPart;
 pub use reading::read_radar;
 pub use runs::write_runs;

@@ -1,6 +1,7 @@
 //! The blocks of a payload, lent out of it.
 ghost use Rattle.std.specs.Prelude.{◌≡◌, ◌+◌, ◌<◌, ◌≤◌, length, replicate, take, drop, slice_get};
 ghost use Rattle.std.specs.Prelude.{◌++◌};
+ghost use Rattle.radar_core.specs.Keys.{first_high};
 ghost use Rattle.radar_core.specs.Radar.{blank_block};
 ghost use Rattle.radar_core.specs.Runs.{cells_in};
 
@@ -66,7 +67,7 @@ impl<'a> RadarPart<'a> {
 
 /// The block at an offset from the base of an empty record.
 fn blank_block(base: BlockKey, offset: u32) -> (BlockKey, Cells)
-    requires number { base.number < 405000 }
+    requires number { base.number < first_high }
     requires offset { offset < 117 }
     ensures { result ≡ blank_block base offset }
 {

@@ -5,12 +5,9 @@ ghost use Rattle.radar_core.specs.Runs.{cells_in};
 
 use crate::cells::CELLS;
 use crate::fault::RadarFault;
-use crate::key::BlockKey;
+use crate::key::{BlockKey, FIRST_HIGH};
 use crate::part::{Body, RadarPart};
 use crate::runs::FRONT;
-
-/// A base from here on has no ring.
-const FIRST_HIGH: u32 = 405_000;
 
 /// The blocks of a payload of this product: one of a run record, one or more of an empty record.
 ///

@@ -1,4 +1,5 @@
 ghost use Rattle.std.specs.Prelude.{◌≡◌, ◌<◌, ◌≤◌};
+ghost use Rattle.radar_core.specs.Keys.{first_high};
 ghost use Rattle.radar_core.specs.Blanks.{IsGroup};
 
 use crate::{
@@ -114,7 +115,7 @@ fn the_greatest_offset_is_116(rt: HostRuntime) {
 
 /// Writes the empty record of a group, and reads it back.
 fn written_blank(rt: &impl Abort, base: u32, further: &[u32], record: &[u8])
-    requires base { base < 405000 }
+    requires base { base < first_high }
     requires group { IsGroup base further.now }
 {
     let mut room = [9; 18];

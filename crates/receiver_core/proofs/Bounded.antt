@@ -8,7 +8,7 @@ use Rattle.life_table.specs.Longest.{RadarsAreWithin, TextsAreWithin}
 use Rattle.life_table.specs.Rules.{IsTable}
 use Rattle.segment_core.specs.Arrival.{Arrival, whole_payloads}
 use Rattle.segment_core.specs.Bound.{StoresAreBounded, live_arrivals, pieces_size}
-use Rattle.segment_core.specs.Store.{is_live}
+use Rattle.segment_core.specs.Store.{is_in_life}
 use Rattle.picture_core.specs.Entry.{Entry}
 use Rattle.picture_core.specs.Kept.{IsStore, live_entries}
 use Rattle.receiver_core.specs.Bound.{IsBounded, IsFewFor, IsPurgedAt, number_alive}
@@ -51,7 +51,7 @@ module _ (laws : HasLaws) (table : LifeTable) (heard : List Reception) (held : H
       let bound = (laws.stores held.joiner.store moment (arrivals table heard) stands.joins purged.segments).bytes in
       let same = ap (λ l. sum_by (λ (a : Arrival). length a.payload) (live_arrivals l moment (arrivals table heard))) lives in
       let weighs = sum_of_filter (λ (a : Arrival). length a.payload)
-      (λ a. is_live (longest_lives table) moment a.product a.version) (arrivals table heard) in
+      (λ a. is_in_life (longest_lives table) moment a.product a.version) (arrivals table heard) in
       let most = bytes_sum laws.frames table moment heard stands.receptions in
       omega (arith, bound, same, weighs, most)
 
@@ -61,7 +61,7 @@ module _ (laws : HasLaws) (table : LifeTable) (heard : List Reception) (held : H
       let bound = (laws.stores held.joiner.store moment segments
       (stands_for_segments (arrivals table heard) held.joiner.store stands.joins) purged.segments).numbers in
       let same = ap (λ l. length (live_arrivals l moment segments)) lives in
-      let weighs = length_of_both (λ a. is_live (longest_lives table) moment a.product a.version) is_segment
+      let weighs = length_of_both (λ a. is_in_life (longest_lives table) moment a.product a.version) is_segment
       (arrivals table heard) in
       let most = segments_sum laws.frames table moment heard stands.receptions in
       omega (arith, bound, same, weighs, most)

@@ -19,7 +19,7 @@ use Rattle.radar_core.specs.Keys.{is_run_in, key_in, scale_in}
 use Rattle.radar_core.specs.Radar.{Block, blank_block, radar_blocks, read_bitmap, read_runs}
 use Rattle.radar_core.specs.Runs.{cells_in}
 use Rattle.radar_core.specs.declared.key.BlockKey.{BlockKey}
-use Rattle.segment_core.specs.Store.{is_live}
+use Rattle.segment_core.specs.Store.{is_in_life}
 use Rattle.picture_core.specs.Contents.{block_entries, block_entry, entries_by_blocks, radar_entries}
 use Rattle.picture_core.specs.Entry.{Entry}
 use Rattle.picture_core.specs.Kept.{live_entries}
@@ -140,7 +140,7 @@ few_lives false lives count most each few = omega arith
 
 module _ (radars : RadarsAreWithin) (table : LifeTable) (rules : IsTable table) (moment : ℕ) where
   abbrev lives_now : ℕ → ℕ → Bool
-  lives_now product version = is_live (longest_lives table) moment product version
+  lives_now product version = is_in_life (longest_lives table) moment product version
 
   -- a block that lives is of a product and version that lives
   row_lives : (product version : ℕ) (row : RadarRow) → radar_row table product ≡ Some row

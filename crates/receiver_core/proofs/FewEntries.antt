@@ -16,7 +16,7 @@ use Rattle.life_table.specs.Longest.{RadarsAreWithin, TextsAreWithin}
 use Rattle.life_table.specs.Rules.{IsTable}
 use Rattle.text_reports.specs.TextKey.{KeyFault, TextKey, text_key}
 use Rattle.segment_core.specs.Arrival.{Whole}
-use Rattle.segment_core.specs.Store.{is_live}
+use Rattle.segment_core.specs.Store.{is_in_life}
 use Rattle.picture_core.specs.Contents.{entry_by_key, entry_by_row, radar_entries, report_entries}
 use Rattle.life_table.specs.Products.{text_product}
 use Rattle.picture_core.specs.Entry.{Entry}
@@ -67,7 +67,7 @@ payload_reports (byte ∷ more) =
 
 module _ (rows : TextsAreWithin) (radars : RadarsAreWithin) (table : LifeTable) (rules : IsTable table) (moment : ℕ) where
   abbrev text_lives : ℕ → Bool
-  text_lives version = is_live (longest_lives table) moment 413 version
+  text_lives version = is_in_life (longest_lives table) moment 413 version
 
   live_one : (lives own : Bool) (entry : Entry) → (own ≡ true → lives ≡ true)
       → length (cond own (entry ∷ []) []) ≤ cond lives 1 0 * 1
@@ -108,7 +108,7 @@ module _ (rows : TextsAreWithin) (radars : RadarsAreWithin) (table : LifeTable) 
       omega (arith, few, count, most)
 
   abbrev pub weight_of_whole : Whole → ℕ
-  weight_of_whole whole = cond (is_live (longest_lives table) moment whole.product whole.version) (6 + length whole.payload) 0
+  weight_of_whole whole = cond (is_in_life (longest_lives table) moment whole.product whole.version) (6 + length whole.payload) 0
 
   heavier : (lives : Bool) (size : ℕ) → cond lives size 0 ≤ cond lives (6 + size) 0
   heavier true size = omega arith
@@ -124,7 +124,7 @@ module _ (rows : TextsAreWithin) (radars : RadarsAreWithin) (table : LifeTable) 
             let entries = cond-true (whole.product == text_product) reports blocks is_text in
             let few = live_text whole.version whole.payload in
             let more = heavier (text_lives whole.version) (length whole.payload) in
-            let same = ap (λ p. 5 * cond (is_live (longest_lives table) moment p whole.version) (6 + length whole.payload) 0) product in
+            let same = ap (λ p. 5 * cond (is_in_life (longest_lives table) moment p whole.version) (6 + length whole.payload) 0) product in
             omega (arith, ap (λ es. length (live_entries moment es)) entries, few, more, same)
         | inr other ↦
             let entries = cond-false (whole.product == text_product) reports blocks other in

@@ -3,6 +3,7 @@ use Rattle.std.proofs.Common.{◌≡◌, ℕ, ◌+◌, ◌≤◌, Bool, true, fa
 use Rattle.std.specs.Prelude.{◌==◌, nat_lt}
 use Rattle.std.proofs.lemmas.Bool.{eqb-false, ltb-false, or_parts}
 use Rattle.std.proofs.lemmas.List.{length-drop}
+use Rattle.list_members.proofs.Tests.{ok_past_test}
 use Rattle.fisb_time.specs.declared.form.TimeForm.{TimeForm}
 use Rattle.fisb_time.specs.declared.form.TimeForm.TheVariants.{Minute, Second, DayMinute, DaySecond}
 use Rattle.fisb_time.specs.declared.form.TimeFields.{TimeFields}
@@ -23,10 +24,6 @@ record IsWithin (body : List ℕ) (segmentation : Option Seg) (payload : List �
   pub payload_fits : 4 + length payload ≤ length body
   pub header_fits : is_some segmentation ≡ true → 7 ≤ length body
   pub numbered : IsNumbered segmentation
-
-ok_behind : {A E : Type 0} (b : Bool) (e : E) (x : Result A E) (y : A) → cond b (Err e) x ≡ Ok y → (b ≡ false) × (x ≡ Ok y)
-ok_behind true e x y is = absurd (cc)
-ok_behind false e x y is = (refl, is)
 
 ok_before : {A E : Type 0} (b : Bool) (e : E) (x : Result A E) (y : A) → cond b x (Err e) ≡ Ok y → x ≡ Ok y
 ok_before true e x y is = is
@@ -62,7 +59,7 @@ header_leaves : HeadersAreLong → (form : TimeForm) (segmented : Bool) (body : 
 header_leaves headers form segmented body a fits is =
     let bytes = header_length form segmented in
     let s = segmentation_in form (take bytes body) in
-    let read = ok_behind (segmented && is_bad s) _ _ a is in
+    let read = ok_past_test (segmented && is_bad s) _ _ a is in
     let same_payload : drop bytes body ≡ a.payload = (let e = read.1 in cc) in
     let same : cond segmented (Some s) None ≡ a.segmentation = (let e = read.1 in cc) in
     record {
@@ -80,10 +77,10 @@ body_leaves : HeadersAreLong → (body : List ℕ) (a : Apdu) → apdu_of body �
     → IsWithin body a.segmentation a.payload
 unfolding apdu_of
 body_leaves headers body a is =
-    let long = ok_behind (nat_lt (length body) 4) _ _ a is in
-    let unflagged = ok_behind (not (_ == 0)) _ _ a long.1 in
+    let long = ok_past_test (nat_lt (length body) 4) _ _ a is in
+    let unflagged = ok_past_test (not (_ == 0)) _ _ a long.1 in
     let bytes = header_length (form_in body) (is_segmented_in body) in
-    let whole = ok_behind (nat_lt (length body) bytes) _ _ a unflagged.1 in
+    let whole = ok_past_test (nat_lt (length body) bytes) _ _ a unflagged.1 in
     header_leaves headers (form_in body) (is_segmented_in body) body a
     (ltb-false (length body) bytes whole.0) whole.1
 
@@ -127,7 +124,7 @@ module _ (laws : ReadsFrames) (station : StationId) (received : ℕ) (frame : In
   by_row apdu None arrives within = absurd (cc)
   by_row apdu (Some life) arrives within =
       by_name apdu life (named apdu.form apdu.time received) refl
-      (ok_behind (is_large apdu.segmentation) _ _ a arrives).1 within
+      (ok_past_test (is_large apdu.segmentation) _ _ a arrives).1 within
 
   by_apdu : (table : LifeTable) (read : Result Apdu ApduFault) → apdu_of frame.body ≡ read
       → arrival_of_apdu table station received read ≡ Ok a → IsOfFrame received frame a

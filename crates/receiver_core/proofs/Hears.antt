@@ -68,8 +68,8 @@ stands_after frames keeps table before after past moment payload s t =
           (keeps table past heard (moment_now past) before.picture.entries (last_below (clock_of past) moment below) s.shows);
     }
 
-abbrev refusal_by : Bool → Option HearRefusal
-refusal_by valid = if valid then None else Some no_application
+abbrev application_refusal : Bool → Option HearRefusal
+application_refusal valid = if valid then None else Some no_application
 
 pub hears : (stands : List Reception → Type 0) (table : LifeTable) (past : List Reception) (moment : ℕ)
     (payload counts : List ℕ) (answer : Heard)
@@ -77,7 +77,7 @@ pub hears : (stands : List Reception → Type 0) (table : LifeTable) (past : Lis
     → IsHeardOf table past (record { moment = moment; payload = payload }) counts answer
     → HasHeard stands table past (payload_refusal payload) moment (Some payload) counts (Ok answer)
 hears stands table past moment payload counts answer valid newest answered = record {
-  accepted = ap refusal_by valid;
+  accepted = ap application_refusal valid;
   taken = record { newest = newest; answered = answered };
   refused = tt;
   kept = tt;

@@ -9,7 +9,7 @@ use Rattle.std.proofs.lemmas.List.Sums.{sum_by-append, sum_by-cons}
 use Rattle.life_table.specs.LifeTable.{LifeTable, greatest_life}
 use Rattle.uplink_frame.specs.UplinkFrame.{InformationFrame, information_frames}
 use Rattle.segment_core.specs.Arrival.{Arrival}
-use Rattle.segment_core.specs.Store.{is_live, longest_of}
+use Rattle.segment_core.specs.Store.{is_in_life, longest_of}
 use Rattle.segment_core.specs.declared.arrived.Longest.{Longest}
 use Rattle.receiver_core.specs.Bound.{may_live, number_alive}
 use Rattle.receiver_core.specs.Hearing.{AreReceptions}
@@ -61,7 +61,7 @@ longest_by lives false false = omega arith
 
 module _ (laws : ReadsFrames) (table : LifeTable) (moment : ℕ) where
   abbrev pub lives_now : ℕ → ℕ → Bool
-  lives_now product version = is_live (longest_lives table) moment product version
+  lives_now product version = is_in_life (longest_lives table) moment product version
 
   -- a version that lives was named by a reception of which something may live
   pub lives_by : (heard : Reception) (product version : ℕ) → version ≤ heard.moment + 60

@@ -7,7 +7,7 @@ use Rattle.apdu_core.specs.declared.unit.Seg.{Seg}
 use Rattle.life_table.specs.LifeTable.{LifeTable}
 use Rattle.segment_core.specs.Arrival.{Arrival, completes, has_piece, joined_payload, other_numbers, whole_with}
 use Rattle.segment_core.specs.Bound.{AnswersComplete, payload_made_whole}
-use Rattle.segment_core.specs.Store.{StandsFor, Store, answer_of, is_live, live_answer, taken_with}
+use Rattle.segment_core.specs.Store.{StandsFor, Store, answer_of, is_in_life, live_answer, taken_with}
 use Rattle.segment_core.specs.Views.{arrival_view}
 use Rattle.segment_core.specs.declared.arrived.Arrived.{Arrived}
 use Rattle.segment_core.specs.declared.arrived.Longest.{Longest}
@@ -61,7 +61,7 @@ pub joins : (lives own : Longest) (moment : ℕ) (before : List Arrival) (a : Ar
 joins lives own moment before a read store same is stands =
     subst (StandsFor store)
     (ap (λ l. taken_with l moment before (arrival_view a)) same
-    ∙ joined_by before (arrival_view a) (is_live lives moment a.product a.version) ∙ ap (arrived_with before) is) stands
+    ∙ joined_by before (arrival_view a) (is_in_life lives moment a.product a.version) ∙ ap (arrived_with before) is) stands
 
 pub brings : AnswersComplete → (table : LifeTable) (lives own : Longest) (moment : ℕ) (before : List Arrival) (a : Arrived)
     (read : Result Arrival UnreadReason)
@@ -70,7 +70,7 @@ pub brings : AnswersComplete → (table : LifeTable) (lives own : Longest) (mome
 brings complete table lives own moment before a read answer same is answered =
     ap (λ t. entries_of_whole table (option_map (whole_with (arrival_view a)) (payload_made_whole t)))
     (answered ∙ ap (λ l. answer_of l moment before (arrival_view a)) same)
-    ∙ entries_by complete table before (arrival_view a) (is_live lives moment a.product a.version) ∙ ap (frame_entries table before) is
+    ∙ entries_by complete table before (arrival_view a) (is_in_life lives moment a.product a.version) ∙ ap (frame_entries table before) is
 
 pub tells : AnswersComplete → (table : LifeTable) (lives own : Longest) (moment : ℕ) (before : List Arrival) (a : Arrived)
     (read : Result Arrival UnreadReason)
@@ -78,4 +78,4 @@ pub tells : AnswersComplete → (table : LifeTable) (lives own : Longest) (momen
     → taken_reasons table (arrival_view a) answer ≡ frame_reasons table before read
 tells complete table lives own moment before a read answer same is answered =
     ap (taken_reasons table (arrival_view a)) (answered ∙ ap (λ l. answer_of l moment before (arrival_view a)) same)
-    ∙ reasons_by complete table before (arrival_view a) (is_live lives moment a.product a.version) ∙ ap (frame_reasons table before) is
+    ∙ reasons_by complete table before (arrival_view a) (is_in_life lives moment a.product a.version) ∙ ap (frame_reasons table before) is

@@ -6,7 +6,7 @@ use Rattle.uplink_frame.specs.declared.station.StationId.{StationId}
 use Rattle.uplink_frame.specs.UplinkFrame.{InformationFrame}
 use Rattle.life_table.specs.LifeTable.{LifeTable}
 use Rattle.segment_core.specs.Arrival.{Arrival, Whole, completes}
-use Rattle.segment_core.specs.Store.{is_live}
+use Rattle.segment_core.specs.Store.{is_in_life}
 use Rattle.segment_core.specs.Views.{arrival_view}
 use Rattle.segment_core.specs.declared.arrived.Arrived.{Arrived}
 use Rattle.segment_core.specs.declared.arrived.Longest.{Longest}
@@ -19,7 +19,7 @@ use Rattle.receiver_core.specs.declared.unread.UnreadReason.TheVariants.{Stale}
 abbrev pub arrival_in_time : Longest → ℕ → Result Arrived UnreadReason → Result Arrival UnreadReason
 arrival_in_time lives moment (Err reason) = Err reason
 arrival_in_time lives moment (Ok a) =
-    if is_live lives moment a.product a.version then Ok (arrival_view a) else Err Stale
+    if is_in_life lives moment a.product a.version then Ok (arrival_view a) else Err Stale
 
 -- the entries of the payload that a frame makes whole
 abbrev pub entries_of_whole : LifeTable → Option Whole → List Entry

@@ -6,10 +6,10 @@ use Rattle.refusal_core.specs.declared.reason.Reason.{Reason}
 use Rattle.refusal_core.specs.declared.reason.Reason.TheVariants as reasons
 
 -- words and numbers with a space between them, on a line
-abbrev pub spaced : List (List ℕ) → List ℕ
-spaced [] = codes "\n"
-spaced (word ∷ []) = word ++ codes "\n"
-spaced (word ∷ next ∷ more) = word ++ (codes " " ++ spaced (next ∷ more))
+abbrev pub line_of_words : List (List ℕ) → List ℕ
+line_of_words [] = codes "\n"
+line_of_words (word ∷ []) = word ++ codes "\n"
+line_of_words (word ∷ next ∷ more) = word ++ (codes " " ++ line_of_words (next ∷ more))
 
 -- what is wrong with a row of the life table
 abbrev pub row_word : RowFault → List ℕ
@@ -52,4 +52,4 @@ reason_words reasons.NoFile = codes "nofile" ∷ []
 reason_words reasons.NotBuilt = codes "notbuilt" ∷ []
 
 abbrev pub refusal_text : ℕ → Reason → List ℕ
-refusal_text line reason = spaced (codes "refused" ∷ decimal line ∷ reason_words reason)
+refusal_text line reason = line_of_words (codes "refused" ∷ decimal line ∷ reason_words reason)

@@ -58,7 +58,9 @@ fn divide<const ROOTS: usize, const FIRST: usize>(word: &mut [u8])
 
 // The last `ROOTS` bytes of a word, once it is divided.
 #[inline]
-fn divided<const N: usize, const ROOTS: usize, const FIRST: usize>(word: &[u8; N]) -> [u8; ROOTS]
+fn rest_of_division<const N: usize, const ROOTS: usize, const FIRST: usize>(
+    word: &[u8; N],
+) -> [u8; ROOTS]
     requires room { ROOTS ≤ N }
     requires high { FIRST + ROOTS ≤ 255 }
     ensures sums { (j : ℕ) → FIRST ≤ j → j < FIRST + ROOTS →
@@ -88,7 +90,7 @@ pub(crate) fn remainder<const N: usize, const ROOTS: usize, const FIRST: usize>(
 {
     field_laws::<UatTables>();
     byte_law(word);
-    let rest = divided::<N, ROOTS, FIRST>(word);
+    let rest = rest_of_division::<N, ROOTS, FIRST>(word);
     byte_law(&rest);
     rest
 }

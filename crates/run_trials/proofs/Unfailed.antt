@@ -1,7 +1,7 @@
 -- A run over a source that never fails and a new sink with room.
 use Rattle.std.proofs.Common.{◌≡◌, ◌≢◌, ℕ, ◌<◌, ◌≤◌, ◌++◌, List, [], Option, Some, None, length, refl, sym, subst, ap, ◌∙◌, inl, inr, arith}
 use Rattle.std.proofs.lemmas.Bool.{cond-true, le-leb}
-use Rattle.fisb_wire.specs.Faults.{Rose, counted}
+use Rattle.fisb_wire.specs.Faults.{Rose, u64_count}
 use Rattle.fisb_wire.specs.Memory.{Store, store_reach}
 use Rattle.run_core.specs.declared.status.Status.{Status}
 use Rattle.run_core.specs.declared.status.Status.TheVariants.{Done, ReadFault, WriteFault, NoMemory}
@@ -16,16 +16,16 @@ fresh room fails = record { taken = []; room = room; next = 0; fails = fails; fa
 fresh-reach : (room : ℕ) (fails : List ℕ) → fails ≡ [] → store_reach (fresh room fails) ≡ Some room
 fresh-reach room fails none = rw none refl
 
-still : Rose (counted 0) (counted 0) → ⊥
+still : Rose (u64_count 0) (u64_count 0) → ⊥
 still rose = omega (arith, rose)
 
 module _ (task : Task) (input source : List ℕ) (room : ℕ) (fails : List ℕ) (left : Option (List ℕ)) (old new : Store)
     (status : Status) where
   abbrev pub before : Ends
-  before = ends (Some source) (counted 0) (Some old.taken) (counted old.faults)
+  before = ends (Some source) (u64_count 0) (Some old.taken) (u64_count old.faults)
 
   abbrev pub after : Ends
-  after = ends left (counted 0) (Some new.taken) (counted new.faults)
+  after = ends left (u64_count 0) (Some new.taken) (u64_count new.faults)
 
   whole-by : old.taken ≡ [] → IsJudged task before after input status
       → IsWhole task (ending_of input) input status new.taken

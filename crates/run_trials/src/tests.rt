@@ -1,5 +1,5 @@
 ghost use Rattle.std.specs.Prelude.{◌<◌, None};
-ghost use Rattle.fisb_wire.specs.Faults.{counted, counted-bound};
+ghost use Rattle.fisb_wire.specs.Faults.{u64_count, u64_count-bound};
 
 use crate::{Echo, run_in_memory};
 use fisb_wire::{
@@ -342,9 +342,9 @@ struct Endless {
 impl Source for Endless {
     ghost left = { λ _. None };
 
-    ghost faults = { λ _. counted 0 };
+    ghost faults = { λ _. u64_count 0 };
 
-    ghost bounded = { λ _. counted-bound 0 };
+    ghost bounded = { λ _. u64_count-bound 0 };
 
     fn read(&mut self, room: &mut [u8]) -> Result<usize, Failed> {
         let size = room.len();

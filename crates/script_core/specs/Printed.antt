@@ -16,7 +16,7 @@ use Rattle.receiver_core.specs.declared.unread.UnreadReason.TheVariants.{Files, 
 use Rattle.receiver_core.specs.declared.unread.UnreadReason.TheVariants.{RadarShort, Scale, Runs}
 use Rattle.receiver_core.specs.declared.unread.UnreadReason.TheVariants.{High, Bitmap, Words}
 use Rattle.receiver_core.specs.declared.unread.UnreadReason.TheVariants.{Unlisted}
-use Rattle.refusal_core.specs.Refusal.{spaced}
+use Rattle.refusal_core.specs.Refusal.{line_of_words}
 
 -- a frame that was sent: its number, moment and slot, how many bodies it has, and what they take;
 -- and its bytes on the air, where they are asked for
@@ -25,7 +25,7 @@ air_words true air = encode_lower air ∷ []
 air_words false air = []
 
 abbrev pub sent_line : ℕ → AirFrame → Bool → List ℕ
-sent_line index frame with_air = spaced (codes "sent" ∷ decimal index ∷ decimal frame.moment
+sent_line index frame with_air = line_of_words (codes "sent" ∷ decimal index ∷ decimal frame.moment
     ∷ decimal frame.slot ∷ decimal frame.bodies ∷ decimal frame.used ∷ air_words with_air frame.air)
 
 -- a part that is passed on unread
@@ -49,7 +49,8 @@ unread_word Unlisted = codes "unlisted"
 
 abbrev pub unread_text : UnreadPart → List ℕ
 unread_text part =
-    spaced (codes "unread" ∷ unread_word part.reason ∷ decimal part.kind ∷ decimal part.product
+    line_of_words (codes "unread" ∷ unread_word part.reason ∷ decimal part.kind
+    ∷ decimal part.product
     ∷ decimal part.size ∷ [])
 
 -- what a reception says: the slot, the site, how many bytes of each of its six blocks were
@@ -60,14 +61,14 @@ heard_words moment header counts =
 
 abbrev pub heard_lines : ℕ → UplinkHeader → List ℕ → List UnreadPart → List ℕ
 heard_lines moment header counts unread =
-    spaced (heard_words moment header counts) ++ flat_map unread_text unread
+    line_of_words (heard_words moment header counts) ++ flat_map unread_text unread
 
 -- a frame of which a block is lost, or that has no valid application data
 abbrev pub lost_line : ℕ → ℕ → List ℕ
-lost_line moment block = spaced (codes "lost" ∷ decimal moment ∷ decimal block ∷ [])
+lost_line moment block = line_of_words (codes "lost" ∷ decimal moment ∷ decimal block ∷ [])
 
 abbrev pub noapp_line : ℕ → List ℕ
-noapp_line moment = spaced (codes "noapp" ∷ decimal moment ∷ [])
+noapp_line moment = line_of_words (codes "noapp" ∷ decimal moment ∷ [])
 
 -- the third word of a text's key, where it has one
 abbrev pub third_words : Option (List ℕ) → List (List ℕ)
@@ -83,19 +84,20 @@ cell_digits intensities = map (λ cell. 48 + cell) intensities
 
 -- an entry of a picture: the words of its key, its version, and what is shown
 abbrev pub entry_text : Key → ℕ → Value → List ℕ
-entry_text (radar_block key) version (cells intensities) = spaced (codes "radar"
+entry_text (radar_block key) version (cells intensities) = line_of_words (codes "radar"
     ∷ decimal key.product ∷ decimal key.scale ∷ hemisphere_word key.south ∷ decimal key.number
     ∷ decimal version ∷ cell_digits intensities ∷ [])
 entry_text (radar_block key) version (report chars) = []
 entry_text (text_report key) version (cells intensities) = []
-entry_text (text_report key) version (report chars) = spaced (codes "text" ∷ key.kind ∷ key.place
+entry_text (text_report key) version (report chars) =
+    line_of_words (codes "text" ∷ key.kind ∷ key.place
     ∷ (third_words key.third ++ decimal version ∷ plain_text chars ∷ []))
 
 abbrev pub shown_entry : ShownValue → List ℕ
 shown_entry shown = entry_text shown.0 shown.1 shown.2
 
 abbrev pub picture_head : ℕ → ℕ → List ℕ
-picture_head moment count = spaced (codes "picture" ∷ decimal moment ∷ decimal count ∷ [])
+picture_head moment count = line_of_words (codes "picture" ∷ decimal moment ∷ decimal count ∷ [])
 
 abbrev pub picture_text : ℕ → List ShownValue → List ℕ
 picture_text moment shown = picture_head moment (length shown) ++ flat_map shown_entry shown

@@ -1,7 +1,7 @@
 //! The texts of frames: those that are sent, and what is heard of one.
 ghost use Rattle.std.specs.Prelude.{◌≡◌, ◌∷◌, ◌++◌, [], IfOk, OnOk, codes, decimal, flat_map, map, string_bytes};
 ghost use Rattle.receiver_core.specs.Hearing.{unread_view};
-ghost use Rattle.refusal_core.specs.Refusal.{spaced};
+ghost use Rattle.refusal_core.specs.Refusal.{line_of_words};
 ghost use Rattle.script_core.specs.Printed.{heard_lines, lost_line, noapp_line, sent_line, unread_text, unread_word};
 
 use fisb_time::Moment;
@@ -34,7 +34,7 @@ pub fn print_sent(
 }
 
 fn sent_air(alloc: Global, index: u32, frame: &AirFrame, digits: &str) -> Result<String, AllocError>
-    ensures { IfOk result (λ s. string_bytes s ≡ spaced (codes "sent" ∷ decimal index
+    ensures { IfOk result (λ s. string_bytes s ≡ line_of_words (codes "sent" ∷ decimal index
         ∷ decimal frame.now.moment ∷ decimal frame.now.slot ∷ decimal frame.now.bodies
         ∷ decimal frame.now.used ∷ digits.now ∷ [])) }
 {
@@ -64,7 +64,7 @@ fn heard_line(
     site: u8,
     counts: [u8; 6],
 ) -> Result<String, AllocError>
-    ensures { IfOk result (λ s. string_bytes s ≡ spaced (codes "heard" ∷ decimal moment
+    ensures { IfOk result (λ s. string_bytes s ≡ line_of_words (codes "heard" ∷ decimal moment
         ∷ decimal slot ∷ decimal site ∷ map decimal counts)) }
 {
     let moment = moment.seconds();

@@ -17,7 +17,7 @@ use Rattle.uplink_frame.specs.Laws.{StationsAreTold}
 use Rattle.segment_core.specs.Arrival.{Arrival, is_piece, has_piece, other_numbers, whole_with, completes}
 use Rattle.segment_core.specs.Kept.{KeptPieces, kept_under, kept_piece, was_whole, piece_name, arrival_named}
 use Rattle.segment_core.specs.Kept.{fields_of, same_piece}
-use Rattle.segment_core.specs.Store.{Store, StandsFor, is_live, is_live_at, live_answer}
+use Rattle.segment_core.specs.Store.{Store, StandsFor, is_in_life, is_in_life_at, live_answer}
 use Rattle.segment_core.specs.Bound.{AreNamedOnce, IsPurged, IsBounded, piece_size, live_arrivals, payload_made_whole}
 use Rattle.segment_core.specs.declared.piece_name.PieceName.{PieceName}
 use Rattle.segment_core.specs.declared.arrived.Longest.{Longest}
@@ -136,14 +136,14 @@ module _ (told : StationsAreTold) where
   weighed f g (a ∷ came) es once fits = weighed_one f g a came (weighed f g came) es once fits a.segmentation refl
 
   named_live : (longest : Longest) (moment : ℕ) (k : PieceName) (a : Arrival) (o : Option Seg) → a.segmentation ≡ o
-      → is k k.number a ≡ true → is_live longest moment k.product k.version ≡ true
-      → is_live longest moment a.product a.version ≡ true
+      → is k k.number a ≡ true → is_in_life longest moment k.product k.version ≡ true
+      → is_in_life longest moment a.product a.version ≡ true
   named_live longest moment k a None none is_k live =
       let other : is k k.number a ≡ false = ap (is_piece (arrival_named k) (fields_of k) k.number a) none in
       absurd (cc)
   named_live longest moment k a (Some s) seg is_k live =
       let same : k ≡ piece_name a s = same-is told k (piece_name a s) (sym (is-named k k.number a s seg) ∙ is_k) in
-      subst (λ (p : PieceName). is_live longest moment p.product p.version ≡ true) same live
+      subst (λ (p : PieceName). is_in_life longest moment p.product p.version ≡ true) same live
 
   from_kept : (b : Bool) (o : Option Arrival) (v : Option (List ℕ)) → option_map (kept_piece b) o ≡ Some v
       → (a : Arrival) × (o ≡ Some a) × (v ≡ kept_piece b a)
@@ -160,12 +160,12 @@ module _ (told : StationsAreTold) where
   kept_fits f g each store moment taken stands purged k v h =
       let some : is_some (kept_under store.pieces k) ≡ true = ap is_some h in
       let live = purged.live k some in
-      let at_clock : is_live_at store.longest store.clock k ≡ true =
-      ap (λ (clock : Option ℕ). is_live_at store.longest clock k) purged.clock ∙ live in
+      let at_clock : is_in_life_at store.longest store.clock k ≡ true =
+      ap (λ (clock : Option ℕ). is_in_life_at store.longest clock k) purged.clock ∙ live in
       let kept = from_kept (was_whole taken k)
       (first taken k k.number) v (sym (stands.keeps k (stands.numbered k some) at_clock) ∙ h) in
       let same_first : first (live_arrivals store.longest moment taken) k k.number ≡ first taken k k.number =
-      find_filter (is k k.number) (λ (a : Arrival). is_live store.longest moment a.product a.version)
+      find_filter (is k k.number) (λ (a : Arrival). is_in_life store.longest moment a.product a.version)
       (λ a is_k. named_live store.longest moment k a a.segmentation refl is_k live) taken in (
         kept.0,
         same_first ∙ kept.1,

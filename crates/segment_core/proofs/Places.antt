@@ -15,7 +15,7 @@ use Rattle.segment_core.specs.Arrival.{other_numbers}
 use Rattle.segment_core.specs.Ends.{MarkedPiecesHavePlaces, PiecesHavePlaces, stale_from}
 use Rattle.segment_core.specs.HeldPieces.{held_with, is_held, is_number_of, others_held}
 use Rattle.segment_core.specs.Kept.{KeptPieces, fields_of, kept_under, same_piece, with_number}
-use Rattle.segment_core.specs.Store.{is_live, live_pieces, longest_of}
+use Rattle.segment_core.specs.Store.{is_in_life, live_pieces, longest_of}
 use Rattle.segment_core.specs.contracts.piece_name.PieceNameOrd.TheImpl as order
 use Rattle.segment_core.specs.declared.piece_name.PieceName.{PieceName}
 use Rattle.segment_core.specs.declared.arrived.Longest.{Longest}
@@ -121,22 +121,22 @@ module _ (told : StationsAreTold) where
       (each-held (λ k. has_place longest old k ≡ true) pieces placed k held)) (ap is_some (sym (becomes q)) ∙ some))
 
   stale-removed : (longest : Longest) (moment : ℕ) (name : PieceName) (pieces : KeptPieces)
-      → is_live longest moment name.product name.version ≡ false
+      → is_in_life longest moment name.product name.version ≡ false
       → live_pieces longest moment (remove_entry (same_piece name) pieces) ≡ live_pieces longest moment pieces
   stale-removed longest moment name [] stale = refl
   stale-removed longest moment name (e ∷ es) stale = elim (cases_Bool (same_piece name e.0)) [
     | inl is ↦
-        let own : is_live longest moment e.0.product e.0.version ≡ false =
-        subst (λ (k : PieceName). is_live longest moment k.product k.version ≡ false) (same-is told name e.0 is) stale in
+        let own : is_in_life longest moment e.0.product e.0.version ≡ false =
+        subst (λ (k : PieceName). is_in_life longest moment k.product k.version ≡ false) (same-is told name e.0 is) stale in
         rw (is, own) refl
-    | inr not ↦ rw not (elim (cases_Bool (is_live longest moment e.0.product e.0.version)) [
+    | inr not ↦ rw not (elim (cases_Bool (is_in_life longest moment e.0.product e.0.version)) [
       | inl lives ↦ rw lives (ap (λ (more : KeptPieces). e ∷ more) (stale-removed longest moment name es stale))
       | inr over ↦ rw over (stale-removed longest moment name es stale)
     ])
   ]
 
   pub live-removed : (longest : Longest) (moment : ℕ) (name : PieceName) (pieces later : KeptPieces)
-      → is_live longest moment name.product name.version ≡ false
+      → is_in_life longest moment name.product name.version ≡ false
       → later ≡ remove_entry (is_at (order.ghosts.cmp name)) pieces
       → live_pieces longest moment later ≡ live_pieces longest moment pieces
   live-removed longest moment name pieces later stale is =

@@ -21,7 +21,7 @@ use Rattle.segment_core.specs.Store.{live_answer}
 use Rattle.segment_core.specs.declared.piece_name.PieceName.{PieceName}
 use Rattle.segment_core.specs.declared.arrived.Taken.TheVariants.{Whole}
 use Rattle.list_members.proofs.Ranges.{in_range, range_has, all_in, in_all, not_all, not_all_in, list_all_same, flat_map_same}
-use Rattle.list_members.proofs.Tests.{none_from, mapped_some}
+use Rattle.list_members.proofs.Tests.{none_from, mapped_some, or_none}
 use Rattle.segment_core.proofs.Completed.{in-others, others-in}
 use Rattle.segment_core.proofs.PieceNames.{bool_same, same-is, same-self}
 
@@ -64,10 +64,6 @@ same_number x y = bool_same (x == y) (y == x)
 abbrev same_file_as : PieceName → Arrival → Seg → Bool
 same_file_as q a s = same_station q.station a.station && (q.product == a.product) && (q.version == a.version)
     && (q.file == s.file) && (q.count == s.count)
-
-or_none : {A : Type 0} (o : Option A) → option_or o None ≡ o
-or_none None = refl
-or_none (Some x) = refl
 
 -- an arrival with segment fields is the piece that its name says
 pub is-named : (q : PieceName) (n : ℕ) (a : Arrival) (s : Seg) → a.segmentation ≡ Some s → is q n a

@@ -11,7 +11,7 @@ use Rattle.segment_core.specs.Kept.{KeptPieces, IsNumbered, kept_under, kept_of,
 use Rattle.segment_core.specs.Kept.{same_piece}
 use Rattle.segment_core.specs.HeldPieces.{others_held, held_with, is_number_of, held_answer, arrival_answer, held_after}
 use Rattle.segment_core.specs.Store.{Store, StandsFor, IsNotBefore, FitsFile, live_answer, answer_of, taken_with}
-use Rattle.segment_core.specs.Store.{is_live, is_live_at, longest_of, live_pieces}
+use Rattle.segment_core.specs.Store.{is_in_life, is_in_life_at, longest_of, live_pieces}
 use Rattle.segment_core.specs.declared.piece_name.PieceName.{PieceName}
 use Rattle.segment_core.specs.declared.arrived.Longest.{Longest}
 use Rattle.segment_core.specs.declared.arrived.Taken.TheVariants.{Stale}
@@ -23,7 +23,7 @@ stands-new longest = record { keeps = λ name number live. refl; numbered = λ n
 
 -- what is live later was live before
 earlier-live : (longest : Longest) (clock : Option ℕ) (moment : ℕ) (name : PieceName) → IsNotBefore clock moment
-    → is_live_at longest (Some moment) name ≡ true → is_live_at longest clock name ≡ true
+    → is_in_life_at longest (Some moment) name ≡ true → is_in_life_at longest clock name ≡ true
 earlier-live longest None moment name after live = refl
 earlier-live longest (Some kept) moment name after live =
     let below = ltb-true moment (name.version + longest_of longest name.product) live in
@@ -54,7 +54,7 @@ stands-whole longest clock moment pieces taken a none after stands = record {
 known-file : (longest : Longest) (clock : Option ℕ) (moment : ℕ) (pieces : KeptPieces) (taken : List Arrival) (a : Arrival)
     (s : Seg)
     → a.segmentation ≡ Some s → IsNumbered (piece_name a s) → IsNotBefore clock moment
-    → is_live longest moment a.product a.version ≡ true
+    → is_in_life longest moment a.product a.version ≡ true
     → StandsFor (store longest clock pieces) taken → IsKnown pieces taken a s
 known-file longest clock moment pieces taken a s seg number after live stands = record {
   segmentation_is = seg;
@@ -64,12 +64,12 @@ known-file longest clock moment pieces taken a s seg number after live stands = 
 }
 
 pub takes-stale : (longest : Longest) (clock : Option ℕ) (moment : ℕ) (pieces : KeptPieces) (taken : List Arrival) (a : Arrival)
-    → IsNotBefore clock moment → is_live longest moment a.product a.version ≡ false
+    → IsNotBefore clock moment → is_in_life longest moment a.product a.version ≡ false
     → StandsFor (store longest clock pieces) taken → StandsFor (store longest (Some moment) pieces)
     (taken_with longest moment taken a)
 takes-stale longest clock moment pieces taken a after stale stands =
     subst (StandsFor (store longest (Some moment) pieces))
-    (sym (cond-false (is_live longest moment a.product a.version) (taken ++ a ∷ []) taken stale))
+    (sym (cond-false (is_in_life longest moment a.product a.version) (taken ++ a ∷ []) taken stale))
     (stands-later longest clock moment pieces taken after stands)
 
 module _ (told : StationsAreTold) where
@@ -134,7 +134,7 @@ module _ (told : StationsAreTold) where
   pub stands-piece : (longest : Longest) (clock : Option ℕ) (moment : ℕ) (pieces later : KeptPieces) (taken : List Arrival)
       (a : Arrival) (s : Seg)
       → a.segmentation ≡ Some s → IsNumbered (piece_name a s) → IsNotBefore clock moment
-      → is_live longest moment a.product a.version ≡ true
+      → is_in_life longest moment a.product a.version ≡ true
       → ((q : PieceName) → kept_under later q ≡ held_with pieces (piece_name a s) a.payload q)
       → StandsFor (store longest clock pieces) taken → StandsFor (store longest (Some moment) later) (taken ++ a ∷ [])
   stands-piece longest clock moment pieces later taken a s seg number after live becomes stands =
@@ -162,19 +162,19 @@ module _ (told : StationsAreTold) where
   pub answer-piece : (longest : Longest) (clock : Option ℕ) (moment : ℕ) (pieces : KeptPieces) (taken : List Arrival)
       (a : Arrival) (s : Seg)
       → a.segmentation ≡ Some s → IsNumbered (piece_name a s) → IsNotBefore clock moment
-      → is_live longest moment a.product a.version ≡ true
+      → is_in_life longest moment a.product a.version ≡ true
       → StandsFor (store longest clock pieces) taken → held_answer pieces (piece_name a s) a.payload
       ≡ answer_of longest moment taken a
   answer-piece longest clock moment pieces taken a s seg number after live stands =
       answers told pieces taken a s (known-file longest clock moment pieces taken a s seg number after live stands)
-      ∙ sym (cond-true (is_live longest moment a.product a.version) (live_answer taken a a.segmentation) Stale live)
+      ∙ sym (cond-true (is_in_life longest moment a.product a.version) (live_answer taken a a.segmentation) Stale live)
 
   held-live : (longest : Longest) (moment : ℕ) (pieces : KeptPieces) (q : PieceName)
-      → kept_under (live_pieces longest moment pieces) q ≡ cond (is_live longest moment q.product q.version) (kept_under pieces q) None
+      → kept_under (live_pieces longest moment pieces) q ≡ cond (is_in_life longest moment q.product q.version) (kept_under pieces q) None
   held-live longest moment pieces q =
-      lookup-filter-keys (same_piece q) (λ (k : PieceName). is_live longest moment k.product k.version)
-      (is_live longest moment q.product q.version)
-      (λ k same. ap (λ (p : PieceName). is_live longest moment p.product p.version) (sym (same-is told q k same))) pieces
+      lookup-filter-keys (same_piece q) (λ (k : PieceName). is_in_life longest moment k.product k.version)
+      (is_in_life longest moment q.product q.version)
+      (λ k same. ap (λ (p : PieceName). is_in_life longest moment p.product p.version) (sym (same-is told q k same))) pieces
 
   pub stands-purged : (longest : Longest) (clock : Option ℕ) (moment : ℕ) (pieces : KeptPieces) (taken : List Arrival)
       → IsNotBefore clock moment
@@ -182,17 +182,17 @@ module _ (told : StationsAreTold) where
       → StandsFor (store longest (Some moment) (live_pieces longest moment pieces)) taken
   stands-purged longest clock moment pieces taken after stands = record {
     keeps = λ name number live.
-        held-live longest moment pieces name ∙ cond-true (is_live longest moment name.product name.version)
+        held-live longest moment pieces name ∙ cond-true (is_in_life longest moment name.product name.version)
         (kept_under pieces name) None live
         ∙ stands.keeps name number (earlier-live longest clock moment name after live);
-    numbered = λ name some. elim (cases_Bool (is_live longest moment name.product name.version)) [
+    numbered = λ name some. elim (cases_Bool (is_in_life longest moment name.product name.version)) [
       | inl live ↦ stands.numbered name
           (sym (ap is_some (held-live longest moment pieces name
-          ∙ cond-true (is_live longest moment name.product name.version) (kept_under pieces name) None live)) ∙ some)
+          ∙ cond-true (is_in_life longest moment name.product name.version) (kept_under pieces name) None live)) ∙ some)
       | inr stale ↦
           let gone : false ≡ true =
           sym (ap is_some (held-live longest moment pieces name
-          ∙ cond-false (is_live longest moment name.product name.version) (kept_under pieces name) None stale)) ∙ some in
+          ∙ cond-false (is_in_life longest moment name.product name.version) (kept_under pieces name) None stale)) ∙ some in
           absurd (cc)
     ];
   }
@@ -200,17 +200,17 @@ module _ (told : StationsAreTold) where
   -- what an arrival brings, and for what the store stands with it
   pub answer-live : (longest : Longest) (clock : Option ℕ) (moment : ℕ) (pieces : KeptPieces) (taken : List Arrival) (a : Arrival)
       (o : Option Seg)
-      → a.segmentation ≡ o → FitsFile o → IsNotBefore clock moment → is_live longest moment a.product a.version ≡ true
+      → a.segmentation ≡ o → FitsFile o → IsNotBefore clock moment → is_in_life longest moment a.product a.version ≡ true
       → StandsFor (store longest clock pieces) taken → arrival_answer pieces a o ≡ answer_of longest moment taken a
   answer-live longest clock moment pieces taken a None seg fits after live stands =
       sym (ap (live_answer taken a) seg)
-      ∙ sym (cond-true (is_live longest moment a.product a.version) (live_answer taken a a.segmentation) Stale live)
+      ∙ sym (cond-true (is_in_life longest moment a.product a.version) (live_answer taken a a.segmentation) Stale live)
   answer-live longest clock moment pieces taken a (Some s) seg fits after live stands =
       answer-piece longest clock moment pieces taken a s seg (fits.0, fits.1) after live stands
 
   pub stands-live : (longest : Longest) (clock : Option ℕ) (moment : ℕ) (pieces later : KeptPieces) (taken : List Arrival)
       (a : Arrival) (o : Option Seg)
-      → a.segmentation ≡ o → FitsFile o → IsNotBefore clock moment → is_live longest moment a.product a.version ≡ true
+      → a.segmentation ≡ o → FitsFile o → IsNotBefore clock moment → is_in_life longest moment a.product a.version ≡ true
       → ((q : PieceName) → kept_under later q ≡ held_after pieces a o q)
       → StandsFor (store longest clock pieces) taken → StandsFor (store longest (Some moment) later) (taken ++ a ∷ [])
   stands-live longest clock moment pieces later taken a None seg fits after live becomes stands =
@@ -224,22 +224,22 @@ module _ (told : StationsAreTold) where
 
   pub takes-live : (longest : Longest) (clock : Option ℕ) (moment : ℕ) (pieces later : KeptPieces) (taken : List Arrival)
       (a : Arrival)
-      → FitsFile a.segmentation → IsNotBefore clock moment → is_live longest moment a.product a.version ≡ true
+      → FitsFile a.segmentation → IsNotBefore clock moment → is_in_life longest moment a.product a.version ≡ true
       → ((q : PieceName) → kept_under later q ≡ held_after pieces a a.segmentation q)
       → StandsFor (store longest clock pieces) taken → StandsFor (store longest (Some moment) later)
       (taken_with longest moment taken a)
   takes-live longest clock moment pieces later taken a fits after live becomes stands =
       subst (StandsFor (store longest (Some moment) later))
-      (sym (cond-true (is_live longest moment a.product a.version) (taken ++ a ∷ []) taken live))
+      (sym (cond-true (is_in_life longest moment a.product a.version) (taken ++ a ∷ []) taken live))
       (stands-live longest clock moment pieces later taken a a.segmentation refl fits after live becomes stands)
 
   pub live-purged : (longest : Longest) (moment : ℕ) (pieces : KeptPieces) (name : PieceName)
-      → is_some (kept_under (live_pieces longest moment pieces) name) ≡ true → is_live longest moment name.product name.version ≡ true
-  live-purged longest moment pieces name some = elim (cases_Bool (is_live longest moment name.product name.version)) [
+      → is_some (kept_under (live_pieces longest moment pieces) name) ≡ true → is_in_life longest moment name.product name.version ≡ true
+  live-purged longest moment pieces name some = elim (cases_Bool (is_in_life longest moment name.product name.version)) [
     | inl live ↦ live
     | inr stale ↦
         let gone : false ≡ true =
         sym (ap is_some (held-live longest moment pieces name
-        ∙ cond-false (is_live longest moment name.product name.version) (kept_under pieces name) None stale)) ∙ some in
+        ∙ cond-false (is_in_life longest moment name.product name.version) (kept_under pieces name) None stale)) ∙ some in
         absurd (cc)
   ]

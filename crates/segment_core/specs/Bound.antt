@@ -6,7 +6,7 @@ use Rattle.std.specs.Map.{values_of}
 use Rattle.std.specs.Option.{option_map}
 use Rattle.segment_core.specs.Arrival.{Arrival, whole_with, completes}
 use Rattle.segment_core.specs.Kept.{KeptPieces, kept_under}
-use Rattle.segment_core.specs.Store.{Store, StandsFor, is_live, live_answer}
+use Rattle.segment_core.specs.Store.{Store, StandsFor, is_in_life, live_answer}
 use Rattle.segment_core.specs.declared.piece_name.PieceName.{PieceName}
 use Rattle.segment_core.specs.declared.arrived.Longest.{Longest}
 use Rattle.segment_core.specs.declared.arrived.Taken.{Taken}
@@ -22,7 +22,7 @@ pub record IsPurged (store : Store) (moment : ℕ) : Type 0 where
   pub clock : store.clock ≡ Some moment
   pub once : AreNamedOnce store.pieces
   pub live : (name : PieceName) → is_some (kept_under store.pieces name) ≡ true
-      → is_live store.longest moment name.product name.version ≡ true
+      → is_in_life store.longest moment name.product name.version ≡ true
 
 abbrev pub piece_size : Option (List ℕ) → ℕ
 piece_size None = 0
@@ -33,7 +33,8 @@ abbrev pub pieces_size : KeptPieces → ℕ
 pieces_size pieces = sum_by piece_size (values_of pieces)
 
 abbrev pub live_arrivals : Longest → ℕ → List Arrival → List Arrival
-live_arrivals longest moment taken = filter (λ a. is_live longest moment a.product a.version) taken
+live_arrivals longest moment taken =
+    filter (λ a. is_in_life longest moment a.product a.version) taken
 
 -- numbers and bytes are at most those of the arrivals that are not stale
 pub record IsBounded (store : Store) (moment : ℕ) (taken : List Arrival) : Type 0 where

@@ -29,19 +29,19 @@ longest_of longest product = if product == regional_radar then longest.regional
     else (if product == conus_radar then longest.conus else longest.text)
 
 -- the longest life of the product has not passed since the version
-abbrev pub is_live : Longest → ℕ → ℕ → ℕ → Bool
-is_live longest moment product version = nat_lt moment (version + longest_of longest product)
+abbrev pub is_in_life : Longest → ℕ → ℕ → ℕ → Bool
+is_in_life longest moment product version = nat_lt moment (version + longest_of longest product)
 
-abbrev pub is_live_at : Longest → Option ℕ → PieceName → Bool
-is_live_at longest None name = true
-is_live_at longest (Some moment) name = is_live longest moment name.product name.version
+abbrev pub is_in_life_at : Longest → Option ℕ → PieceName → Bool
+is_in_life_at longest None name = true
+is_in_life_at longest (Some moment) name = is_in_life longest moment name.product name.version
 
 -- A store stands for the arrivals that were taken: of each file that is not stale it holds the
 -- first piece of each number, or the number alone once the file was whole; and it holds no numbers
 -- but those of files.
 pub record StandsFor (store : Store) (taken : List Arrival) : Type 0 where
   pub keeps : (name : PieceName) → IsNumbered name
-      → is_live_at store.longest store.clock name ≡ true
+      → is_in_life_at store.longest store.clock name ≡ true
       → kept_under store.pieces name ≡ kept_of taken name
   pub numbered : (name : PieceName) → is_some (kept_under store.pieces name) ≡ true
       → IsNumbered name
@@ -69,14 +69,15 @@ live_answer taken a (Some s) = if has_piece taken a s s.number then Again
 
 abbrev pub answer_of : Longest → ℕ → List Arrival → Arrival → Taken
 answer_of longest moment taken a =
-    if is_live longest moment a.product a.version then live_answer taken a a.segmentation else Stale
+    if is_in_life longest moment a.product a.version then live_answer taken a a.segmentation
+    else Stale
 
 -- an arrival that is not stale is taken
 abbrev pub taken_with : Longest → ℕ → List Arrival → Arrival → List Arrival
 taken_with longest moment taken a =
-    if is_live longest moment a.product a.version then taken ++ a ∷ [] else taken
+    if is_in_life longest moment a.product a.version then taken ++ a ∷ [] else taken
 
 -- the pieces of files that are not stale
 abbrev pub live_pieces : Longest → ℕ → KeptPieces → KeptPieces
 live_pieces longest moment pieces =
-    filter (λ e. is_live longest moment e.0.product e.0.version) pieces
+    filter (λ e. is_in_life longest moment e.0.product e.0.version) pieces

@@ -11,7 +11,7 @@ ghost use Rattle.segment_core.specs.HeldPieces.{held_bytes, held_with};
 ghost use Rattle.segment_core.specs.HeldPieces.{joined_held, others_held};
 ghost use Rattle.segment_core.specs.Kept.{IsNumbered, kept_under, with_number};
 ghost use Rattle.segment_core.specs.Ends.{PiecesHavePlaces};
-ghost use Rattle.segment_core.specs.Store.{FitsFile, is_live};
+ghost use Rattle.segment_core.specs.Store.{FitsFile, is_in_life};
 ghost use Rattle.segment_core.specs.Store.{live_pieces, longest_of};
 ghost use Rattle.segment_core.specs.Views.{arrival_view};
 ghost use Rattle.segment_core.specs.declared.piece_name.PieceName.{PieceName};
@@ -206,8 +206,8 @@ fn longest_of(longest: &Longest, product: u16) -> u64
 }
 
 /// Whether the longest life of the product has not passed since the version.
-pub(crate) fn is_live(longest: &Longest, moment: Moment, product: u16, version: Moment) -> bool
-    ensures { result ≡ is_live longest.now moment product version }
+pub(crate) fn is_in_life(longest: &Longest, moment: Moment, product: u16, version: Moment) -> bool
+    ensures { result ≡ is_in_life longest.now moment product version }
 {
     let life = longest_of(longest, product);
     moment < version || moment.seconds() - version.seconds() < life
@@ -268,7 +268,7 @@ fn drop_name(
     ensures due { due_places moment ends.new.places ≡ due_places moment ends.old.places }
 {
     stations_are_told();
-    if is_live(longest, moment, name.product, name.version) {
+    if is_in_life(longest, moment, name.product, name.version) {
         ends.add_again(end_of(longest, name.product, name.version), name);
         return;
     }

@@ -8,7 +8,7 @@ ghost use Rattle.segment_core.specs.Store.{live_pieces, taken_with};
 ghost use Rattle.segment_core.specs.Views.{arrival_view};
 
 use crate::arrived::{Arrived, Longest, Taken};
-use crate::held::{drop_stale, is_live, take_live};
+use crate::held::{drop_stale, is_in_life, take_live};
 use crate::piece_name::PieceName;
 use fisb_time::Moment;
 use fisb_wire::Bytes;
@@ -98,7 +98,7 @@ impl Joiner {
         ensures mark { self.new.mark ≡ self.old.mark }
         ensures err { OnErr result (self.new ≡ self.old) }
     {
-        if !is_live(&self.longest, moment, arrived.product, arrived.version) {
+        if !is_in_life(&self.longest, moment, arrived.product, arrived.version) {
             self.clock = Some(moment);
             return Ok(Taken::Stale);
         }

@@ -34,13 +34,13 @@ cut_before_blank text n within h =
       | inr end ↦ let e : length text ≡ n = omega arith in rw (← e) (IsCharBoundary-end text)
     ]
 
-abbrev kept : List (List ℕ) → List (List ℕ)
-kept parts = filter (λ word. nat_lt 0 (length word)) parts
+abbrev words_with_letters : List (List ℕ) → List (List ℕ)
+words_with_letters parts = filter (λ word. nat_lt 0 (length word)) parts
 
 -- the parts of a text whose first n bytes are not blank, and the next is or there is none: those bytes and more, of which the
 -- words are those of the rest
 parts_before_blank : (text : List ℕ) (n : ℕ) → n ≤ length text → AllBlank text n false → (n < length text → is_blank (get_or text n 0) ≡ true)
-    → (more : List (List ℕ)) × (slice_split is_blank text ≡ take n text ∷ more) × (kept (slice_split is_blank (drop n text)) ≡ kept more)
+    → (more : List (List ℕ)) × (slice_split is_blank text ≡ take n text ∷ more) × (words_with_letters (slice_split is_blank (drop n text)) ≡ words_with_letters more)
 parts_before_blank [] zero within h stop = ([], refl, refl)
 parts_before_blank [] (suc n) within h stop = absurd (omega arith)
 parts_before_blank (c ∷ cs) zero within h stop =

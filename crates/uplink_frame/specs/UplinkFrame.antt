@@ -4,7 +4,7 @@ use Rattle.std.specs.Prelude.{ℕ, zero, suc, ◌+◌, ◌-◌, ◌^◌, ◌<◌
 use Rattle.std.specs.Prelude.{nat_lt, if◌then◌else◌, List, [], ◌∷◌, ◌++◌, length, take, drop}
 use Rattle.std.specs.Prelude.{flat_map, replicate}
 use Rattle.std.specs.Int.{bytes_high_first}
-use Rattle.bit_fields.specs.Bits.{bit, joined, field_at}
+use Rattle.bit_fields.specs.Bits.{bit, as_number, field_at}
 use Rattle.uplink_frame.specs.declared.header.UplinkHeader.{UplinkHeader}
 
 -- how many bytes a payload has, and how many of them are for information frames
@@ -16,7 +16,7 @@ frame_room = 424
 
 -- the 8 bytes of a header; the two reserved fields are 0
 abbrev pub header_bytes : UplinkHeader → List ℕ
-header_bytes h = bytes_high_first 8 (joined 0 (
+header_bytes h = bytes_high_first 8 (as_number 0 (
     record { width = 23; number = h.lat } ∷ record { width = 24; number = h.lon }
     ∷ record { width = 1; number = bit h.position_valid } ∷ record { width = 1; number = bit h.utc }
     ∷ record { width = 1; number = 0 } ∷ record { width = 1; number = bit h.app_valid }
@@ -50,7 +50,7 @@ pub record InformationFrame : Type 0 where
 -- the two bytes before a body: 9 bits of length, 3 reserved bits, 4 bits of type
 abbrev pub frame_front : ℕ → ℕ → ℕ → List ℕ
 frame_front size reserved kind = bytes_high_first 2
-    (joined 0 (record { width = 9; number = size } ∷ record { width = 3; number = reserved }
+    (as_number 0 (record { width = 9; number = size } ∷ record { width = 3; number = reserved }
     ∷ record { width = 4; number = kind } ∷ []))
 
 -- the bytes of a frame; its reserved bits are 0

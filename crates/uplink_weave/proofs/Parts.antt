@@ -6,7 +6,7 @@ use Rattle.std.proofs.lemmas.Bool.{cases_Bool, cases_eq}
 use Rattle.std.proofs.lemmas.List.{ext_get_or, get_or-take, get_or-drop, length-take-le, length-drop, take-append-drop, drop-drop, drop_all, take_at, drop_at}
 use Rattle.list_members.proofs.Finding.{find-cons_true, find-cons_false}
 use Rattle.uplink_weave.specs.Woven.{BeginsWithPart}
-use Rattle.uplink_weave.specs.Functions.{part, joined}
+use Rattle.uplink_weave.specs.Functions.{part, payload_of_words}
 
 pub length-part : (r : ℕ) (payload : List ℕ) → r < 6 → length payload ≡ 432 → length (part r payload) ≡ 72
 length-part r payload h full =
@@ -32,16 +32,16 @@ part_to r payload word same k h =
     sym (get_or-take 72 word k 0 h) ∙ ap (λ (w : List ℕ). get_or w k 0) same ∙ get_or-part r payload k h
 
 joined-some :
-    (o : Option (List ℕ)) (os : List (Option (List ℕ))) (word rest : List ℕ) → o ≡ Some word → joined os ≡ Some rest
-    → joined (o ∷ os) ≡ Some (take 72 word ++ rest)
+    (o : Option (List ℕ)) (os : List (Option (List ℕ))) (word rest : List ℕ) → o ≡ Some word → payload_of_words os ≡ Some rest
+    → payload_of_words (o ∷ os) ≡ Some (take 72 word ++ rest)
 joined-some o os word rest e e' =
-    ap (λ (p : Option (List ℕ)). joined (p ∷ os)) e ∙ ap (option_map (λ (w : List ℕ). take 72 word ++ w)) e'
+    ap (λ (p : Option (List ℕ)). payload_of_words (p ∷ os)) e ∙ ap (option_map (λ (w : List ℕ). take 72 word ++ w)) e'
 
 -- words that begin with the parts of a payload are joined to it
 pub joined_to :
     (f : ℕ → Option (List ℕ)) (payload : List ℕ) (from count : ℕ) → length payload ≡ 72 * (from + count)
     → ((r : ℕ) → from ≤ r → r < from + count → (word : List ℕ) × (f r ≡ Some word) × (take 72 word ≡ part r payload))
-    → joined (map f (range_with_len from count)) ≡ Some (drop (72 * from) payload)
+    → payload_of_words (map f (range_with_len from count)) ≡ Some (drop (72 * from) payload)
 joined_to f payload from zero l words = ap Some (sym (drop_all (72 * from) payload (omega arith)))
 joined_to f payload from (suc count) l words =
     let here = words from (omega arith) (omega arith) in
@@ -90,25 +90,25 @@ AreJoined-cases :
     (f : ℕ → Option (List ℕ)) (from count : ℕ) (payload : List ℕ) (o tail : Option (List ℕ)) → f from ≡ o
     → ((word : List ℕ) → f from ≡ Some word → length word ≡ 92)
     → ((rest : List ℕ) → tail ≡ Some rest → AreJoined f (from + 1) count rest)
-    → (os : List (Option (List ℕ))) → joined os ≡ tail → joined (o ∷ os) ≡ Some payload → AreJoined f from (suc count) payload
+    → (os : List (Option (List ℕ))) → payload_of_words os ≡ tail → payload_of_words (o ∷ os) ≡ Some payload → AreJoined f from (suc count) payload
 AreJoined-cases f from count payload None tail e long more os t j = cc
 AreJoined-cases f from count payload (Some word) None e long more os t j =
-    let none : joined (Some word ∷ os) ≡ None = ap (behind_first word) t in
+    let none : payload_of_words (Some word ∷ os) ≡ None = ap (behind_first word) t in
     cc
 AreJoined-cases f from count payload (Some word) (Some rest) e long more os t j =
-    let both : joined (Some word ∷ os) ≡ Some (take 72 word ++ rest) = ap (behind_first word) t in
+    let both : payload_of_words (Some word ∷ os) ≡ Some (take 72 word ++ rest) = ap (behind_first word) t in
     let same : payload ≡ take 72 word ++ rest = cc in
     AreJoined-more f from count word rest payload e (long word e) same (more rest refl)
 
 pub joined_from :
     (f : ℕ → Option (List ℕ)) (from count : ℕ) (payload : List ℕ)
     → ((r : ℕ) (word : List ℕ) → f r ≡ Some word → length word ≡ 92)
-    → joined (map f (range_with_len from count)) ≡ Some payload → AreJoined f from count payload
+    → payload_of_words (map f (range_with_len from count)) ≡ Some payload → AreJoined f from count payload
 joined_from f from zero payload long e =
     let same : payload ≡ [] = cc in
     record { long = ap length same; words = λ i h. absurd (omega arith) }
 joined_from f from (suc count) payload long e =
-    AreJoined-cases f from count payload (f from) (joined (map f (range_with_len (from + 1) count))) refl (long from)
+    AreJoined-cases f from count payload (f from) (payload_of_words (map f (range_with_len (from + 1) count))) refl (long from)
     (λ rest e'. joined_from f (from + 1) count rest long e') (map f (range_with_len (from + 1) count)) refl e
 
 -- the first number that passes
@@ -202,21 +202,21 @@ cases_option (Some word) = inr (word, refl)
 -- where joined words are missing one of them is
 joined_none-cases :
     (f : ℕ → Option (List ℕ)) (from count : ℕ) (o tail : Option (List ℕ)) → f from ≡ o
-    → (tail ≡ None → (i : ℕ) × (i < count) × (f (from + 1 + i) ≡ None)) → (os : List (Option (List ℕ))) → joined os ≡ tail
-    → joined (o ∷ os) ≡ None → (i : ℕ) × (i < suc count) × (f (from + i) ≡ None)
+    → (tail ≡ None → (i : ℕ) × (i < count) × (f (from + 1 + i) ≡ None)) → (os : List (Option (List ℕ))) → payload_of_words os ≡ tail
+    → payload_of_words (o ∷ os) ≡ None → (i : ℕ) × (i < suc count) × (f (from + i) ≡ None)
 joined_none-cases f from count None tail e more os t j =
     (0, omega arith, ap f (let z : from + 0 ≡ from = omega arith in z) ∙ e)
 joined_none-cases f from count (Some word) None e more os t j =
     let behind = more refl in
     (suc behind.0, omega arith, ap f (let z : from + suc behind.0 ≡ from + 1 + behind.0 = omega arith in z) ∙ behind.2)
 joined_none-cases f from count (Some word) (Some rest) e more os t j =
-    let both : joined (Some word ∷ os) ≡ Some (take 72 word ++ rest) = ap (behind_first word) t in
+    let both : payload_of_words (Some word ∷ os) ≡ Some (take 72 word ++ rest) = ap (behind_first word) t in
     cc
 
 pub joined_none :
-    (f : ℕ → Option (List ℕ)) (from count : ℕ) → joined (map f (range_with_len from count)) ≡ None
+    (f : ℕ → Option (List ℕ)) (from count : ℕ) → payload_of_words (map f (range_with_len from count)) ≡ None
     → (i : ℕ) × (i < count) × (f (from + i) ≡ None)
 joined_none f from zero e = cc
 joined_none f from (suc count) e =
-    joined_none-cases f from count (f from) (joined (map f (range_with_len (from + 1) count))) refl
+    joined_none-cases f from count (f from) (payload_of_words (map f (range_with_len (from + 1) count))) refl
     (λ e'. joined_none f (from + 1) count e') (map f (range_with_len (from + 1) count)) refl e

@@ -23,14 +23,15 @@ unfoldable pub corrected_block : List ℕ → ℕ → Option (List ℕ)
 corrected_block air r = corrected block_bytes block_roots first_root (block r air)
 
 -- the first 72 bytes of each word, joined, where none is missing
-abbrev pub joined : List (Option (List ℕ)) → Option (List ℕ)
-joined [] = Some []
-joined (None ∷ words) = None
-joined (Some word ∷ words) = option_map (λ rest. take 72 word ++ rest) (joined words)
+abbrev pub payload_of_words : List (Option (List ℕ)) → Option (List ℕ)
+payload_of_words [] = Some []
+payload_of_words (None ∷ words) = None
+payload_of_words (Some word ∷ words) =
+    option_map (λ rest. take 72 word ++ rest) (payload_of_words words)
 
 -- the payload of a frame, where each block has a code word near it
 unfoldable pub payload_in : List ℕ → Option (List ℕ)
-payload_in air = joined (map (corrected_block air) (range_with_len 0 6))
+payload_in air = payload_of_words (map (corrected_block air) (range_with_len 0 6))
 
 -- in how many places each block differs from the code word near it; 0 where there is none
 unfoldable pub counts_in : List ℕ → List ℕ

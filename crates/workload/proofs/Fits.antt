@@ -12,7 +12,7 @@ use Rattle.workload.specs.Draws.{state_after, number_from, draws}
 use Rattle.workload.specs.Texts.{word, two_digits, report}
 use Rattle.workload.specs.Hearings.{place_on_air, block_changes, changes}
 use Rattle.workload.specs.Step.{FitsStep}
-use Rattle.workload.specs.Workload.{Part, nothing, step, ◌>>◌, each_from, metar, taf, block, blanks, blocks, hearing, second, moment_of, metar_in, taf_in, radar_in, minute, workload}
+use Rattle.workload.specs.Workload.{Part, nothing, step, ◌>>◌, each_from, metar, taf, block, blanks, blocks, hearing, second, moment_of_minute, metar_in, taf_in, radar_in, minute, workload}
 use Rattle.workload.specs.Progress.{picture_in, turns, after_metars, rest_of_minute, rest, still_to_come}
 use Rattle.workload.proofs.Transitions.{minute-is}
 
@@ -133,23 +133,23 @@ fits-second start c =
 -- a minute
 fits-metar_in : (i s : ℕ) → Fits (metar_in i s)
 unfolding metar_in
-fits-metar_in i s = fits-if (eqb (s % 30) (i % 30)) (metar (moment_of i) s) (fits-metar (moment_of i) s)
+fits-metar_in i s = fits-if (eqb (s % 30) (i % 30)) (metar (moment_of_minute i) s) (fits-metar (moment_of_minute i) s)
 
 fits-taf_in : (i : ℕ) → Fits (taf_in i)
 unfolding taf_in
-fits-taf_in i = fits-if (ltb (i % 60) 40) (taf (moment_of i) (i % 60)) (fits-taf (moment_of i) (i % 60))
+fits-taf_in i = fits-if (ltb (i % 60) 40) (taf (moment_of_minute i) (i % 60)) (fits-taf (moment_of_minute i) (i % 60))
 
 fits-radar_in : (i : ℕ) → Fits (radar_in i)
 unfolding radar_in
-fits-radar_in i = fits-if (eqb (i % 5) 0) (blocks (moment_of i) [] 99900 900) (fits-blocks (moment_of i) 99900 900 [])
+fits-radar_in i = fits-if (eqb (i % 5) 0) (blocks (moment_of_minute i) [] 99900 900) (fits-blocks (moment_of_minute i) 99900 900 [])
 
 fits-picture : (i : ℕ) → Fits (picture_in i)
 unfolding picture_in
-fits-picture i state = one (Show (moment_of i + 59)) tt
+fits-picture i state = one (Show (moment_of_minute i + 59)) tt
 
 fits-turns : (i c : ℕ) → Fits (turns i c)
 unfolding turns
-fits-turns i c = fits-then (each_from c (60 - c) (second (moment_of i))) (picture_in i) (fits-each c (60 - c) (second (moment_of i)) (fits-second (moment_of i))) (fits-picture i)
+fits-turns i c = fits-then (each_from c (60 - c) (second (moment_of_minute i))) (picture_in i) (fits-each c (60 - c) (second (moment_of_minute i)) (fits-second (moment_of_minute i))) (fits-picture i)
 
 fits-after_metars : (i : ℕ) → Fits (after_metars i)
 unfolding after_metars
@@ -160,12 +160,12 @@ fits-rest_of_minute : (i : ℕ) (listed : List ℕ) (phase : Phase) → Fits (re
 unfolding rest_of_minute
 fits-rest_of_minute i listed (Metar s) = fits-then (each_from s (40 - s) (metar_in i)) (after_metars i) (fits-each s (40 - s) (metar_in i) (fits-metar_in i)) (fits-after_metars i)
 fits-rest_of_minute i listed Taf = fits-after_metars i
-fits-rest_of_minute i listed (Block number) = fits-then (blocks (moment_of i) listed number (100800 - number)) (turns i 0) (fits-blocks (moment_of i) number (100800 - number) listed) (fits-turns i 0)
+fits-rest_of_minute i listed (Block number) = fits-then (blocks (moment_of_minute i) listed number (100800 - number)) (turns i 0) (fits-blocks (moment_of_minute i) number (100800 - number) listed) (fits-turns i 0)
 fits-rest_of_minute i listed (Turn c) = fits-turns i c
 fits-rest_of_minute i listed (Hearing c) =
-    let more : Part = each_from (c + 1) (60 - (c + 1)) (second (moment_of i)) in
-    fits-then (hearing (moment_of i + c) >> more) (picture_in i)
-    (fits-then (hearing (moment_of i + c)) more (fits-hearing (moment_of i + c)) (fits-each (c + 1) (60 - (c + 1)) (second (moment_of i)) (fits-second (moment_of i)))) (fits-picture i)
+    let more : Part = each_from (c + 1) (60 - (c + 1)) (second (moment_of_minute i)) in
+    fits-then (hearing (moment_of_minute i + c) >> more) (picture_in i)
+    (fits-then (hearing (moment_of_minute i + c)) more (fits-hearing (moment_of_minute i + c)) (fits-each (c + 1) (60 - (c + 1)) (second (moment_of_minute i)) (fits-second (moment_of_minute i)))) (fits-picture i)
 fits-rest_of_minute i listed Picture = fits-picture i
 
 fits-minute : (i : ℕ) → Fits (minute i)

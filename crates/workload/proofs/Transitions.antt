@@ -7,7 +7,7 @@ use Rattle.workload.specs.declared.progress.Phase.{Phase}
 use Rattle.workload.specs.declared.progress.Progress.{Progress}
 use Rattle.workload.specs.declared.progress.Phase.TheVariants.{Metar, Taf, Block, Turn, Hearing, Picture}
 use Rattle.workload.specs.Draws.{state_after, number_from}
-use Rattle.workload.specs.Workload.{Part, nothing, ◌>>◌, each_from, metar, taf, block, blanks, blocks, hearing, second, moment_of, metar_in, taf_in, radar_in, minute}
+use Rattle.workload.specs.Workload.{Part, nothing, ◌>>◌, each_from, metar, taf, block, blanks, blocks, hearing, second, moment_of_minute, metar_in, taf_in, radar_in, minute}
 use Rattle.workload.specs.Progress.{picture_in, turns, after_metars, rest_of_minute, phase_after_taf, rest, still_to_come}
 use Rattle.workload.proofs.PartLemmas.{ne-eqb}
 
@@ -83,19 +83,19 @@ unfolding rest
 rest-start zero i = sym (each_from-zero i minute)
 rest-start (suc more) i = rw (each_from-suc i more minute, minute-is i) refl
 
-picture-goes : (i state : ℕ) (more : Part) → ((rest_of_minute i [] Picture >> more) state).0 ≡ show_step (moment_of i + 59) ∷ (more state).0
+picture-goes : (i state : ℕ) (more : Part) → ((rest_of_minute i [] Picture >> more) state).0 ≡ show_step (moment_of_minute i + 59) ∷ (more state).0
 unfolding rest_of_minute picture_in
 picture-goes i state more = refl
 
 -- from one minute to the next
-rest-after : (left i state : ℕ) → 0 < left → (rest left i [] Picture state).0 ≡ show_step (moment_of i + 59) ∷ (rest (left - 1) (i + 1) [] (Metar 0) state).0
+rest-after : (left i state : ℕ) → 0 < left → (rest left i [] Picture state).0 ≡ show_step (moment_of_minute i + 59) ∷ (rest (left - 1) (i + 1) [] (Metar 0) state).0
 unfolding rest
 rest-after zero i state h = absurd (omega arith)
 rest-after (suc more) i state h =
     let e : suc more - 1 ≡ more = omega arith in
     rw (e, rest-start more (i + 1)) (picture-goes i state (each_from (i + 1) more minute))
 
-pub rest-picture : (left i state moment : ℕ) (listed : List ℕ) (phase : Phase) → 0 < left → listed ≡ [] → phase ≡ Picture → moment ≡ moment_of i + 59
+pub rest-picture : (left i state moment : ℕ) (listed : List ℕ) (phase : Phase) → 0 < left → listed ≡ [] → phase ≡ Picture → moment ≡ moment_of_minute i + 59
     → (rest left i listed phase state).0 ≡ show_step moment ∷ (rest (left - 1) (i + 1) listed (Metar 0) state).0
 rest-picture left i state moment listed phase h none at shown = rw (none, at, shown) (rest-after left i state h)
 
@@ -104,7 +104,7 @@ metar_in-none : (i s state : ℕ) → (s % 30 ≡ i % 30 → ⊥) → metar_in i
 unfolding metar_in
 metar_in-none i s state other = rw (ne-eqb (s % 30) (i % 30) other) refl
 
-metar_in-is : (i s : ℕ) → s % 30 ≡ i % 30 → metar_in i s ≡ metar (moment_of i) s
+metar_in-is : (i s : ℕ) → s % 30 ≡ i % 30 → metar_in i s ≡ metar (moment_of_minute i) s
 unfolding metar_in
 metar_in-is i s same = rw (eq-eqb (s % 30) (i % 30) same) refl
 
@@ -112,10 +112,10 @@ pub metars-none : (i s state : ℕ) (listed : List ℕ) → s < 40 → (s % 30 �
 unfolding rest_of_minute
 metars-none i s state listed h other = goes-each s 40 state state (metar_in i) (after_metars i) [] h (metar_in-none i s state other)
 
-pub metars-next : (i s moment state next : ℕ) (listed : List ℕ) (handed : List Step) → s < 40 → s % 30 ≡ i % 30 → moment ≡ moment_of i + 0 → metar moment s state ≡ (handed, next) → Goes (rest_of_minute i listed (Metar s)) state handed (rest_of_minute i listed (Metar (s + 1))) next
+pub metars-next : (i s moment state next : ℕ) (listed : List ℕ) (handed : List Step) → s < 40 → s % 30 ≡ i % 30 → moment ≡ moment_of_minute i + 0 → metar moment s state ≡ (handed, next) → Goes (rest_of_minute i listed (Metar s)) state handed (rest_of_minute i listed (Metar (s + 1))) next
 unfolding rest_of_minute
 metars-next i s moment state next listed handed h same at is =
-    let start : moment_of i ≡ moment = omega arith in
+    let start : moment_of_minute i ≡ moment = omega arith in
     goes-each s 40 state next (metar_in i) (after_metars i) handed h (rw (metar_in-is i s same, start) is)
 
 pub metars-end : (i s state : ℕ) (listed : List ℕ) → 40 ≤ s → Goes (rest_of_minute i listed (Metar s)) state [] (rest_of_minute i listed Taf) state
@@ -127,24 +127,24 @@ taf_in-none : (i state : ℕ) → 40 ≤ i % 60 → taf_in i state ≡ ([], stat
 unfolding taf_in
 taf_in-none i state h = let test : ltb (i % 60) 40 ≡ false = grind (arith, nat_tests) in rw test refl
 
-taf_in-is : (i : ℕ) → i % 60 < 40 → taf_in i ≡ taf (moment_of i) (i % 60)
+taf_in-is : (i : ℕ) → i % 60 < 40 → taf_in i ≡ taf (moment_of_minute i) (i % 60)
 unfolding taf_in
 taf_in-is i h = let test : ltb (i % 60) 40 ≡ true = grind (arith, nat_tests) in rw test refl
 
 radar-is : (i : ℕ) → rest_of_minute i [] (phase_after_taf i) ≡ (radar_in i >> turns i 0)
 unfolding rest_of_minute phase_after_taf radar_in
-radar-is i = elim (eqb (i % 5) 0) as (λ b. rest_of_minute i [] (cond b (Block 99900) (Turn 0)) ≡ (cond b (blocks (moment_of i) [] 99900 900) nothing >> turns i 0)) [ true ↦ refl | false ↦ refl ]
+radar-is i = elim (eqb (i % 5) 0) as (λ b. rest_of_minute i [] (cond b (Block 99900) (Turn 0)) ≡ (cond b (blocks (moment_of_minute i) [] 99900 900) nothing >> turns i 0)) [ true ↦ refl | false ↦ refl ]
 
 pub taf-none : (i state : ℕ) (listed : List ℕ) (phase : Phase) → 40 ≤ i % 60 → listed ≡ [] → phase ≡ phase_after_taf i
     → Goes (rest_of_minute i listed Taf) state [] (rest_of_minute i listed phase) state
 unfolding rest_of_minute after_metars
 taf-none i state listed phase h none after = rw (none, after, radar-is i) (goes-first (taf_in i) (radar_in i >> turns i 0) state state [] (taf_in-none i state h))
 
-pub taf-next : (i moment state next : ℕ) (listed : List ℕ) (phase : Phase) (handed : List Step) → i % 60 < 40 → listed ≡ [] → phase ≡ phase_after_taf i → moment ≡ moment_of i + 0
+pub taf-next : (i moment state next : ℕ) (listed : List ℕ) (phase : Phase) (handed : List Step) → i % 60 < 40 → listed ≡ [] → phase ≡ phase_after_taf i → moment ≡ moment_of_minute i + 0
     → taf moment (i % 60) state ≡ (handed, next) → Goes (rest_of_minute i listed Taf) state handed (rest_of_minute i listed phase) next
 unfolding rest_of_minute after_metars
 taf-next i moment state next listed phase handed h none after at is =
-    let start : moment_of i ≡ moment = omega arith in
+    let start : moment_of_minute i ≡ moment = omega arith in
     rw (none, after, radar-is i) (goes-first (taf_in i) (radar_in i >> turns i 0) state next handed (rw (taf_in-is i h, start) is))
 
 -- the blocks
@@ -160,70 +160,70 @@ unfolding blocks
 blocks-last moment number listed h = let e : 100800 - number ≡ zero = omega arith in rw e refl
 
 pub blocks-even : (i number moment state drawn middle next : ℕ) (listed : List ℕ) (handed : List Step) → number < 100800
-    → drawn ≡ number_from state → middle ≡ state_after state → drawn % 2 ≡ 0 → moment ≡ moment_of i + 0 → block moment number middle ≡ (handed, next)
+    → drawn ≡ number_from state → middle ≡ state_after state → drawn % 2 ≡ 0 → moment ≡ moment_of_minute i + 0 → block moment number middle ≡ (handed, next)
     → Goes (rest_of_minute i listed (Block number)) state handed (rest_of_minute i listed (Block (number + 1))) next
 unfolding rest_of_minute
 blocks-even i number moment state drawn middle next listed handed h d m even at is =
-    let start : moment_of i ≡ moment = omega arith in
-    let given : block (moment_of i) number middle ≡ (handed, next) = rw start is in
-    let more : Part = blocks (moment_of i) listed (number + 1) (100800 - (number + 1)) in
+    let start : moment_of_minute i ≡ moment = omega arith in
+    let given : block (moment_of_minute i) number middle ≡ (handed, next) = rw start is in
+    let more : Part = blocks (moment_of_minute i) listed (number + 1) (100800 - (number + 1)) in
     let test : eqb (number_from state % 2) 0 ≡ true = eq-eqb (number_from state % 2) 0 (ap (λ n. n % 2) (sym d) ∙ even) in
-    goes-then (blocks (moment_of i) listed number (100800 - number)) more (turns i 0) state next handed
-    (blocks-next (moment_of i) number state listed h ∙ rw (test, ← m) (goes-first (block (moment_of i) number) more middle next handed given))
+    goes-then (blocks (moment_of_minute i) listed number (100800 - number)) more (turns i 0) state next handed
+    (blocks-next (moment_of_minute i) number state listed h ∙ rw (test, ← m) (goes-first (block (moment_of_minute i) number) more middle next handed given))
 
 pub blocks-odd : (i number state drawn middle : ℕ) (listed listed' : List ℕ) → number < 100800
     → drawn ≡ number_from state → middle ≡ state_after state → (drawn % 2 ≡ 0 → ⊥) → listed' ≡ listed ++ number ∷ []
     → Goes (rest_of_minute i listed (Block number)) state [] (rest_of_minute i listed' (Block (number + 1))) middle
 unfolding rest_of_minute
 blocks-odd i number state drawn middle listed listed' h d m odd put =
-    let more : Part = blocks (moment_of i) (listed ++ number ∷ []) (number + 1) (100800 - (number + 1)) in
+    let more : Part = blocks (moment_of_minute i) (listed ++ number ∷ []) (number + 1) (100800 - (number + 1)) in
     let test : eqb (number_from state % 2) 0 ≡ false = ne-eqb (number_from state % 2) 0 (λ e. odd (ap (λ n. n % 2) d ∙ e)) in
-    rw put (goes-then (blocks (moment_of i) listed number (100800 - number)) more (turns i 0) state middle []
-    (blocks-next (moment_of i) number state listed h ∙ rw (test, ← m) refl))
+    rw put (goes-then (blocks (moment_of_minute i) listed number (100800 - number)) more (turns i 0) state middle []
+    (blocks-next (moment_of_minute i) number state listed h ∙ rw (test, ← m) refl))
 
 -- the listed blocks
 pub blanks-none : (i number state : ℕ) (listed : List ℕ) → 100800 ≤ number → listed ≡ []
     → Goes (rest_of_minute i listed (Block number)) state [] (rest_of_minute i listed (Turn 0)) state
 unfolding rest_of_minute blanks
 blanks-none i number state listed h none =
-    goes-first (blocks (moment_of i) listed number (100800 - number)) (turns i 0) state state [] (rw (blocks-last (moment_of i) number listed h, none) refl)
+    goes-first (blocks (moment_of_minute i) listed number (100800 - number)) (turns i 0) state state [] (rw (blocks-last (moment_of_minute i) number listed h, none) refl)
 
 blanks-some : (moment state : ℕ) (listed : List ℕ) → (listed ≡ [] → ⊥) → blanks moment listed state ≡ (blanks_step moment listed ∷ [], state)
 unfolding blanks
 blanks-some moment state [] some = absurd (some refl)
 blanks-some moment state (number ∷ numbers) some = refl
 
-pub blanks-next : (i number moment state : ℕ) (listed listed' numbers : List ℕ) → 100800 ≤ number → (listed ≡ [] → ⊥) → moment ≡ moment_of i + 0 → numbers ≡ listed
+pub blanks-next : (i number moment state : ℕ) (listed listed' numbers : List ℕ) → 100800 ≤ number → (listed ≡ [] → ⊥) → moment ≡ moment_of_minute i + 0 → numbers ≡ listed
     → Goes (rest_of_minute i listed (Block number)) state (blanks_step moment numbers ∷ []) (rest_of_minute i listed' (Turn 0)) state
 unfolding rest_of_minute
 blanks-next i number moment state listed listed' numbers h some at are =
-    let start : moment ≡ moment_of i = omega arith in
-    goes-first (blocks (moment_of i) listed number (100800 - number)) (turns i 0) state state (blanks_step moment numbers ∷ [])
-    (rw (blocks-last (moment_of i) number listed h, start, are) (blanks-some (moment_of i) state listed some))
+    let start : moment ≡ moment_of_minute i = omega arith in
+    goes-first (blocks (moment_of_minute i) listed number (100800 - number)) (turns i 0) state state (blanks_step moment numbers ∷ [])
+    (rw (blocks-last (moment_of_minute i) number listed h, start, are) (blanks-some (moment_of_minute i) state listed some))
 
 -- the turns
 second-goes : (start c state : ℕ) → Goes (second start c) state (turn_step (start + c) (c % 32) ∷ []) (hearing (start + c)) state
 unfolding second
 second-goes start c state = refl
 
-pub turns-next : (i c moment state : ℕ) (listed : List ℕ) → c < 60 → moment ≡ moment_of i + c
+pub turns-next : (i c moment state : ℕ) (listed : List ℕ) → c < 60 → moment ≡ moment_of_minute i + c
     → Goes (rest_of_minute i listed (Turn c)) state (turn_step moment (c % 32) ∷ []) (rest_of_minute i listed (Hearing c)) state
 unfolding rest_of_minute turns
 turns-next i c moment state listed h at =
-    let more : Part = each_from (c + 1) (60 - (c + 1)) (second (moment_of i)) in
-    rw (each_from-next c 60 (second (moment_of i)) h, at)
-    (goes-then (second (moment_of i) c >> more) (hearing (moment_of i + c) >> more) (picture_in i) state state (turn_step (moment_of i + c) (c % 32) ∷ [])
-    (goes-then (second (moment_of i) c) (hearing (moment_of i + c)) more state state (turn_step (moment_of i + c) (c % 32) ∷ []) (second-goes (moment_of i) c state)))
+    let more : Part = each_from (c + 1) (60 - (c + 1)) (second (moment_of_minute i)) in
+    rw (each_from-next c 60 (second (moment_of_minute i)) h, at)
+    (goes-then (second (moment_of_minute i) c >> more) (hearing (moment_of_minute i + c) >> more) (picture_in i) state state (turn_step (moment_of_minute i + c) (c % 32) ∷ [])
+    (goes-then (second (moment_of_minute i) c) (hearing (moment_of_minute i + c)) more state state (turn_step (moment_of_minute i + c) (c % 32) ∷ []) (second-goes (moment_of_minute i) c state)))
 
 pub turns-end : (i c state : ℕ) (listed : List ℕ) → 60 ≤ c → Goes (rest_of_minute i listed (Turn c)) state [] (rest_of_minute i listed Picture) state
 unfolding rest_of_minute turns
-turns-end i c state listed h = goes-on c 60 state (second (moment_of i)) (picture_in i) h
+turns-end i c state listed h = goes-on c 60 state (second (moment_of_minute i)) (picture_in i) h
 
 -- the hearings
-pub hearings-next : (i c moment state next : ℕ) (listed : List ℕ) (handed : List Step) → moment ≡ moment_of i + c → hearing moment state ≡ (handed, next)
+pub hearings-next : (i c moment state next : ℕ) (listed : List ℕ) (handed : List Step) → moment ≡ moment_of_minute i + c → hearing moment state ≡ (handed, next)
     → Goes (rest_of_minute i listed (Hearing c)) state handed (rest_of_minute i listed (Turn (c + 1))) next
 unfolding rest_of_minute turns
 hearings-next i c moment state next listed handed at is =
-    let heard : hearing (moment_of i + c) state ≡ (handed, next) = rw (← at) is in
-    let more : Part = each_from (c + 1) (60 - (c + 1)) (second (moment_of i)) in
-    goes-then (hearing (moment_of i + c) >> more) more (picture_in i) state next handed (goes-first (hearing (moment_of i + c)) more state next handed heard)
+    let heard : hearing (moment_of_minute i + c) state ≡ (handed, next) = rw (← at) is in
+    let more : Part = each_from (c + 1) (60 - (c + 1)) (second (moment_of_minute i)) in
+    goes-then (hearing (moment_of_minute i + c) >> more) more (picture_in i) state next handed (goes-first (hearing (moment_of_minute i + c)) more state next handed heard)

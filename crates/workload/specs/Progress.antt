@@ -7,16 +7,16 @@ use Rattle.workload.specs.declared.progress.Phase.{Phase}
 use Rattle.workload.specs.declared.progress.Phase.TheVariants.{Metar, Taf, Block, Turn}
 use Rattle.workload.specs.declared.progress.Phase.TheVariants.{Hearing, Picture}
 use Rattle.workload.specs.declared.progress.Progress.{Progress}
-use Rattle.workload.specs.Workload.{Part, nothing, step, ◌>>◌, each_from, moment_of, minute}
+use Rattle.workload.specs.Workload.{Part, nothing, step, ◌>>◌, each_from, moment_of_minute, minute}
 use Rattle.workload.specs.Workload.{metar_in, taf_in, radar_in, blocks, hearing, second}
 
 -- the picture of minute i
 unfoldable pub picture_in : ℕ → Part
-picture_in i = step (Show (moment_of i + 59))
+picture_in i = step (Show (moment_of_minute i + 59))
 
 -- minute i from the turn of a second on
 unfoldable pub turns : ℕ → ℕ → Part
-turns i c = each_from c (60 - c) (second (moment_of i)) >> picture_in i
+turns i c = each_from c (60 - c) (second (moment_of_minute i)) >> picture_in i
 
 -- minute i after its METARs
 unfoldable pub after_metars : ℕ → Part
@@ -28,10 +28,11 @@ rest_of_minute i listed (Metar station) =
     each_from station (40 - station) (metar_in i) >> after_metars i
 rest_of_minute i listed Taf = after_metars i
 rest_of_minute i listed (Block number) =
-    blocks (moment_of i) listed number (100800 - number) >> turns i 0
+    blocks (moment_of_minute i) listed number (100800 - number) >> turns i 0
 rest_of_minute i listed (Turn c) = turns i c
 rest_of_minute i listed (Hearing c) =
-    (hearing (moment_of i + c) >> each_from (c + 1) (60 - (c + 1)) (second (moment_of i)))
+    (hearing (moment_of_minute i + c)
+    >> each_from (c + 1) (60 - (c + 1)) (second (moment_of_minute i)))
     >> picture_in i
 rest_of_minute i listed Picture = picture_in i
 

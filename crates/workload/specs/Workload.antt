@@ -83,20 +83,20 @@ second start c = do
   hearing (start + c)
 
 -- the moment at which a minute begins
-abbrev pub moment_of : ℕ → ℕ
-moment_of i = 1700000040 + 60 * i
+abbrev pub moment_of_minute : ℕ → ℕ
+moment_of_minute i = 1700000040 + 60 * i
 
 -- the METAR of a station in the minutes that have its remainder by 30
 unfoldable pub metar_in : ℕ → ℕ → Part
-metar_in i s = if s % 30 == i % 30 then metar (moment_of i) s else nothing
+metar_in i s = if s % 30 == i % 30 then metar (moment_of_minute i) s else nothing
 
 -- a TAF in the minutes whose remainder by 60 is a station
 unfoldable pub taf_in : ℕ → Part
-taf_in i = if nat_lt (i % 60) 40 then taf (moment_of i) (i % 60) else nothing
+taf_in i = if nat_lt (i % 60) 40 then taf (moment_of_minute i) (i % 60) else nothing
 
 -- radar in every fifth minute
 unfoldable pub radar_in : ℕ → Part
-radar_in i = if i % 5 == 0 then blocks (moment_of i) [] 99900 900 else nothing
+radar_in i = if i % 5 == 0 then blocks (moment_of_minute i) [] 99900 900 else nothing
 
 -- a minute of the workload
 unfoldable pub minute : ℕ → Part
@@ -104,8 +104,8 @@ minute i = do
   each_from 0 40 (metar_in i)
   taf_in i
   radar_in i
-  each_from 0 60 (second (moment_of i))
-  step (Show (moment_of i + 59))
+  each_from 0 60 (second (moment_of_minute i))
+  step (Show (moment_of_minute i + 59))
 
 -- the steps of so many minutes, from a seed
 unfoldable pub workload : ℕ → ℕ → List Step

@@ -1,6 +1,6 @@
 //! How far a workload has come.
 ghost use Rattle.std.specs.Prelude.{◌≡◌, ◌+◌, ◌*◌, ◌<◌, ◌≤◌, ◌++◌, [], OnOk, OnErr, IfOk};
-ghost use Rattle.workload.specs.Workload.{moment_of};
+ghost use Rattle.workload.specs.Workload.{moment_of_minute};
 ghost use Rattle.workload.specs.Progress.{IsSound, HandsOut, distance, phase_after_taf};
 ghost use Rattle.workload.specs.Progress.{still_to_come};
 
@@ -222,7 +222,7 @@ impl Progress {
     fn moment(&self, second: u32) -> Moment
         requires minute { self.now.minute < 1000 }
         requires second { second < 60 }
-        ensures { result ≡ moment_of self.now.minute + second }
+        ensures { result ≡ moment_of_minute self.now.minute + second }
     {
         Moment::new(1_700_000_040 + 60 * u64::from(self.minute) + u64::from(second)).unwrap()
     }

@@ -1,10 +1,10 @@
 use Rattle.std.proofs.Common.{◌≡◌, List, ℕ, arith, ap, sym, ◌∙◌, ◌+◌, get_or, drop}
-use Rattle.poly256.specs.Polynomial.{sum_of, raised, scaled, product_of}
+use Rattle.poly256.specs.Polynomial.{sum_of, raised, scaled, list_product}
 use Rattle.poly256.proofs.Rooms.{raised-zero, product_step, product_end}
 use Rattle.poly256.proofs.room.add_product.Goals as goal
 
 pub loop-place-init : goal.loop-place-init
-loop-place-init c = ap (sum_of c.args.room.now) (raised-zero (product_of c.args.first.now c.args.second.now))
+loop-place-init c = ap (sum_of c.args.room.now) (raised-zero (list_product c.args.first.now c.args.second.now))
 
 pub loop-place-preserved : goal.loop-place-preserved
 loop-place-preserved c =
@@ -13,7 +13,7 @@ loop-place-preserved c =
     c.add_multiple.ensures
     ∙ ap (λ (x : ℕ). sum_of c.loop-place.room (raised c.loop-place.place (scaled x c.args.second.now))) c.of.ensures.value in
     ap (λ (xs : List ℕ). sum_of xs
-    (raised (c.loop-place.place + 1) (product_of (drop (c.loop-place.place + 1) c.args.first.now) c.args.second.now)))
+    (raised (c.loop-place.place + 1) (list_product (drop (c.loop-place.place + 1) c.args.first.now) c.args.second.now)))
     added
     ∙ product_step c.loop-place.room c.args.first.now c.args.second.now c.loop-place.place (omega arith)
     ∙ c.loop-place.invariant

@@ -8,11 +8,11 @@ returns-clause-code g c = (
   λ zeros. record {
     long = c.told-word;
     bytes = c.byte_law.ensures;
-    sums = λ j low high. sym (c.divided-rest.ensures.sums j low high) ∙ power_sum-zeros c.field_laws.ensures c.divided-rest.result zeros j;
+    sums = λ j low high. sym (c.rest_of_division-rest.ensures.sums j low high) ∙ power_sum-zeros c.field_laws.ensures c.rest_of_division-rest.result zeros j;
   },
   λ code.
-      zero_from_sums c.field_laws.ensures g.row.ROOTS c.divided-rest.result g.row.ROOTS g.row.FIRST c.divided-rest.ensures.long
+      zero_from_sums c.field_laws.ensures g.row.ROOTS c.rest_of_division-rest.result g.row.ROOTS g.row.FIRST c.rest_of_division-rest.ensures.long
       (let b = c.requires.below in let s = c.requires.short in omega arith) c.byte_law-2.ensures
-      (let w = weight-length c.divided-rest.result in let l = c.divided-rest.ensures.long in omega arith)
-      (λ j low high. c.divided-rest.ensures.sums j low high ∙ code.sums j low high),
+      (let w = weight-length c.rest_of_division-rest.result in let l = c.rest_of_division-rest.ensures.long in omega arith)
+      (λ j low high. c.rest_of_division-rest.ensures.sums j low high ∙ code.sums j low high),
 )

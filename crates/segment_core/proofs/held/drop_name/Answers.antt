@@ -6,21 +6,21 @@ use Rattle.segment_core.specs.Store.{longest_of}
 use Rattle.segment_core.proofs.Places.{live-removed, places-again}
 use Rattle.segment_core.proofs.held.drop_name.Goals as goal
 
-pub returns-then-is_live-clause-placed : goal.returns-then-is_live-clause-placed
-returns-then-is_live-clause-placed c = λ before end left placed.
+pub returns-then-is_in_life-clause-placed : goal.returns-then-is_in_life-clause-placed
+returns-then-is_in_life-clause-placed c = λ before end left placed.
     places-again c.stations_are_told.ensures c.args.longest.now end c.end_of.result c.args.name before c.args.ends.now.places c.add_again.new.self.places
     c.args.pieces.now.entries c.end_of.ensures.before left c.add_again.ensures.kept c.add_again.ensures.added placed
 
-pub returns-then-is_live-clause-due : goal.returns-then-is_live-clause-due
-returns-then-is_live-clause-due c =
+pub returns-then-is_in_life-clause-due : goal.returns-then-is_in_life-clause-due
+returns-then-is_in_life-clause-due c =
     let lives = ltb-true c.args.moment (c.args.name.version + longest_of c.args.longest.now c.args.name.product)
-    (sym c.is_live.ensures ∙ c.if-is_live.true) in
+    (sym c.is_in_life.ensures ∙ c.if-is_in_life.true) in
     c.add_again.ensures.due c.args.moment (c.end_of.ensures.later c.args.moment lives c.requires.moment)
 
 pub returns-clause-pieces : goal.returns-clause-pieces
 returns-clause-pieces c =
     live-removed c.stations_are_told.ensures c.args.longest.now c.args.moment c.args.name c.args.pieces.now.entries c.remove.new.self.entries
-    (sym c.is_live.ensures ∙ c.if-is_live.false) c.remove.ensures.entries
+    (sym c.is_in_life.ensures ∙ c.if-is_in_life.false) c.remove.ensures.entries
 
 pub returns-clause-placed : goal.returns-clause-placed
 returns-clause-placed c = λ before end left placed.

@@ -3,7 +3,8 @@ use Rattle.std.proofs.Common.{◌∷◌, ◌∙◌, ◌<◌, ◌≤◌, sym, ari
 use Rattle.std.specs.BTreeMap.{is_at}
 use Rattle.std.specs.Map.{lookup}
 use Rattle.std.proofs.lemmas.List.Sorted.{length_permutation}
-use Rattle.undo_map.proofs.OverLemmas.{absent-kept, absent-placed, end-absent, end-found, length-removed, live-kept, live-placed, over-dropped, over-placed}
+use Rattle.list_members.proofs.Tests.{none_mapped}
+use Rattle.undo_map.proofs.OverLemmas.{absent-kept, absent-placed, end-found, length-removed, live-kept, live-placed, over-dropped, over-placed}
 use Rattle.undo_map.proofs.PlaceLemmas.{left-behind}
 use Rattle.undo_map.proofs.lasting.drop_key.Goals as goal
 
@@ -11,14 +12,14 @@ pub returns-in_default-clause-entries : goal.returns-in_default-clause-entries
 returns-in_default-clause-entries g c =
     let found = lookup (is_at (g.K.Ord.cmp c.args.key)) c.args.map.now.entries in
     sym (absent-kept g.K.Ord.cmp g.V.Lasting.end c.args.now c.args.key c.args.map.now.entries
-    (end-absent g.V.Lasting.end found (sym c.end_under.ensures.end ∙ c.in_default.is)))
+    (none_mapped g.V.Lasting.end found (sym c.end_under.ensures.end ∙ c.in_default.is)))
 
 pub returns-in_default-clause-placed : goal.returns-in_default-clause-placed
 returns-in_default-clause-placed g c = λ at placed.
     let found = lookup (is_at (g.K.Ord.cmp c.args.key)) c.args.map.now.entries in
     absent-placed g.K.Ord.cmp (λ e. g.V.Lasting.end e.1) at c.args.key ((at, c.args.key) ∷ c.args.ends.now.places)
     c.args.ends.now.places c.args.map.now.entries (left-behind (at, c.args.key) c.args.ends.now.places)
-    (end-absent g.V.Lasting.end found (sym c.end_under.ensures.end ∙ c.in_default.is)) placed
+    (none_mapped g.V.Lasting.end found (sym c.end_under.ensures.end ∙ c.in_default.is)) placed
 
 pub returns-then-now-end-clause-entries : goal.returns-then-now-end-clause-entries
 returns-then-now-end-clause-entries g c =

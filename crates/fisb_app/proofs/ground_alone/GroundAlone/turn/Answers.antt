@@ -2,7 +2,7 @@ use Rattle.std.proofs.Common.{◌+◌, true, ◌∷◌, ap, sym, ◌∙◌, leng
 use Rattle.script_core.specs.Script.{turn}
 use Rattle.script_core.specs.Printed.{sent_line}
 use Rattle.ground_core.specs.Airing.{frame_after}
-use Rattle.fisb_app.specs.Past.{events, station_of, sent_frames}
+use Rattle.fisb_app.specs.Past.{events, station_after, sent_frames}
 use Rattle.fisb_app.specs.Reading.{turn_refusal}
 use Rattle.fisb_app.specs.Output.{sent_frame}
 use Rattle.fisb_app.proofs.Turning.{frames-more, length-last, line-alike}
@@ -13,7 +13,7 @@ returns-in-Ok-print_sent g c = λ bytes acted can h.
     let table = c.args.self.now.sending.table in
     let index = h.sent in
     let on = c.in-Ok.ensures.frame bytes acted h.holds in
-    let sent = frame_after table (station_of acted) (events acted) c.args.moment c.args.slot in
+    let sent = frame_after table (station_after acted) (events acted) c.args.moment c.args.slot in
     let same = c.in-Ok.ensures.table in
     let more = frames-more c.stations_are_told.ensures table acted c.args.moment c.args.slot in (
       ap (λ i. turn_refusal i acted c.args.moment) (sym index) ∙ c.in-Ok.ensures.in_time bytes acted h.holds,

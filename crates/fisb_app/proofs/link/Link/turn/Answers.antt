@@ -2,7 +2,7 @@ use Rattle.std.proofs.Common.{◌≡◌, false, ◌∷◌, ap, sym, ◌∙◌, l
 use Rattle.script_core.specs.Script.{turn}
 use Rattle.script_core.specs.Printed.{sent_line}
 use Rattle.ground_core.specs.Airing.{frame_after}
-use Rattle.fisb_app.specs.Past.{events, station_of, sent_frames, receptions}
+use Rattle.fisb_app.specs.Past.{events, station_after, sent_frames, receptions}
 use Rattle.fisb_app.specs.Reading.{turn_refusal}
 use Rattle.fisb_app.specs.Output.{sent_frame}
 use Rattle.fisb_app.specs.Stands.{aired_view, sent_view}
@@ -15,7 +15,7 @@ returns-in-Ok-print_sent g c = λ bytes acted can h.
     let many : length c.args.self.now.sent.items ≡ length (sent_frames table acted) = count-alike sent_view aired_view _ _ h.sent in
     let index : c.len-index.result ≡ length (sent_frames table acted) = (let counted = c.len-index.ensures in omega (arith, counted, many)) in
     let on = c.in-Ok.ensures.frame bytes acted h.holds in
-    let sent = frame_after table (station_of acted) (events acted) c.args.moment c.args.slot in
+    let sent = frame_after table (station_after acted) (events acted) c.args.moment c.args.slot in
     let same = c.in-Ok.ensures.table in (
       ap (λ i. turn_refusal i acted c.args.moment) (sym index) ∙ c.in-Ok.ensures.in_time bytes acted h.holds,
       (

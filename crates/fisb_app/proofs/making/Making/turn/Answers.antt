@@ -2,7 +2,7 @@ use Rattle.std.proofs.Common.{◌≡◌, ◌≤◌, ◌<◌, None, Some, sym, ap
 use Rattle.ground_core.specs.Told.{kept_told}
 use Rattle.workload.specs.declared.step.Step.TheVariants.{Turn}
 use Rattle.fisb_app.specs.declared.counts.Counts.{Counts}
-use Rattle.fisb_app.specs.Past.{sent_frames, station_of, events}
+use Rattle.fisb_app.specs.Past.{sent_frames, station_after, events}
 use Rattle.fisb_app.specs.Reading.{frame_limit}
 use Rattle.fisb_app.specs.Make.{after_step}
 use Rattle.fisb_app.specs.Makes.{Makes}
@@ -34,7 +34,7 @@ returns-in_default g c = λ table acted h.
     subst (λ ground. Makes g.G.Sender.stands g.E.Ear.stands table (after_step table acted (Turn c.args.moment c.args.slot)) (record c.args.self.now { ground = ground })) (sym c.in_default.ensures.same)
     (refused-step g.G.Sender.stands g.E.Ear.stands table acted _ _ _ _ c.args.self.now after
     (room-turn (length (sent_frames table acted)) acted c.args.moment (Some (kept_told c.in_default.field-0)) room
-    (c.in_default.ensures.refused table (station_of acted) (events acted) h.ground)) h)
+    (c.in_default.ensures.refused table (station_after acted) (events acted) h.ground)) h)
 
 pub returns : goal.returns
 returns g c = λ table acted h.
@@ -45,7 +45,7 @@ returns g c = λ table acted h.
     let room : length (sent_frames table acted) < frame_limit = omega (arith, turns, under) in
     acted-step g.G.Sender.stands g.E.Ear.stands table acted _ _ _ _ after
     (room-turn (length (sent_frames table acted)) acted c.args.moment None room
-    (c.in-Ok.ensures.in_time table (station_of acted) (events acted) h.ground))
+    (c.in-Ok.ensures.in_time table (station_after acted) (events acted) h.ground))
     (turn-made c.stations_are_told.ensures g.G.Sender.stands g.E.Ear.stands table acted c.args.moment c.args.slot c.args.self.now c.fill.new.self c.in-Ok.frame h
-    (c.in-Ok.ensures.filled table (station_of acted) (events acted) h.ground)
-    (c.in-Ok.ensures.frame table (station_of acted) (events acted) h.ground))
+    (c.in-Ok.ensures.filled table (station_after acted) (events acted) h.ground)
+    (c.in-Ok.ensures.frame table (station_after acted) (events acted) h.ground))

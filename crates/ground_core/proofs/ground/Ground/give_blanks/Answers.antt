@@ -2,7 +2,7 @@ use Rattle.std.proofs.Common.{◌≡◌, None, sym, subst, rules}
 use Rattle.std.proofs.lemmas.Result.{err_from_is_err_and, on_ok_weaker, on_err_weaker}
 use Rattle.ground_core.specs.Update.{blanks, weather_of}
 use Rattle.segment_core.specs.Store.{last_above}
-use Rattle.ground_core.specs.StandsFor.{clock_of}
+use Rattle.ground_core.specs.StandsFor.{history_clock}
 use Rattle.ground_core.specs.Putting.{AreItemsOf, AreWhole, values_of}
 use Rattle.ground_core.specs.Views.{count_at}
 use Rattle.ground_core.proofs.State.{same_stands}
@@ -22,7 +22,7 @@ returns-clause-accepted c table station history s =
       lives = c.life_of_entries.ensures.payload;
       longest = c.longest_is_greatest.ensures.texts;
     } in
-    let in_time : last_above (clock_of history) c.args.moment ≡ None = search rules in
+    let in_time : last_above (history_clock history) c.args.moment ≡ None = search rules in
     on_ok_weaker c.put_all.result (λ p. stands_given c.args.self.now laws table station history c.args.moment (blanks c.args.version c.args.product c.args.scale c.args.south c.args.numbers.now) c.put_all.new.self (values_of c.deref.result.now) s in_time
     c.last_above.ensures.in_range c.in_ok-items.ensures.in_range c.in_ok-items.ensures.none
     (subst (λ xs. AreItemsOf (count_at c.args.self.now.files) c.args.self.now.given (weather_of c.args.self.now.table (blanks c.args.version c.args.product c.args.scale c.args.south c.args.numbers.now)) (values_of xs)) (sym c.deref.ensures.value)
@@ -37,7 +37,7 @@ returns-clause-nothing_against c table station history s =
       lives = c.life_of_entries.ensures.payload;
       longest = c.longest_is_greatest.ensures.texts;
     } in
-    let in_time : last_above (clock_of history) c.args.moment ≡ None = search rules in
+    let in_time : last_above (history_clock history) c.args.moment ≡ None = search rules in
     on_ok_weaker c.put_all.result
     (λ p. (in_time, none_against c.args.self.now laws table station history c.args.moment (blanks c.args.version c.args.product c.args.scale c.args.south c.args.numbers.now) s in_time c.in_ok-items.ensures.none)) c.put_all.ensures.ok
 
@@ -55,5 +55,5 @@ returns-in_err-items-clause-refused c table station history s =
       lives = c.life_of_entries.ensures.payload;
       longest = c.longest_is_greatest.ensures.texts;
     } in
-    let in_time : last_above (clock_of history) c.args.moment ≡ None = search rules in
+    let in_time : last_above (history_clock history) c.args.moment ≡ None = search rules in
     rw (p.1, p.2) (told_given c.args.self.now laws table station history c.args.moment (blanks c.args.version c.args.product c.args.scale c.args.south c.args.numbers.now) c.in_err-items.field-0.0 s in_time c.in_err-items.ensures.fault)

@@ -3,7 +3,7 @@ use Rattle.std.proofs.lemmas.Bool.{true≢false}
 use Rattle.std.proofs.lemmas.Result.{err_from_is_err_and, on_ok_weaker, on_err_weaker}
 use Rattle.ground_core.specs.Update.{block, weather_of}
 use Rattle.segment_core.specs.Store.{last_above}
-use Rattle.ground_core.specs.StandsFor.{clock_of}
+use Rattle.ground_core.specs.StandsFor.{history_clock}
 use Rattle.ground_core.specs.Views.{count_at}
 use Rattle.ground_core.proofs.State.{same_stands}
 use Rattle.ground_core.proofs.SentItems.{whole_items}
@@ -22,7 +22,7 @@ returns-clause-accepted c table station history s =
       lives = c.life_of_entries.ensures.payload;
       longest = c.longest_is_greatest.ensures.texts;
     } in
-    let in_time : last_above (clock_of history) c.args.moment ≡ None = search rules in
+    let in_time : last_above (history_clock history) c.args.moment ≡ None = search rules in
     on_ok_weaker c.put.result (λ p. stands_given c.args.self.now laws table station history c.args.moment (block c.args.version c.args.key.now c.args.cells.now) c.put.new.self (c.in_ok-item.item ∷ []) s in_time
     c.last_above.ensures.in_range (c.in_ok-item.ensures.in_range, c.in_ok-item.ensures.cells) c.in_ok-item.ensures.none
     (whole_items (count_at c.args.self.now.files) c.args.self.now.given (weather_of c.args.self.now.table (block c.args.version c.args.key.now c.args.cells.now)) (c.in_ok-item.item ∷ []) (c.in_ok-item.ensures.whole, tt) c.in_ok-item.ensures.item) p) c.put.ensures.ok
@@ -36,7 +36,7 @@ returns-clause-nothing_against c table station history s =
       lives = c.life_of_entries.ensures.payload;
       longest = c.longest_is_greatest.ensures.texts;
     } in
-    let in_time : last_above (clock_of history) c.args.moment ≡ None = search rules in
+    let in_time : last_above (history_clock history) c.args.moment ≡ None = search rules in
     on_ok_weaker c.put.result
     (λ p. (in_time, none_against c.args.self.now laws table station history c.args.moment (block c.args.version c.args.key.now c.args.cells.now) s in_time c.in_ok-item.ensures.none)) c.put.ensures.ok
 
@@ -54,5 +54,5 @@ returns-in_err-item-clause-refused c table station history s =
       lives = c.life_of_entries.ensures.payload;
       longest = c.longest_is_greatest.ensures.texts;
     } in
-    let in_time : last_above (clock_of history) c.args.moment ≡ None = search rules in
+    let in_time : last_above (history_clock history) c.args.moment ≡ None = search rules in
     rw (p.1, p.2) (told_given c.args.self.now laws table station history c.args.moment (block c.args.version c.args.key.now c.args.cells.now) c.in_err-item.field-0.0 s in_time c.in_err-item.ensures.fault)

@@ -1,24 +1,24 @@
 use Rattle.std.proofs.Common.{◌≡◌, true, Some, refl, sym, ◌∙◌, subst}
-use Rattle.segment_core.specs.Store.{MarkedStore, StandsFor, IsNotBefore, answer_of, is_live, taken_with}
+use Rattle.segment_core.specs.Store.{MarkedStore, StandsFor, IsNotBefore, answer_of, is_in_life, taken_with}
 use Rattle.segment_core.specs.Views.{arrival_view}
 use Rattle.segment_core.proofs.StoreSteps.{answer-live, takes-live, takes-stale}
 use Rattle.segment_core.proofs.Places.{marked-taken}
 use Rattle.segment_core.proofs.joiner.Joiner.take.Goals as goal
 
-pub returns-then-not-is_live-clause-stands : goal.returns-then-not-is_live-clause-stands
-returns-then-not-is_live-clause-stands c = λ taken.
+pub returns-then-not-is_in_life-clause-stands : goal.returns-then-not-is_in_life-clause-stands
+returns-then-not-is_in_life-clause-stands c = λ taken.
     subst (λ (v : MarkedStore). IsNotBefore v.store.clock c.args.moment → StandsFor v.store taken
     → StandsFor (record { longest = c.self.inside.longest; clock = Some c.args.moment; pieces = c.self.inside.pieces.entries })
     (taken_with v.store.longest c.args.moment taken (arrival_view c.args.arrived.now)))
     c.self.view_is
     (λ after. takes-stale c.self.inside.longest c.self.inside.clock c.args.moment c.self.inside.pieces.entries taken
-    (arrival_view c.args.arrived.now) after (sym c.is_live.ensures ∙ c.if-not-is_live.true))
+    (arrival_view c.args.arrived.now) after (sym c.is_in_life.ensures ∙ c.if-not-is_in_life.true))
     c.requires.moment
 
 pub returns-clause-answer : goal.returns-clause-answer
 returns-clause-answer c = λ taken.
-    let live : is_live c.self.inside.longest c.args.moment c.args.arrived.now.product c.args.arrived.now.version ≡ true =
-    sym c.is_live.ensures ∙ c.if-not-is_live.false in
+    let live : is_in_life c.self.inside.longest c.args.moment c.args.arrived.now.product c.args.arrived.now.version ≡ true =
+    sym c.is_in_life.ensures ∙ c.if-not-is_in_life.false in
     subst (λ (v : MarkedStore). IsNotBefore v.store.clock c.args.moment → StandsFor v.store taken
     → c.in_ok-taken.taken ≡ answer_of v.store.longest c.args.moment taken (arrival_view c.args.arrived.now))
     c.self.view_is
@@ -29,8 +29,8 @@ returns-clause-answer c = λ taken.
 
 pub returns-clause-stands : goal.returns-clause-stands
 returns-clause-stands c = λ taken.
-    let live : is_live c.self.inside.longest c.args.moment c.args.arrived.now.product c.args.arrived.now.version ≡ true =
-    sym c.is_live.ensures ∙ c.if-not-is_live.false in
+    let live : is_in_life c.self.inside.longest c.args.moment c.args.arrived.now.product c.args.arrived.now.version ≡ true =
+    sym c.is_in_life.ensures ∙ c.if-not-is_in_life.false in
     subst (λ (v : MarkedStore). IsNotBefore v.store.clock c.args.moment → StandsFor v.store taken
     → StandsFor (record {
       longest = c.self.inside.longest;

@@ -7,13 +7,13 @@ use std::marker::Model;
 
 /// A list of bytes, some of which were read from its front.
 #[derive(Drop)]
-pub(crate) struct Unread {
+pub(crate) struct Remaining {
     input: Bytes,
     // How many bytes were read.
     place: usize,
 }
 
-impl Model for Unread {
+impl Model for Remaining {
     ghost use Rattle.std.specs.Prelude.{ℕ, ◌≤◌, List, length, drop};
 
     ghost Value = { List ℕ };
@@ -23,12 +23,12 @@ impl Model for Unread {
     ghost invariant = { λ u. u.place ≤ length u.input };
 }
 
-impl Unread {
+impl Remaining {
     /// All bytes of the list.
-    pub(crate) fn of(input: Bytes) -> Unread
+    pub(crate) fn of(input: Bytes) -> Remaining
         ensures { result ≡ input }
     {
-        Unread { input, place: 0 }
+        Remaining { input, place: 0 }
     }
 
     /// The bytes still to be read.

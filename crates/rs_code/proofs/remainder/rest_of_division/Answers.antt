@@ -1,7 +1,7 @@
 use Rattle.std.proofs.Common.{◌-◌, ℕ, List, drop, ap, sym, ◌∙◌}
 use Rattle.std.proofs.lemmas.List.{length-replicate}
 use Rattle.rs_code.specs.CodeWord.{power_sum}
-use Rattle.rs_code.proofs.remainder.divided.Goals as goal
+use Rattle.rs_code.proofs.remainder.rest_of_division.Goals as goal
 
 pub returns : goal.returns
 returns g c = record {
