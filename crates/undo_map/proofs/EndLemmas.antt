@@ -1,5 +1,5 @@
 -- Queues of places, and the entries that have a place.
-use Rattle.std.proofs.Common.{◌≡◌, ℕ, ◌≤◌, ◌&&◌, ◌++◌, true, false, Bool, List, [], ◌∷◌, refl, sym, ap, ◌∙◌}
+use Rattle.std.proofs.Common.{◌≡◌, ℕ, ◌+◌, length, ◌≤◌, ◌&&◌, ◌++◌, true, false, Bool, List, [], ◌∷◌, refl, sym, ap, ◌∙◌}
 use Rattle.std.proofs.Common.{Result, Ok, Err, OnOk, OnErr, nat_le, nat_lt, cond, arith, inl, inr, IsPermutation, subst}
 use Rattle.std.specs.Prelude.{Some, None}
 use Rattle.std.specs.BTreeMap.{insert_entry, is_at}
@@ -17,7 +17,7 @@ use Rattle.std.proofs.lemmas.Map.{lookup-none}
 use Rattle.std.proofs.lemmas.Map.Entries.{none_below_head}
 use Rattle.std.proofs.lemmas.Map.Keys.{sorted_tail}
 use Rattle.std.proofs.lemmas.Map.Steps.{set_value_same}
-use Rattle.undo_map.specs.Ends.{HavePlaces, KeepsPlaces, PlacesStay, has_place, has_place_by, with_newer}
+use Rattle.undo_map.specs.Ends.{HavePlaces, HavePlacesBy, KeepsPlacesBy, has_place, has_place_by, with_newer}
 use Rattle.undo_map.specs.Steps.{before_all}
 use Rattle.undo_map.specs.declared.step.Step.{Step}
 use Rattle.undo_map.proofs.StepLemmas.{before_all-append}
@@ -175,30 +175,53 @@ module _ {K V : Type 0} where
   all-insert R total P key v (e ∷ es) own all =
       all-insert_first R total P key v e es own all (all-insert R total P key v es own all.1) (R key e.0) refl
 
-  pub places-kept : PlacesStay K V
+  pub places-kept :
+      (R : K → K → Ordering) (end : K × V → ℕ) (old new : List (ℕ × K)) (es : List (K × V)) → KeepsPlacesBy R old new
+      → HavePlacesBy R end old es → HavePlacesBy R end new es
   places-kept R end old new es kept all =
       all-weaker (λ e. has_place_by R old e.0 (end e) ≡ true) (λ e. has_place_by R new e.0 (end e) ≡ true) es
-      (λ e some. kept (λ place. is_eq (R place.1 e.0) && nat_le place.0 (end e)) some) all
+      (λ e some. kept e.0 (end e) some) all
 
   pub places-set :
       (R : K → K → Ordering) (end : V → ℕ) (old new : List (ℕ × K)) (key : K) (was v : V) (es : List (K × V))
-      → lookup (is_at (R key)) es ≡ Some was → KeepsPlaces old new
+      → lookup (is_at (R key)) es ≡ Some was → KeepsPlacesBy R old new
       → ((k : K) → is_eq (R key k) ≡ true → has_place R end old (k, was) ≡ true → has_place R end new (k, v) ≡ true)
       → HavePlaces R end old es → HavePlaces R end new (set_value (is_at (R key)) es v)
   places-set R end old new key was v es found kept own all =
       all-set (is_at (R key)) (λ e. has_place R end old e ≡ true) (λ e. has_place R end new e ≡ true) was v es found
-      (λ e some. kept (λ place. is_eq (R place.1 e.0) && nat_le place.0 (end e.1)) some) own all
+      (λ e some. kept e.0 (end e.1) some) own all
 
   pub places-insert :
       (R : K → K → Ordering) → IsTotalOrder R → (end : V → ℕ) (old new : List (ℕ × K)) (key : K) (v : V) (es : List (K × V))
-      → KeepsPlaces old new → ((k : K) → is_eq (R key k) ≡ true → has_place R end new (k, v) ≡ true)
+      → KeepsPlacesBy R old new → ((k : K) → is_eq (R key k) ≡ true → has_place R end new (k, v) ≡ true)
       → HavePlaces R end old es → HavePlaces R end new (insert_entry R es key v)
   places-insert R total end old new key v es kept own all =
       all-insert R total (λ e. has_place R end new e ≡ true) key v es own
       (places-kept R (λ e. end e.1) old new es kept all)
 
   pub places-moved :
-      (R : K → K → Ordering) (end : V → ℕ) (old new : List (ℕ × K)) (es : List (K × V)) → IsPermutation old new
-      → HavePlaces R end old es → HavePlaces R end new es
+      (R : K → K → Ordering) (end : K × V → ℕ) (old new : List (ℕ × K)) (es : List (K × V)) → IsPermutation old new
+      → HavePlacesBy R end old es → HavePlacesBy R end new es
   places-moved R end old new es moves all =
-      places-kept R (λ e. end e.1) old new es (λ test some. sym (list_any-IsPermutation test old new moves) ∙ some) all
+      places-kept R end old new es
+      (λ key by some. sym (list_any-IsPermutation (λ (place : ℕ × K). is_eq (R place.1 key) && nat_le place.0 by) old new moves) ∙ some)
+      all
+
+  -- how many entries there are where a value is written under a key that has none
+  length-insert_first :
+      (R : K → K → Ordering) (key : K) (v : V) (e : K × V) (es : List (K × V)) → lookup (is_at (R key)) (e ∷ es) ≡ None
+      → (lookup (is_at (R key)) es ≡ None → length (insert_entry R es key v) ≡ length es + 1)
+      → (o : Ordering) → R key e.0 ≡ o → length (insert_entry R (e ∷ es) key v) ≡ length (e ∷ es) + 1
+  length-insert_first R key v e es absent rest Less below = rw below (omega arith)
+  length-insert_first R key v e es absent rest Equal same = let some : Some e.1 ≡ None = rw same at absent in absurd (cc)
+  length-insert_first R key v e es absent rest Greater above =
+      let later : lookup (is_at (R key)) es ≡ None = rw above at absent in
+      let more = rest later in
+      rw above (omega (arith, more))
+
+  pub length-insert :
+      (R : K → K → Ordering) (key : K) (v : V) (es : List (K × V)) → lookup (is_at (R key)) es ≡ None
+      → length (insert_entry R es key v) ≡ length es + 1
+  length-insert R key v [] absent = refl
+  length-insert R key v (e ∷ es) absent =
+      length-insert_first R key v e es absent (length-insert R key v es) (R key e.0) refl

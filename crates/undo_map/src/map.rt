@@ -5,7 +5,7 @@ ghost use Rattle.std.specs.List.Sorted.{IsStrictlySortedBy};
 ghost use Rattle.std.specs.Map.{keys_of, lookup, remove_entry};
 ghost use Rattle.std.specs.Map.Iter.{ShowsInOrder, deref_pair};
 ghost use Rattle.std.specs.Option.{option_copied};
-ghost use Rattle.undo_map.specs.Ends.{HaveMarkedPlaces, with_newer};
+ghost use Rattle.undo_map.specs.Ends.{IsQueueOfEnds, with_newer};
 ghost use Rattle.undo_map.specs.Marked.{with_all};
 
 use crate::duplicate::Duplicate;
@@ -172,8 +172,8 @@ impl<K: Duplicate, V: Lasting> UndoMap<K, V> {
         ensures mark { self.new.mark ≡ self.old.mark }
         ensures err { OnErr result (self.new ≡ self.old) }
         ensures ordered { IsStrictlySortedBy K.cmp (keys_of self.new.entries) }
-        ensures placed { HaveMarkedPlaces K.cmp V.end ends.old.places self.old
-            → HaveMarkedPlaces K.cmp V.end ends.new.places self.new }
+        ensures placed { IsQueueOfEnds K.cmp V.end ends.old self.old
+            → IsQueueOfEnds K.cmp V.end ends.new self.new }
     {
         if self.is_marked {
             return put_step(
@@ -186,6 +186,8 @@ impl<K: Duplicate, V: Lasting> UndoMap<K, V> {
             );
         }
         let mut steps = Vec::new(self.alloc);
-        put_step(self.alloc, &mut self.entries, &mut steps, ends, key, value)
+        let put = put_step(self.alloc, &mut self.entries, &mut steps, ends, key, value);
+        ends.settle();
+        put
     }
 }
