@@ -3,7 +3,7 @@ use Rattle.std.proofs.Common.{ℕ, ◌+◌, ◌-◌, ◌*◌, ◌<◌, Bool, Lis
 use Rattle.std.specs.List.{All, range_with_len}
 use Rattle.std.proofs.lemmas.List.Elements.{All-nil, All-cons, All-head, All-tail, All-append}
 use Rattle.bit_fields.specs.Bits.{AreBytes}
-use Rattle.bit_fields.proofs.BitsBack.{bit_below}
+use Rattle.bit_fields.specs.BitsBack.{bit_below}
 use Rattle.radar_core.specs.declared.key.BlockKey.{BlockKey}
 use Rattle.radar_core.specs.declared.run.Run.{Run}
 use Rattle.radar_core.specs.Keys.{front_bytes}

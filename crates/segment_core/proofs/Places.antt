@@ -7,14 +7,14 @@ use Rattle.std.specs.Map.{remove_entry}
 use Rattle.std.specs.Ordering.{is_eq}
 use Rattle.std.proofs.lemmas.Bool.{and_parts, cases_Bool, cond-true, leb-true, le-leb}
 use Rattle.std.proofs.lemmas.Bool.Decides.{eqb_tells}
-use Rattle.list_members.proofs.Ranges.{all_in}
+use Rattle.list_members.specs.Ranges.{all_in}
 use Rattle.undo_map.specs.Ends.{HasAdded, HasLeft, KeepsPlaces, PlacesStay, has_place_by}
 use Rattle.undo_map.specs.Marked.{Marked}
 use Rattle.uplink_frame.specs.Laws.{StationsAreTold}
 use Rattle.segment_core.specs.Arrival.{other_numbers}
 use Rattle.segment_core.specs.Ends.{MarkedPiecesHavePlaces, PiecesHavePlaces, stale_from}
 use Rattle.segment_core.specs.HeldPieces.{held_with, is_held, is_number_of, others_held}
-use Rattle.segment_core.specs.Kept.{KeptPieces, fields_of, kept_under, same_piece, with_number}
+use Rattle.segment_core.specs.Kept.{KeptPieces, seg_of_name, kept_under, same_piece, with_number}
 use Rattle.segment_core.specs.Store.{is_in_life, live_pieces, longest_of}
 use Rattle.segment_core.specs.contracts.piece_name.PieceNameOrd.TheImpl as order
 use Rattle.segment_core.specs.declared.piece_name.PieceName.{PieceName}
@@ -96,10 +96,10 @@ module _ (told : StationsAreTold) where
             subst P (sym same) (elim (eqb_tells q.number name.number) [
               | inl this ↦ subst P (sym (ap (with_number name) this.1)) own
               | inr other ↦
-                  let there = others-in (fields_of name) q.number (leb-true 1 q.number parts.1) (leb-true q.number name.count both.1)
+                  let there = others-in (seg_of_name name) q.number (leb-true 1 q.number parts.1) (leb-true q.number name.count both.1)
                   other.1 in
                   before (with_number name q.number)
-                  (all_in (is_held pieces name) q.number (other_numbers (fields_of name)) all there)
+                  (all_in (is_held pieces name) q.number (other_numbers (seg_of_name name)) all there)
             ])
         | inr not ↦ before q (let was = rw (new, all, not) at some in was)
       ]

@@ -39,10 +39,6 @@ pub on-err-both : {A B : Type 0} (P Q : Type 0) (r : Result A B) → OnErr r P �
 on-err-both P Q (Ok x) p q = tt
 on-err-both P Q (Err e) p q = (p, q)
 
-pub map-ok : {A B : Type 0} (P Q : Type 0) (r : Result A B) → (P → Q) → OnOk r P → OnOk r Q
-map-ok P Q (Ok x) f p = f p
-map-ok P Q (Err e) f p = tt
-
 pub map-err : {A B : Type 0} (P Q : Type 0) (r : Result A B) → (P → Q) → OnErr r P → OnErr r Q
 map-err P Q (Ok x) f p = tt
 map-err P Q (Err e) f p = f p

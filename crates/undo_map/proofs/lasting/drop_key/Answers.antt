@@ -3,7 +3,7 @@ use Rattle.std.proofs.Common.{◌∷◌, ◌∙◌, ◌<◌, ◌≤◌, sym, ari
 use Rattle.std.specs.BTreeMap.{is_at}
 use Rattle.std.specs.Map.{lookup}
 use Rattle.std.proofs.lemmas.List.Sorted.{length_permutation}
-use Rattle.list_members.proofs.Tests.{none_mapped}
+use Rattle.list_members.specs.Tests.{none_mapped}
 use Rattle.undo_map.proofs.OverLemmas.{absent-kept, absent-placed, end-found, length-removed, live-kept, live-placed, over-dropped, over-placed}
 use Rattle.undo_map.proofs.PlaceLemmas.{left-behind}
 use Rattle.undo_map.proofs.lasting.drop_key.Goals as goal
