@@ -29,4 +29,5 @@ changes block (suc more) = do
 unfoldable pub frame_with_changes : List (ℕ × ℕ) → List ℕ → List ℕ
 frame_with_changes [] frame = frame
 frame_with_changes (change ∷ more) frame =
-    frame_with_changes more (slice_set frame change.0 (bit_xor (slice_index frame change.0) change.1))
+    frame_with_changes more
+    (slice_set frame change.0 (bit_xor (slice_index frame change.0) change.1))
