@@ -11,7 +11,7 @@ use Rattle.list_members.proofs.Ranges.{all_in}
 use Rattle.undo_map.specs.Ends.{HasAdded, HasLeft, KeepsPlaces, has_place_by}
 use Rattle.uplink_frame.specs.Laws.{StationsAreTold}
 use Rattle.segment_core.specs.Arrival.{other_numbers}
-use Rattle.segment_core.specs.Ends.{PiecesHavePlaces, stale_from}
+use Rattle.segment_core.specs.Ends.{PiecesHavePlaces}
 use Rattle.segment_core.specs.HeldPieces.{held_with, is_held, is_number_of, others_held}
 use Rattle.segment_core.specs.Kept.{IsNumbered, KeptPieces, fields_of, kept_under, same_piece, with_number}
 use Rattle.segment_core.specs.Store.{is_in_life, live_pieces, longest_of}
