@@ -1,12 +1,12 @@
 -- Queues of places, and the entries that have a place.
 use Rattle.std.proofs.Common.{◌≡◌, ℕ, ◌+◌, length, ◌≤◌, ◌&&◌, ◌++◌, true, false, Bool, List, [], ◌∷◌, refl, sym, ap, ◌∙◌}
 use Rattle.std.proofs.Common.{Result, Ok, Err, OnOk, OnErr, nat_le, nat_lt, cond, arith, inl, inr, IsPermutation, subst}
-use Rattle.std.specs.Prelude.{Some, None}
+use Rattle.std.specs.Prelude.{Option, Some, None, is_some}
 use Rattle.std.specs.BTreeMap.{insert_entry, is_at}
 use Rattle.std.specs.Cmp.{IsTotalOrder}
 use Rattle.std.specs.List.{AllByRecursion, list_any}
 use Rattle.std.specs.List.Sorted.{IsStrictlySortedBy}
-use Rattle.std.specs.Map.{keys_of, lookup, set_value}
+use Rattle.std.specs.Map.{keys_of, lookup, remove_entry, set_value}
 use Rattle.std.specs.Ordering.{is_eq}
 use Rattle.std.specs.declared.cmp.Ordering.{Ordering}
 use Rattle.std.specs.declared.cmp.Ordering.TheVariants.{Less, Equal, Greater}
@@ -18,9 +18,14 @@ use Rattle.std.proofs.lemmas.Map.Entries.{none_below_head}
 use Rattle.std.proofs.lemmas.Map.Keys.{sorted_tail}
 use Rattle.std.proofs.lemmas.Map.Steps.{set_value_same}
 use Rattle.undo_map.specs.Ends.{HavePlaces, HavePlacesBy, KeepsPlacesBy, has_place, has_place_by, with_newer}
+use Rattle.undo_map.specs.Marked.{with_all}
 use Rattle.undo_map.specs.Steps.{before_all}
 use Rattle.undo_map.specs.declared.step.Step.{Step}
 use Rattle.undo_map.proofs.StepLemmas.{before_all-append}
+
+none-is : {X : Type 0} (o : Option X) → is_some o ≡ false → o ≡ None
+none-is None yet = refl
+none-is (Some x) yet = absurd (cc)
 
 -- what holds after success and after failure holds
 pub either : {A B P Q Z : Type 0} (r : Result A B) → OnOk r P → OnErr r Q → (P → Z) → (Q → Z) → Z
@@ -221,3 +226,73 @@ module _ {K V : Type 0} where
   length-insert R key v [] absent = refl
   length-insert R key v (e ∷ es) absent =
       length-insert_first R key v e es absent (length-insert R key v es) (R key e.0) refl
+
+  -- a write keeps the entries that are there, and makes one more where a key has a value only then
+  insert-longer_first :
+      (R : K → K → Ordering) (key : K) (v : V) (e : K × V) (es : List (K × V)) → length es ≤ length (insert_entry R es key v)
+      → (o : Ordering) → R key e.0 ≡ o → length (e ∷ es) ≤ length (insert_entry R (e ∷ es) key v)
+  insert-longer_first R key v e es rest Less below = rw below (omega arith)
+  insert-longer_first R key v e es rest Equal same = rw same (omega arith)
+  insert-longer_first R key v e es rest Greater above = rw above (omega (arith, rest))
+
+  insert-longer : (R : K → K → Ordering) (key : K) (v : V) (es : List (K × V)) → length es ≤ length (insert_entry R es key v)
+  insert-longer R key v [] = omega arith
+  insert-longer R key v (e ∷ es) = insert-longer_first R key v e es (insert-longer R key v es) (R key e.0) refl
+
+  insert-more_first :
+      (R : K → K → Ordering) (key k : K) (v : V) (e : K × V) (es : List (K × V)) → lookup (is_at (R key)) (e ∷ es) ≡ None
+      → is_some (lookup (is_at (R key)) (insert_entry R (e ∷ es) k v)) ≡ true
+      → (lookup (is_at (R key)) es ≡ None → is_some (lookup (is_at (R key)) (insert_entry R es k v)) ≡ true
+      → length es + 1 ≤ length (insert_entry R es k v))
+      → (b : Bool) → is_eq (R key e.0) ≡ b → (o : Ordering) → R k e.0 ≡ o
+      → length (e ∷ es) + 1 ≤ length (insert_entry R (e ∷ es) k v)
+  insert-more_first R key k v e es absent some rest true here o at =
+      let found : Some e.1 ≡ None = rw here at absent in absurd (cc)
+  insert-more_first R key k v e es absent some rest false other Less below = rw below (omega arith)
+  insert-more_first R key k v e es absent some rest false other Equal same =
+      let none : lookup (is_at (R key)) es ≡ None = rw other at absent in
+      let is : is_some (lookup (is_at (R key)) es) ≡ true = rw (same, other) at some in
+      let never : false ≡ true = rw none at is in
+      absurd (cc)
+  insert-more_first R key k v e es absent some rest false other Greater above =
+      let none : lookup (is_at (R key)) es ≡ None = rw other at absent in
+      let is : is_some (lookup (is_at (R key)) (insert_entry R es k v)) ≡ true = rw (above, other) at some in
+      let more = rest none is in
+      rw above (omega (arith, more))
+
+  insert-more :
+      (R : K → K → Ordering) (key k : K) (v : V) (es : List (K × V)) → lookup (is_at (R key)) es ≡ None
+      → is_some (lookup (is_at (R key)) (insert_entry R es k v)) ≡ true → length es + 1 ≤ length (insert_entry R es k v)
+  insert-more R key k v [] absent some = omega arith
+  insert-more R key k v (e ∷ es) absent some =
+      insert-more_first R key k v e es absent some (insert-more R key k v es) (is_eq (R key e.0)) refl (R k e.0) refl
+
+  all-longer : (R : K → K → Ordering) (pairs es : List (K × V)) → length es ≤ length (with_all R es pairs)
+  all-longer R [] es = omega arith
+  all-longer R (p ∷ pairs) es =
+      let one = insert-longer R p.0 p.1 es in
+      let rest = all-longer R pairs (insert_entry R es p.0 p.1) in
+      omega (arith, one, rest)
+
+  pub all-more :
+      (R : K → K → Ordering) (key : K) (pairs es : List (K × V)) → lookup (is_at (R key)) es ≡ None
+      → is_some (lookup (is_at (R key)) (with_all R es pairs)) ≡ true → length es + 1 ≤ length (with_all R es pairs)
+  all-more R key [] es absent some = let never : false ≡ true = rw absent at some in absurd (cc)
+  all-more R key (p ∷ pairs) es absent some = elim (cases_Bool (is_some (lookup (is_at (R key)) (insert_entry R es p.0 p.1)))) [
+    | inl now ↦
+        let one = insert-more R key p.0 p.1 es absent now in
+        let rest = all-longer R pairs (insert_entry R es p.0 p.1) in
+        omega (arith, one, rest)
+    | inr yet ↦
+        let one = insert-longer R p.0 p.1 es in
+        let rest = all-more R key pairs (insert_entry R es p.0 p.1)
+        (none-is (lookup (is_at (R key)) (insert_entry R es p.0 p.1)) yet) some in
+        omega (arith, one, rest)
+  ]
+
+  pub removed-fewer : (test : K → Bool) (es : List (K × V)) → length es ≤ length (remove_entry test es) + 1
+  removed-fewer test [] = omega arith
+  removed-fewer test (e ∷ es) = elim (cases_Bool (test e.0)) [
+    | inl passes ↦ rw passes (omega arith)
+    | inr fails ↦ let rest = removed-fewer test es in rw fails (omega (arith, rest))
+  ]

@@ -237,11 +237,6 @@ pub end-found :
     {V : Type 0} (end : V → ℕ) (o : Option V) (at : ℕ) → option_map end o ≡ Some at → (v : V) × (o ≡ Some v) × (end v ≡ at)
 end-found end None at found = cc
 end-found end (Some v) at found = (v, refl, cc)
-<<<<<<< HEAD
-
-pub end-absent : {V : Type 0} (end : V → ℕ) (o : Option V) → option_map end o ≡ None → o ≡ None
-end-absent end None absent = refl
-end-absent end (Some v) absent = cc
 
 -- how many entries are left where one is removed
 pub length-removed :
@@ -255,5 +250,3 @@ length-removed test (e ∷ es) v found = elim (cases_Bool (test e.0)) [
       let left = length-removed test es v later in
       rw fails (omega (arith, left))
 ]
-=======
->>>>>>> a169c7ac5008242d745e553a697627eed5bb3b3f

@@ -85,14 +85,12 @@ module _ {K V : Type 0} where
     pub placed : HavePlacesBy cmp end places entries
     pub few : length places ≤ length entries
 
-  -- so it is now, and at the mark without the places that were added since; without a mark none is
-  -- added
+  -- so it is now, and at the mark without the places that were added since
   pub record IsQueueOf (cmp : K → K → Ordering) (end : K × V → ℕ) (queue : Queue K)
       (marked : Marked K V) : Type 0 where
     pub now : IsQueueAt cmp end (all_places queue) marked.entries
     pub before : (mark : List (K × V)) → marked.mark ≡ Some mark
         → IsQueueAt cmp end queue.places mark
-    pub unmarked : marked.mark ≡ None → queue.added ≡ []
 
   -- the same where the value alone has an end
   abbrev pub HavePlaces : (K → K → Ordering) → (V → ℕ) → List (ℕ × K) → List (K × V) → Type 0
@@ -114,20 +112,35 @@ NoneIsOver K V = (cmp : K → K → Ordering) (end : K × V → ℕ) (now : ℕ)
     → All (λ place. now < place.0) places → HavePlacesBy cmp end places entries
     → filter (λ entry. nat_lt now (end entry)) entries ≡ entries
 
--- what is a queue of entries before a mark is set, is undone or is settled is one after it
+-- what is a queue of entries stays one where a mark is set, is undone or is let go, and where a
+-- place is added for an entry that is written; and it is one of the entries alone, once all is
+-- settled
 pub record QueuesStay (K V : Type 0) : Type 0 where
-  pub marked : (cmp : K → K → Ordering) (end : K × V → ℕ) (queue : Queue K) (old new : Marked K V)
-      → old.mark ≡ None → new ≡ record old { mark = Some old.entries }
-      → IsQueueOf cmp end queue old → IsQueueOf cmp end queue new
+  pub marked : (cmp : K → K → Ordering) (end : K × V → ℕ) (before after : Queue K)
+      (old new : Marked K V)
+      → IsPermutation (all_places before) after.places → after.added ≡ []
+      → new ≡ record old { mark = Some old.entries } → IsQueueOf cmp end before old
+      → IsQueueOf cmp end after new
   pub undone : (cmp : K → K → Ordering) (end : K × V → ℕ) (before after : Queue K)
       (old new : Marked K V)
       → after.places ≡ before.places → after.added ≡ [] → old.mark ≡ Some new.entries
       → new.mark ≡ None → IsQueueOf cmp end before old → IsQueueOf cmp end after new
-  pub settled : (cmp : K → K → Ordering) (end : K × V → ℕ) (before after : Queue K)
+  pub settled : (cmp : K → K → Ordering) (end : K × V → ℕ) (queue : Queue K) (old new : Marked K V)
+      → new ≡ record old { mark = None } → IsQueueOf cmp end queue old → IsQueueOf cmp end queue new
+  pub written : (cmp : K → K → Ordering) (end : K × V → ℕ) (before after : Queue K)
       (old new : Marked K V)
-      → IsPermutation (all_places before) after.places → after.added ≡ []
-      → new ≡ record old { mark = None } → IsQueueOf cmp end before old
-      → IsQueueOf cmp end after new
+      → after.places ≡ before.places
+      → (HavePlacesBy cmp end (all_places before) old.entries
+      → HavePlacesBy cmp end (all_places after) new.entries)
+      → place_count after + length old.entries ≤ place_count before + length new.entries
+      → new.mark ≡ old.mark → IsQueueOf cmp end before old → IsQueueOf cmp end after new
+  pub alone : (cmp : K → K → Ordering) (end : K × V → ℕ) (before after : Queue K)
+      (marked : Marked K V)
+      → IsPermutation (all_places before) after.places → IsQueueOf cmp end before marked
+      → IsQueueAt cmp end after.places marked.entries
+  pub unmarked : (cmp : K → K → Ordering) (end : K × V → ℕ) (queue : Queue K) (marked : Marked K V)
+      → queue.added ≡ [] → marked.mark ≡ None → IsQueueAt cmp end queue.places marked.entries
+      → IsQueueOf cmp end queue marked
 
 -- where a place of a key was taken out, the entries that are left without the key have places yet
 abbrev pub OthersHavePlaces : (K V : Type 0) → (K → K → Ordering) → Type 0

@@ -170,7 +170,7 @@ impl<K: Drop> EndQueue<K> {
         Some((end, key))
     }
 
-    /// Lets the mark go and keeps the places.
+    /// Keeps the places that were added, and sets the mark at all of them.
     pub fn settle(&mut self)
         ensures places { IsPermutation (all_places self.old) self.new.places }
         ensures added { self.new.added ≡ [] }

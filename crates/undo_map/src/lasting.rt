@@ -300,6 +300,8 @@ impl<K: Duplicate, V: Lasting> LastingMap<K, V> {
             ≡ filter (λ e. nat_lt now (V.end e.1)) self.old.entries }
         ensures mark { self.new.mark ≡ None }
     {
+        queues_stay::<K, V>();
+        self.ends.settle();
         drop_over(&mut self.map, &mut self.ends, now);
     }
 
@@ -309,6 +311,7 @@ impl<K: Duplicate, V: Lasting> LastingMap<K, V> {
         ensures { self.new ≡ record self.old { mark = Some self.old.entries } }
     {
         queues_stay::<K, V>();
+        self.ends.settle();
         self.map.mark();
     }
 
@@ -330,6 +333,5 @@ impl<K: Duplicate, V: Lasting> LastingMap<K, V> {
     {
         queues_stay::<K, V>();
         self.map.settle();
-        self.ends.settle();
     }
 }
