@@ -12,7 +12,7 @@ use Rattle.segment_core.specs.Store.{last_above}
 use Rattle.picture_core.specs.Views.{entry_view, shown_value}
 use Rattle.picture_core.specs.declared.entry.Entry.{Entry as ShownEntry}
 use Rattle.ground_core.specs.History.{fill}
-use Rattle.ground_core.specs.Airing.{Frame, frame_after, frame_payload}
+use Rattle.ground_core.specs.Airing.{Frame, frame_with_changes, frame_payload}
 use Rattle.ground_core.specs.OnAir.{IsOnAir, history_clock}
 use Rattle.ground_core.specs.declared.air_frame.AirFrame.{AirFrame}
 use Rattle.receiver_core.specs.Reception.{Reception, received_picture}
@@ -24,7 +24,7 @@ use Rattle.script_core.specs.Script.{Line, turn, hear, show}
 use Rattle.refusal_core.specs.declared.reason.Reason.{Reason}
 use Rattle.refusal_core.specs.declared.reason.Reason.TheVariants.{Clock, Frames}
 use Rattle.workload.specs.declared.step.Step.TheVariants as steps
-use Rattle.workload.specs.Hearings.{frame_after as changed_frame}
+use Rattle.workload.specs.Hearings.{frame_with_changes as changed_frame}
 use Rattle.fisb_app.specs.declared.making.Making.{Making}
 use Rattle.fisb_app.specs.declared.counts.Counts.{Counts}
 use Rattle.fisb_app.specs.Past.{events, station_after, sent_frames, receptions, latest, air_of, air_heard, reception_from, reception_by, received_frame}
@@ -78,7 +78,7 @@ room-turn count acted moment last room is =
 
 pub turn-made : StationsAreTold → {G E : Type 0} (sends : Sends G) (hears : Hears E) (table : LifeTable) (acted : List Line) (moment slot : ℕ) (old : Making G E) (ground : G) (frame : AirFrame)
     → Makes sends hears table acted old → sends table (station_after acted) (fill moment slot ∷ events acted) ground
-    → IsOnAir (frame_after table (station_after acted) (events acted) moment slot) frame
+    → IsOnAir (frame_with_changes table (station_after acted) (events acted) moment slot) frame
     → Makes sends hears table (turn moment slot ∷ acted) (record old {
       ground = ground;
       last = Some (record { moment = frame.moment; air = frame.air });
@@ -86,7 +86,7 @@ pub turn-made : StationsAreTold → {G E : Type 0} (sends : Sends G) (hears : He
       clock = Some moment;
     })
 turn-made told sends hears table acted moment slot old ground frame h s on =
-    let sent = frame_after table (station_after acted) (events acted) moment slot in
+    let sent = frame_with_changes table (station_after acted) (events acted) moment slot in
     let more = frames-more told table acted moment slot in record {
       ground = s;
       ear = h.ear;

@@ -18,7 +18,7 @@ use Rattle.run_core.specs.declared.status.Status.TheVariants.{WriteFault, TooLon
 use Rattle.run_core.specs.Run.{SinkEnd, AppendsFront}
 use Rattle.workload.specs.declared.step.Step.{Step}
 use Rattle.workload.specs.declared.step.Step.TheVariants as steps
-use Rattle.workload.specs.Hearings.{frame_after as changed_frame}
+use Rattle.workload.specs.Hearings.{frame_with_changes as changed_frame}
 use Rattle.workload.specs.Workload.{workload}
 use Rattle.fisb_app.specs.declared.party.Party.TheVariants.{Link}
 use Rattle.fisb_app.specs.declared.counts.Counts.{Counts}
