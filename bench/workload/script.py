@@ -22,6 +22,7 @@ START = 1_700_000_040
 MULTIPLIER = 6_364_136_223_846_793_005
 INCREMENT = 1_442_695_040_888_963_407
 BLOCK = "63 0 n"  # product, scale, and north
+PROGRAM = os.environ.get("FISB", os.path.join(os.path.dirname(os.path.abspath(__file__)), "..", "..", "fisb"))
 
 
 class Draws:
@@ -95,14 +96,13 @@ def ground_lines(minutes, seed):
 
 def frames(minutes, seed):
     """The bytes of each frame on the air, from the program."""
-    program = os.environ.get("FISB", os.path.join(os.path.dirname(__file__), "..", "..", "fisb"))
     script = "".join(line + "\n" for line in ground_lines(minutes, seed))
-    run = subprocess.run([program, "ground"], input=script, capture_output=True, text=True)
+    run = subprocess.run([PROGRAM, "ground"], input=script, capture_output=True, text=True)
     sent = [line.split(" ") for line in run.stdout.splitlines()]
     if run.returncode != 0 or any(fields[0] != "sent" for fields in sent):
-        sys.exit(f"{program} ground ended with {run.returncode}: {run.stdout[-200:]}{run.stderr[-200:]}")
+        sys.exit(f"{PROGRAM} ground ended with {run.returncode}: {run.stdout[-200:]}{run.stderr[-200:]}")
     if [int(fields[1]) for fields in sent] != list(range(60 * minutes)):
-        sys.exit(f"{program} ground sent {len(sent)} frames, which are not numbered from 0 to {60 * minutes - 1}")
+        sys.exit(f"{PROGRAM} ground sent {len(sent)} frames, which are not numbered from 0 to {60 * minutes - 1}")
     return [bytes.fromhex(fields[6]) for fields in sent]
 
 

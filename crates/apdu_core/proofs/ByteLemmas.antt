@@ -6,7 +6,7 @@ use Rattle.std.proofs.lemmas.List.{take_more}
 use Rattle.std.proofs.lemmas.List.Elements.{All-nil, All-cons, All-tail}
 use Rattle.std.specs.Int.{byte_at, bytes_high_first}
 use Rattle.bit_fields.specs.Bits.{number_of}
-use Rattle.bit_fields.proofs.BytesAsNumbers.{IsByte, eight_more, number_of-cons, number_of-append, number_of-fits}
+use Rattle.bit_fields.specs.BytesAsNumbers.{IsByte, eight_more, number_of-cons, number_of-append, number_of-fits}
 use Rattle.apdu_core.specs.Spelling.{AreBytes}
 
 pow256 : (n : ℕ) → 256 ^ n ≡ 2 ^ (8 * n)

@@ -5,7 +5,7 @@ use Rattle.std.proofs.lemmas.Nat.{pow-add, mod-pow-add, mod_below, mul-add-lt, s
 use Rattle.std.specs.Int.{bytes_high_first}
 use Rattle.bit_fields.specs.Bits.{Field, as_number, number_of, field_at}
 use Rattle.apdu_core.specs.Spelling.{AreBytes}
-use Rattle.bit_fields.proofs.BytesAsNumbers.{number_of-fits}
+use Rattle.bit_fields.specs.BytesAsNumbers.{number_of-fits}
 use Rattle.apdu_core.proofs.ByteLemmas.{bytes_from_number, number_of-bytes}
 
 abbrev pub total_width : List Field → ℕ

@@ -1,1 +1,4 @@
 pub mod Bits
+pub mod BitsBack
+pub mod BytesAsNumbers
+pub mod Xors

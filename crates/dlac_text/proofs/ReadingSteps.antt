@@ -9,10 +9,6 @@ use Rattle.dlac_text.proofs.Cuts.{behind, first_three}
 use Rattle.dlac_text.proofs.Joining.{from_nothing, from_end_code, from_tab, from_character}
 
 -- what follows from what holds of an answer
-pub on_ok : {T E : Type 0} (r : Result T E) (P Q : Type 0) → (P → Q) → OnOk r P → OnOk r Q
-on_ok (Ok x) P Q f h = f h
-on_ok (Err e) P Q f h = tt
-
 pub if_ok : {T E : Type 0} (r : Result T E) (P Q : Type 0) → (P → Q) → IfOk r (λ _. P) → OnOk r Q
 if_ok (Ok x) P Q f h = f h
 if_ok (Err e) P Q f h = tt

@@ -5,8 +5,8 @@ use Rattle.std.proofs.lemmas.Bool.{cases_Bool}
 use Rattle.std.proofs.lemmas.Bool.Decides.{nat_tests}
 use Rattle.std.proofs.lemmas.List.{get_or-set_other, length-set}
 use Rattle.std.proofs.lemmas.Simd.{pick_l_whole}
-use Rattle.list_members.proofs.Ranges.{map_same}
-use Rattle.workload.specs.Hearings.{frame_after as changed_frame}
+use Rattle.list_members.specs.Ranges.{map_same}
+use Rattle.workload.specs.Hearings.{frame_with_changes as changed_frame}
 use Rattle.fisb_app.specs.Past.{byte_heard, air_heard}
 use Rattle.fisb_app.specs.Make.{wrong_bytes}
 

@@ -7,7 +7,7 @@ use Rattle.std.proofs.lemmas.List.{get_or-set_same, get_or-set_other}
 use Rattle.std.proofs.lemmas.List.FromFn.{get_or-range_with_len, length-range_with_len}
 use Rattle.std.proofs.lemmas.List.Sums.{AllPass-from_list_all}
 use Rattle.std.proofs.lemmas.Simd.{pick_l_whole}
-use Rattle.list_members.proofs.Ranges.{map_same}
+use Rattle.list_members.specs.Ranges.{map_same}
 use Rattle.rs_code.specs.CodeWord.{are_near}
 use Rattle.uplink_weave.specs.Woven.{block, block_roots}
 use Rattle.fisb_app.specs.Past.{byte_heard, air_heard}

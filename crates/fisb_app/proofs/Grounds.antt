@@ -8,7 +8,7 @@ use Rattle.std.specs.declared.cmp.Ordering.TheVariants.{Less, Equal, Greater}
 use Rattle.std.specs.BTreeMap.{BTreeMap, is_at, get}
 use Rattle.std.proofs.lemmas.Bool.{cases_Bool}
 use Rattle.std.proofs.lemmas.Bool.Decides.{nat_tests}
-use Rattle.list_members.proofs.Tests.{tied_numbers}
+use Rattle.list_members.specs.Tests.{tied_numbers}
 use Rattle.uplink_frame.specs.declared.station.StationId.{StationId}
 use Rattle.uplink_frame.specs.contracts.station.StationIdOrd.TheImpl as station_order
 use Rattle.uplink_frame.specs.Station.{no_station, same_flag, same_station}

@@ -6,8 +6,8 @@ use Rattle.std.proofs.lemmas.Bool.{cases_Bool, and_parts}
 use Rattle.std.proofs.lemmas.Bool.Decides.{nat_tests}
 use Rattle.std.proofs.lemmas.List.{get_or_past}
 use Rattle.list_members.specs.Membership.{IsIn}
-use Rattle.list_members.proofs.ListMembers.{got_in}
-use Rattle.list_members.proofs.Tests.{none_mapped}
+use Rattle.list_members.specs.ListMembers.{got_in}
+use Rattle.list_members.specs.Tests.{none_mapped}
 use Rattle.uplink_frame.specs.declared.station.StationId.{StationId}
 use Rattle.uplink_frame.specs.Station.{FitsStation}
 use Rattle.uplink_weave.specs.Laws.{NearFrameGivesPayload}

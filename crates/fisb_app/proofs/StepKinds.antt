@@ -6,7 +6,7 @@ use Rattle.std.proofs.lemmas.List.{length-map}
 use Rattle.uplink_weave.specs.Functions.{part, woven, payload_in, counts_in}
 use Rattle.rs_code.specs.Functions.{encoded}
 use Rattle.std.proofs.lemmas.List.FromFn.{length-map-range_with_len}
-use Rattle.list_members.proofs.Tests.{or_none}
+use Rattle.list_members.specs.Tests.{or_none}
 use Rattle.ground_core.specs.Sent.{HistoriesGrow}
 use Rattle.life_table.specs.LifeTable.{LifeTable}
 use Rattle.segment_core.specs.Store.{last_above}
@@ -25,7 +25,7 @@ use Rattle.script_core.specs.Script.{Line, turn, hear, show}
 use Rattle.refusal_core.specs.declared.reason.Reason.{Reason}
 use Rattle.refusal_core.specs.declared.reason.Reason.TheVariants.{Clock, Frames}
 use Rattle.workload.specs.declared.step.Step.TheVariants as steps
-use Rattle.workload.specs.Hearings.{frame_after as changed_frame}
+use Rattle.workload.specs.Hearings.{frame_with_changes as changed_frame}
 use Rattle.fisb_app.specs.declared.making.Making.{Making}
 use Rattle.fisb_app.specs.declared.counts.Counts.{Counts}
 use Rattle.fisb_app.specs.Past.{at_station, broadcast, events, station_after, receiver_clock, sent_frames, receptions, air_of, air_heard, reception_from, reception_by, received_frame}

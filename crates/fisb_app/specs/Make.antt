@@ -1,5 +1,6 @@
 -- What `make` writes: a summary of the lines of its workload that `link` acts on.
-use Rattle.std.specs.Prelude.{◌≡◌, ℕ, ◌+◌, ◌-◌, false, List, [], ◌∷◌, length, map, fold, codes}
+use Rattle.std.specs.Prelude.{◌≡◌, ◌≢◌, ℕ, ◌+◌, ◌-◌, ◌<◌, false, List, [], ◌∷◌, ◌++◌, length}
+use Rattle.std.specs.Prelude.{map, fold, codes}
 use Rattle.std.specs.Prelude.{Option, Some, None, decimal, slice_get, slice_index}
 use Rattle.std.specs.Io.KnownBytes.{Appends}
 use Rattle.fisb_wire.specs.Faults.{Rose}
@@ -17,7 +18,7 @@ use Rattle.run_core.specs.declared.status.Status.TheVariants.{WriteFault, TooLon
 use Rattle.run_core.specs.Run.{SinkEnd, AppendsFront}
 use Rattle.workload.specs.declared.step.Step.{Step}
 use Rattle.workload.specs.declared.step.Step.TheVariants as steps
-use Rattle.workload.specs.Hearings.{frame_after as changed_frame}
+use Rattle.workload.specs.Hearings.{frame_with_changes as changed_frame}
 use Rattle.workload.specs.Workload.{workload}
 use Rattle.fisb_app.specs.declared.party.Party.TheVariants.{Link}
 use Rattle.fisb_app.specs.declared.counts.Counts.{Counts}
@@ -142,3 +143,10 @@ HasMade count seed old new WriteFault = Rose old.writes new.writes
     × AppendsFront old.written new.written (summary count seed)
 HasMade count seed old new TooLong = ⊥
 HasMade count seed old new NoMemory = (new.written ≡ old.written) × (new.writes ≡ old.writes)
+
+-- Where the sink tells what it holds and surely takes more bytes than these and the summary, no
+-- write failed: the summary was written, or memory was not found.
+abbrev pub IsMadeWhole : ℕ → ℕ → Option ℕ → SinkEnd → Status → Type 0
+IsMadeWhole count seed reach old status = (before : List ℕ) (room : ℕ)
+    → old.written ≡ Some before → reach ≡ Some room → length (before ++ summary count seed) < room
+    → status ≢ WriteFault

@@ -3,7 +3,7 @@ ghost use Rattle.std.specs.Prelude.{◌≡◌, ◌≤◌, ◌-◌, None, [], IfO
 ghost use Rattle.life_table.specs.LifeTable.{default_table};
 ghost use Rattle.run_core.specs.Run.{sink_end};
 ghost use Rattle.workload.specs.Workload.{workload};
-ghost use Rattle.fisb_app.specs.Make.{HasMade, after_steps, counts_of, summary_text};
+ghost use Rattle.fisb_app.specs.Make.{HasMade, IsMadeWhole, after_steps, counts_of, summary_text};
 
 use crate::counts::Counts;
 use crate::ear::Ear;
@@ -22,6 +22,8 @@ pub fn run_make<K: Sink>(alloc: Global, count: u32, seed: u64, sink: &mut K) -> 
     requires count { (1 ≤ count) × (count ≤ 1000) }
     ensures made { HasMade count seed (sink_end (K.written sink.old) (K.faults sink.old))
         (sink_end (K.written sink.new) (K.faults sink.new)) result }
+    ensures complete { IsMadeWhole count seed (K.reach sink.old)
+        (sink_end (K.written sink.old) (K.faults sink.old)) result }
     ensures sink_faults { K.faults sink.old ≤ K.faults sink.new }
     ensures spare { K.spare sink.new ≡ None }
     ensures reach { K.reach sink.new ≡ K.reach sink.old }
@@ -36,6 +38,8 @@ pub fn run_make_over<K: Sink, E: Ear>(alloc: Global, count: u32, seed: u64, sink
     requires count { (1 ≤ count) × (count ≤ 1000) }
     ensures made { HasMade count seed (sink_end (K.written sink.old) (K.faults sink.old))
         (sink_end (K.written sink.new) (K.faults sink.new)) result }
+    ensures complete { IsMadeWhole count seed (K.reach sink.old)
+        (sink_end (K.written sink.old) (K.faults sink.old)) result }
     ensures sink_faults { K.faults sink.old ≤ K.faults sink.new }
     ensures spare { K.spare sink.new ≡ None }
     ensures reach { K.reach sink.new ≡ K.reach sink.old }

@@ -4,7 +4,7 @@ ghost use Rattle.fisb_wire.specs.Faults.{Rose};
 ghost use Rattle.run_core.specs.Run.{HasRun, IsComplete, IsDecided, ends, sink_end, task_of};
 ghost use Rattle.fisb_app.specs.Command.{command_named};
 ghost use Rattle.fisb_app.specs.declared.command.Command.{Command};
-ghost use Rattle.fisb_app.specs.Make.{HasMade};
+ghost use Rattle.fisb_app.specs.Make.{HasMade, IsMadeWhole};
 ghost use Rattle.fisb_app.specs.Origin.{IsOrigin, Origin};
 ghost use Rattle.fisb_app.specs.Work.{gdl_work, ground_work, link_work, origin_work, promised_work, receive_work};
 
@@ -125,6 +125,10 @@ pub fn run<S: Source, K: Sink>(
         → (source.new ≡ source.old) × HasMade count seed
         (sink_end (K.written sink.old) (K.faults sink.old))
         (sink_end (K.written sink.new) (K.faults sink.new)) result }
+    ensures make_complete { (count seed : ℕ)
+        → command_named (map string_bytes words.now) ≡ Some (Command.Make count seed)
+        → IsMadeWhole count seed (K.reach sink.old)
+        (sink_end (K.written sink.old) (K.faults sink.old)) result }
 
     // What the counts of faults of source and sink tell.
     ensures read_fault { result ≡ Status.ReadFault

@@ -6,8 +6,8 @@ use Rattle.std.proofs.lemmas.Bool.{cases_Bool, and_parts, and_from, not-true, no
 use Rattle.std.proofs.lemmas.Option.{same_Some}
 use Rattle.life_table.specs.LifeTable.{LifeTable}
 use Rattle.list_members.specs.Membership.{IsIn}
-use Rattle.list_members.proofs.Members.{IsIn-filter, IsIn-from_filter}
-use Rattle.list_members.proofs.ListMembers.{in_flat_map, flat_map_has}
+use Rattle.list_members.specs.Members.{IsIn-filter, IsIn-from_filter}
+use Rattle.list_members.specs.ListMembers.{in_flat_map, flat_map_has}
 use Rattle.picture_core.specs.Key.{Key}
 use Rattle.picture_core.specs.Entry.{Entry}
 use Rattle.picture_core.specs.Picture.{shown_at}

@@ -8,8 +8,8 @@ use Rattle.std.proofs.lemmas.List.Concat.{flat_map-append}
 use Rattle.life_table.specs.LifeTable.{LifeTable}
 use Rattle.uplink_frame.specs.declared.station.StationId.{StationId}
 use Rattle.list_members.specs.Membership.{IsIn}
-use Rattle.list_members.proofs.Members.{IsIn-either, IsIn-from_filter}
-use Rattle.list_members.proofs.ListMembers.{in_map, in_flat_map, flat_map_has}
+use Rattle.list_members.specs.Members.{IsIn-either, IsIn-from_filter}
+use Rattle.list_members.specs.ListMembers.{in_map, in_flat_map, flat_map_has}
 use Rattle.picture_core.specs.Entry.{Entry}
 use Rattle.segment_core.specs.File.{File, is_segmented, pieces, segments_needed, segment_limit, parts_of}
 use Rattle.segment_core.specs.Arrival.{Arrival, Whole, whole_payloads, completed_after}

@@ -11,8 +11,8 @@ use Rattle.uplink_frame.specs.declared.header.UplinkHeader.{UplinkHeader}
 use Rattle.uplink_frame.specs.Station.{station_of}
 use Rattle.uplink_frame.specs.UplinkFrame.{InformationFrame, fisb_frame}
 use Rattle.list_members.specs.Membership.{IsIn}
-use Rattle.list_members.proofs.Members.{IsIn-before, IsIn-after, IsIn-either, IsIn-filter, IsIn-from_filter}
-use Rattle.list_members.proofs.ListMembers.{got_in}
+use Rattle.list_members.specs.Members.{IsIn-before, IsIn-after, IsIn-either, IsIn-filter, IsIn-from_filter}
+use Rattle.list_members.specs.ListMembers.{got_in}
 use Rattle.segment_core.specs.Arrival.{Arrival}
 use Rattle.segment_core.specs.Joining.{arrival_of}
 use Rattle.segment_core.specs.Joining as joining

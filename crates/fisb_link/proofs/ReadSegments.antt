@@ -60,8 +60,8 @@ product-fits product read = elim (or_cases _ _ read) [
 ]
 
 -- the fields of a segment
-abbrev fields_of : Item → ℕ → Seg
-fields_of item number = record {
+abbrev seg_of_item : Item → ℕ → Seg
+seg_of_item item number = record {
   file = (file_of item).number;
   count = length (parts_of (file_of item));
   number = number;
@@ -74,7 +74,7 @@ segmentation-fits : (table : LifeTable) (all : List Item) (item : Item) (number 
 segmentation-fits table all item number are item_in least most =
     let few = (are.sound item item_in).few_segments in
     let cut = files.is_segmented item.weather.form item.weather.payload in
-    let fields = fields_of item number in
+    let fields = seg_of_item item number in
     elim (cases_Bool cut) [
       | inl t ↦
           let numbered = are.numbered item item_in t in
@@ -172,7 +172,7 @@ arrival-read table all sent frame s received setting aired range after soon =
     ∙ ap (arrival_with_row station received apdu) listed.has_row
     ∙ cond-false (is_large apdu.segmentation) (Err Files)
     (arrival_with_version station received apdu life (named w.form apdu.time received))
-    (not-large cut (fields_of s.item s.number) sound.few_segments)
+    (not-large cut (seg_of_item s.item s.number) sound.few_segments)
     ∙ ap (arrival_with_version station received apdu life)
     (named-segment layers table all frame received s setting.is_table are aired range after
     soon) in

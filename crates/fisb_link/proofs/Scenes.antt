@@ -14,7 +14,7 @@ use Rattle.life_table.specs.LifeTable.{default_table}
 use Rattle.text_reports.specs.TextKey.{text_key}
 use Rattle.uplink_frame.specs.declared.station.StationId.{StationId}
 use Rattle.uplink_frame.specs.Station.{FitsStation, no_station}
-use Rattle.list_members.proofs.ListMembers.{All-members}
+use Rattle.list_members.specs.ListMembers.{All-members}
 use Rattle.picture_core.specs.Key.{text_report}
 use Rattle.picture_core.specs.Entry.{Entry, report}
 use Rattle.picture_core.specs.Picture.{picture}
@@ -30,7 +30,7 @@ use Rattle.ground_core.specs.Refusal.{give_refusal}
 use Rattle.ground_core.specs.Broadcast.{StationEvent, IsBroadcast, frames}
 use Rattle.fisb_link.specs.LinkPicture.{Hearing, link_entries, link_picture}
 use Rattle.fisb_link.specs.Hearing.{AreHeard}
-use Rattle.list_members.proofs.Ranges.{all_in}
+use Rattle.list_members.specs.Ranges.{all_in}
 
 abbrev other_station : StationId
 other_station = record { lat = 7; lon = 9; position_valid = true; site = 3 }
@@ -149,40 +149,40 @@ tie-heard_again = refl
 
 -- a newer version of one station is shown over the older one of the other, also where it is heard
 -- first
-abbrev superseded : List StationEvent
-superseded = send other_station 1700000123 1 ∷ tell other_station 1700000120 1700000100 gale
+abbrev superseding_broadcast : List StationEvent
+superseding_broadcast = send other_station 1700000123 1 ∷ tell other_station 1700000120 1700000100 gale
     ∷ send no_station 1700000002 0 ∷ tell no_station 1700000000 1699999980 calm ∷ []
 
-pub superseded-first_first : link_picture default_table superseded
+pub superseded-first_first : link_picture default_table superseding_broadcast
     (at 1 1700000125 ∷ at 0 1700000124 ∷ []) 1700000126
     ≡ entry 1700000100 gale ∷ []
 unfolding default_table text_payload text_key
 superseded-first_first = refl
 
-pub superseded-second_first : link_picture default_table superseded
+pub superseded-second_first : link_picture default_table superseding_broadcast
     (at 0 1700000125 ∷ at 1 1700000124 ∷ []) 1700000126
     ≡ entry 1700000100 gale ∷ []
 unfolding default_table text_payload text_key
 superseded-second_first = refl
 
 -- until the newer one is heard, the older one is shown
-pub superseded-unheard : link_picture default_table superseded (at 0 1700000124 ∷ []) 1700000126
+pub superseded-unheard : link_picture default_table superseding_broadcast (at 0 1700000124 ∷ []) 1700000126
     ≡ entry 1699999980 calm ∷ []
 unfolding default_table text_payload text_key
 superseded-unheard = refl
 
 -- each is shown for no longer than it lives
-pub last_second : link_picture default_table superseded (at 0 1700000124 ∷ []) 1700007179
+pub last_second : link_picture default_table superseding_broadcast (at 0 1700000124 ∷ []) 1700007179
     ≡ entry 1699999980 calm ∷ []
 unfolding default_table text_payload text_key
 last_second = refl
 
-pub ended : link_picture default_table superseded (at 0 1700000124 ∷ []) 1700007180 ≡ []
+pub ended : link_picture default_table superseding_broadcast (at 0 1700000124 ∷ []) 1700007180 ≡ []
 unfolding default_table text_payload text_key
 ended = refl
 
 -- where the older one has ended the newer one goes on
-pub newer_lasts : link_picture default_table superseded
+pub newer_lasts : link_picture default_table superseding_broadcast
     (at 1 1700000125 ∷ at 0 1700000124 ∷ []) 1700007180 ≡ entry 1700000100 gale ∷ []
 unfolding default_table text_payload text_key
 newer_lasts = refl
@@ -209,8 +209,8 @@ old = in_two 0 1699999980 calm
 abbrev newer : Item
 newer = in_two 1 1700000100 gale
 
-abbrev carrying : Item → ℕ → Frame
-carrying item number = record {
+abbrev frame_with : Item → ℕ → Frame
+frame_with item number = record {
   station = no_station;
   moment = 1700000120;
   slot = 0;
@@ -219,7 +219,7 @@ carrying item number = record {
 
 -- frames with both segments of the old version, and with those of the newer one
 abbrev of_segments : List Frame
-of_segments = carrying old 1 ∷ carrying old 2 ∷ carrying newer 1 ∷ carrying newer 2 ∷ []
+of_segments = frame_with old 1 ∷ frame_with old 2 ∷ frame_with newer 1 ∷ frame_with newer 2 ∷ []
 
 abbrev shown_by : List Hearing → List Entry
 shown_by heard = picture (link_entries (old ∷ newer ∷ []) of_segments heard) 1700000130

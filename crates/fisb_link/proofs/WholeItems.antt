@@ -6,7 +6,7 @@ use Rattle.life_table.specs.LifeTable.{LifeTable}
 use Rattle.uplink_frame.specs.Station.{same_station}
 use Rattle.uplink_frame.specs.Laws.{StationsAreTold}
 use Rattle.list_members.specs.Membership.{IsIn}
-use Rattle.list_members.proofs.ListMembers.{in_map, map_has, any_in, in_any}
+use Rattle.list_members.specs.ListMembers.{in_map, map_has, any_in, in_any}
 use Rattle.picture_core.specs.Key.{same_key}
 use Rattle.picture_core.specs.Entry.{Entry}
 use Rattle.picture_core.specs.Contents.{payload_entries}
@@ -19,7 +19,7 @@ use Rattle.ground_core.specs.Airing.{Frame, has_key}
 use Rattle.fisb_link.specs.LinkPicture.{Hearing, heard_segments, was_heard, is_whole}
 use Rattle.fisb_link.specs.Hearing.{IsAfterHearings, AreHeard}
 use Rattle.fisb_link.proofs.Layers.{Layers, AreAll, Setting}
-use Rattle.list_members.proofs.Ranges.{all_in, in_all}
+use Rattle.list_members.specs.Ranges.{all_in, in_all}
 use Rattle.fisb_link.proofs.ReadSegments.{joint, own-item, number-within, segments-has}
 use Rattle.fisb_link.proofs.HeardSegments.{fresh, files_heard, fresh-heard, aired-heard, heard-fresh}
 

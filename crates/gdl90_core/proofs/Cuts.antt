@@ -5,7 +5,7 @@ use Rattle.std.proofs.Common.{◌≡◌, ◌≢◌, ℕ, Bool, true, false, List
 use Rattle.std.proofs.Math.Path.{ap₂}
 use Rattle.std.proofs.lemmas.Bool.{ne_eqb}
 use Rattle.std.proofs.lemmas.List.{append-nil, append_assoc}
-use Rattle.list_members.proofs.Tests.{or_none}
+use Rattle.list_members.specs.Tests.{or_none}
 use Rattle.gdl90_core.specs.Stream.{before_flag, behind_flag, if_not_empty, pieces_of}
 use Rattle.gdl90_core.specs.Laws.{PiecesGoOn}
 

@@ -11,7 +11,7 @@ use Rattle.std.proofs.lemmas.List.Elements.{All-head, All-tail}
 use Rattle.bit_fields.specs.Bits.{number_of, AreBytes}
 use Rattle.gdl90_core.specs.CheckSequence.{multiple, IsRest, with_bit, with_byte, remainder}
 use Rattle.gdl90_core.specs.Laws.{OneRemainder}
-use Rattle.bit_fields.proofs.Xors.{xor-shuffle, xor-equal, xor-swap, xor-same_right, xor-shift, xor-low}
+use Rattle.bit_fields.specs.Xors.{xor-shuffle, xor-equal, xor-swap, xor-same_right, xor-shift, xor-low}
 
 pub multiple-xor : (a b : ℕ) → multiple (bit_xor a b) ≡ bit_xor (multiple a) (multiple b)
 multiple-xor a b =

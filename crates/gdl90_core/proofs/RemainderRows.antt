@@ -9,7 +9,7 @@ use Rattle.std.proofs.lemmas.List.Elements.{All-cons, All-nil}
 use Rattle.bit_fields.specs.Bits.{number_of, AreBytes}
 use Rattle.gdl90_core.specs.declared.remainders.TheConstants.{REMAINDERS}
 use Rattle.gdl90_core.specs.CheckSequence.{multiple, IsRest, with_byte, remainder}
-use Rattle.bit_fields.proofs.Xors.{xor-low}
+use Rattle.bit_fields.specs.Xors.{xor-low}
 use Rattle.gdl90_core.proofs.LongDivision.{rest_unique, rest_byte, rest_itself, remainder_is_rest}
 
 -- the row at each place, from `place` on, is the remainder of the place and two bytes 0

@@ -4,7 +4,7 @@ use Rattle.std.proofs.Math.Nat.{zero-mul, one-mul, mul-zero, mod-mod, mod-eq_of_
 use Rattle.std.proofs.Math.Pow.{pow_mono, mod-mod-pow}
 use Rattle.std.specs.Int.Bits.{bit_xor, xor_zero_r, xor_mod, xor_block, xor_assoc, xor_self}
 use Rattle.std.proofs.lemmas.Nat.{xor_lt, field_of, pow_pos, mod_below}
-use Rattle.bit_fields.proofs.Xors.{xor-shuffle}
+use Rattle.bit_fields.specs.Xors.{xor-shuffle}
 use Rattle.gf256_core.specs.Field.{plain_product, remainder, product, IsRemainder}
 use Rattle.gf256_core.proofs.Sums.{xor_double, bit_cases, times_bit_xor}
 use Rattle.gf256_core.proofs.Remainders.{pow_twice, pow_eight, remainder-xor, remainder-small, remainder-multiple, remainder-fits, remainder-zero, step, step-is, remainder-suc, step-below}

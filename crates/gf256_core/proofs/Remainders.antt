@@ -6,7 +6,7 @@ use Rattle.std.specs.Int.Bits.{bit_xor, xor_zero_r, xor_self, xor_shr, xor_mod, 
 use Rattle.std.proofs.lemmas.Nat.{xor_lt, pow-add, pow_pos, div-mul-add, shl_below}
 use Rattle.std.proofs.lemmas.Bool.{cases_eq, cases_lt}
 use Rattle.std.proofs.Math.Pow.{pow_mono}
-use Rattle.bit_fields.proofs.Xors.{xor-shuffle}
+use Rattle.bit_fields.specs.Xors.{xor-shuffle}
 use Rattle.gf256_core.specs.Field.{remainder}
 use Rattle.gf256_core.proofs.Sums.{bit_times_xor}
 

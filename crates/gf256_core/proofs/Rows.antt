@@ -4,7 +4,7 @@ use Rattle.std.proofs.Common.{◌≡◌, ℕ, zero, suc, ◌+◌, ◌-◌, ◌%�
 use Rattle.std.proofs.lemmas.Bool.{cases_eq, cases_lt}
 use Rattle.std.specs.Int.Bits.{bit_xor, xor_zero_r, xor_self, xor_assoc}
 use Rattle.std.proofs.lemmas.Nat.{xor_lt}
-use Rattle.bit_fields.proofs.Xors.{xor-cancel, xor-equal}
+use Rattle.bit_fields.specs.Xors.{xor-cancel, xor-equal}
 use Rattle.gf256_core.specs.Field.{product}
 use Rattle.gf256_core.specs.Tables.{AreTables}
 use Rattle.gf256_core.proofs.Products.{HasDegreeEight, times_x, times_x-xor, times_x-zero, times_x-fits, product-two, product-one_left, product-times_x}

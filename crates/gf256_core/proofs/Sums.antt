@@ -1,7 +1,7 @@
 -- Sums of polynomials over two elements, beside doubling and bits.
 use Rattle.std.proofs.Common.{◌≡◌, ℕ, ◌*◌, ◌%◌, ◌^◌, arith, inl, inr, ◌⊎◌}
 use Rattle.std.specs.Int.Bits.{bit_xor, xor_zero_r, xor_self}
-use Rattle.bit_fields.proofs.Xors.{xor-shift}
+use Rattle.bit_fields.specs.Xors.{xor-shift}
 
 pub xor_double : (a b : ℕ) → bit_xor (2 * a) (2 * b) ≡ 2 * bit_xor a b
 xor_double a b =

@@ -6,8 +6,8 @@ use Rattle.life_table.specs.LifeTable.{LifeTable}
 use Rattle.life_table.specs.Rules.{IsTable}
 use Rattle.uplink_frame.specs.declared.station.StationId.{StationId}
 use Rattle.list_members.specs.Membership.{IsIn}
-use Rattle.list_members.proofs.Members.{IsIn-before, IsIn-after, IsIn-either, IsIn-from_filter}
-use Rattle.list_members.proofs.ListMembers.{in_map, in_flat_map}
+use Rattle.list_members.specs.Members.{IsIn-before, IsIn-after, IsIn-either, IsIn-from_filter}
+use Rattle.list_members.specs.ListMembers.{in_map, in_flat_map}
 use Rattle.uplink_frame.specs.UplinkFrame.{frame_room}
 use Rattle.ground_core.specs.Item.{Weather, Item, Segment, segments_of, room_of, end_of}
 use Rattle.ground_core.specs.Update.{weather_of}

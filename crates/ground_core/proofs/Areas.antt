@@ -6,9 +6,9 @@ use Rattle.std.proofs.lemmas.Bool.{cases_Bool, or_from}
 use Rattle.std.proofs.lemmas.List.{map-append}
 use Rattle.std.proofs.lemmas.List.Folds.{list_any-append}
 use Rattle.list_members.specs.Membership.{IsIn}
-use Rattle.list_members.proofs.Members.{IsIn-either}
+use Rattle.list_members.specs.Members.{IsIn-either}
 use Rattle.std.proofs.Math.Seq.{drop-cons}
-use Rattle.list_members.proofs.ListMembers.{in_one, map_has}
+use Rattle.list_members.specs.ListMembers.{in_one, map_has}
 use Rattle.radar_core.specs.declared.key.BlockKey.{BlockKey}
 use Rattle.radar_core.specs.Keys.{block_key_cmp}
 use Rattle.picture_core.specs.Key.{Key, radar_block, text_report, same_key}

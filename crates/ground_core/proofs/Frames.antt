@@ -12,8 +12,8 @@ use Rattle.uplink_frame.specs.Laws as uplink
 use Rattle.segment_core.specs.Cutting.{PartsFitFrames}
 use Rattle.segment_core.specs.File.{apdu_of_segment}
 use Rattle.list_members.specs.Membership.{IsIn}
-use Rattle.list_members.proofs.Members.{IsIn-before, IsIn-either}
-use Rattle.list_members.proofs.ListMembers.{in_map, in_one, All-members}
+use Rattle.list_members.specs.Members.{IsIn-before, IsIn-either}
+use Rattle.list_members.specs.ListMembers.{in_map, in_one, All-members}
 use Rattle.uplink_frame.specs.UplinkFrame.{frame_room}
 use Rattle.ground_core.specs.Item.{Item, Segment, segments_of, file_of, room_of, body_of}
 use Rattle.ground_core.specs.History.{Event, accepted, fill, new_items, items}

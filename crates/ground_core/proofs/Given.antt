@@ -15,8 +15,8 @@ use Rattle.life_table.specs.LifeTable.{LifeTable, TextRow, text_row, longest, gr
 use Rattle.life_table.specs.Rules.{IsTable}
 use Rattle.text_reports.specs.TextKey.{TextKey, KeyFault, few_words, text_key}
 use Rattle.list_members.specs.Membership.{IsIn}
-use Rattle.list_members.proofs.Members.{IsIn-filter}
-use Rattle.list_members.proofs.ListMembers.{map_has, in_one}
+use Rattle.list_members.specs.Members.{IsIn-filter}
+use Rattle.list_members.specs.ListMembers.{map_has, in_one}
 use Rattle.segment_core.specs.Cutting.{TextsHaveFewParts, longest_text_payload}
 use Rattle.picture_core.specs.Key.{Key, text_report, same_key}
 use Rattle.picture_core.specs.Entry.{Entry, report}

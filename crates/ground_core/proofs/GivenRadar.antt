@@ -22,10 +22,10 @@ use Rattle.radar_core.specs.Groups.{blank_groups}
 use Rattle.radar_core.specs.Radar.{Block, radar_blocks, blank_blocks}
 use Rattle.radar_core.specs.Laws.{RunRecordsReadBack, BlankRecordsReadBack, GroupsAreRecords, IsOneRecord}
 use Rattle.list_members.specs.Membership.{IsIn}
-use Rattle.list_members.proofs.Members.{IsIn-before, IsIn-after, IsIn-either}
-use Rattle.list_members.proofs.ListMembers.{in_map, map_has, in_one, any_in, All-members}
-use Rattle.list_members.proofs.Ranges.{all_in}
-use Rattle.list_members.proofs.Finding.{find-passes}
+use Rattle.list_members.specs.Members.{IsIn-before, IsIn-after, IsIn-either}
+use Rattle.list_members.specs.ListMembers.{in_map, map_has, in_one, any_in, All-members}
+use Rattle.list_members.specs.Ranges.{all_in}
+use Rattle.list_members.specs.Finding.{find-passes}
 use Rattle.segment_core.specs.Cutting.{TextsHaveFewParts}
 use Rattle.picture_core.specs.Key.{Key, radar_block, same_key}
 use Rattle.picture_core.specs.Entry.{Entry}

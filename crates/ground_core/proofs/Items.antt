@@ -7,8 +7,8 @@ use Rattle.std.proofs.lemmas.List.{length-append}
 use Rattle.life_table.specs.LifeTable.{LifeTable, longest}
 use Rattle.uplink_frame.specs.declared.station.StationId.{StationId}
 use Rattle.list_members.specs.Membership.{IsIn}
-use Rattle.list_members.proofs.Members.{IsIn-filter, IsIn-either}
-use Rattle.list_members.proofs.ListMembers.{in_any, any_in, in_one}
+use Rattle.list_members.specs.Members.{IsIn-filter, IsIn-either}
+use Rattle.list_members.specs.ListMembers.{in_any, any_in, in_one}
 use Rattle.picture_core.specs.Key.{Key, same_key}
 use Rattle.picture_core.specs.Entry.{Entry}
 use Rattle.apdu_core.specs.Apdu.{file_numbers}

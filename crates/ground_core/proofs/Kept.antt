@@ -3,10 +3,10 @@ use Rattle.std.proofs.Common.{◌≡◌, ℕ, ◌≤◌, Bool, true, false, ◌&
 use Rattle.std.proofs.Math.Path.{fun_ext}
 use Rattle.std.proofs.lemmas.Bool.{cases_Bool, le-ltb, ltb-false}
 use Rattle.picture_core.specs.Key.{Key}
-use Rattle.list_members.proofs.Ranges.{list_any_same}
-use Rattle.ground_core.specs.Piece.{Piece, Latest, HasEnded, IsLastOrEnded, while_living, lives_as, live_by}
+use Rattle.list_members.specs.Ranges.{list_any_same}
+use Rattle.ground_core.specs.Piece.{Piece, Latest, HasPassed, IsLastOrEnded, while_living, lives_as, live_by}
 
-ended_later : (clock moment : ℕ) (latest : Option Latest) → clock ≤ moment → HasEnded clock latest → HasEnded moment latest
+ended_later : (clock moment : ℕ) (latest : Option Latest) → clock ≤ moment → HasPassed clock latest → HasPassed moment latest
 ended_later clock moment None le h = tt
 ended_later clock moment (Some latest) le h = omega (arith, h)
 
@@ -33,7 +33,7 @@ pub kept_where : (b : Bool) (moment : ℕ) (last : Option Latest) → IsLastOrEn
 kept_where true moment last = kept_living moment last
 kept_where false moment last = inl refl
 
-dead_where_ended : (moment serial : ℕ) (last : Option Latest) → HasEnded moment last → lives_as moment serial last ≡ false
+dead_where_ended : (moment serial : ℕ) (last : Option Latest) → HasPassed moment last → lives_as moment serial last ≡ false
 dead_where_ended moment serial None h = refl
 dead_where_ended moment serial (Some latest) h = ap (λ b. b && (latest.serial == serial)) (le-ltb moment latest.until h)
 

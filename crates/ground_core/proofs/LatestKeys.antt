@@ -5,7 +5,7 @@ use Rattle.std.specs.BTreeMap.{is_at}
 use Rattle.std.proofs.Math.Bool.{and-true, and-false}
 use Rattle.std.proofs.lemmas.Bool.{cases_Bool}
 use Rattle.std.proofs.lemmas.Bool.Decides.{nat_tests}
-use Rattle.list_members.proofs.Tests.{tied_numbers}
+use Rattle.list_members.specs.Tests.{tied_numbers}
 use Rattle.text_reports.specs.TextKey.{TextKey, same_text_key}
 use Rattle.picture_core.specs.Key.{Key, radar_block, text_report}
 use Rattle.radar_core.specs.declared.key.BlockKey.{BlockKey}

@@ -7,7 +7,7 @@ use Rattle.std.specs.BTreeMap.{BTreeMap, is_at, get, IsLowerBound}
 use Rattle.std.specs.Map.{lookup}
 use Rattle.std.proofs.lemmas.Bool.{cases_Bool, lt-ltb, le-ltb, leb-true, leb-false}
 use Rattle.std.proofs.lemmas.Bool.Decides.{nat_tests}
-use Rattle.list_members.proofs.Tests.{tied_numbers}
+use Rattle.list_members.specs.Tests.{tied_numbers}
 use Rattle.ground_core.specs.Views.{count_at}
 use Rattle.ground_core.specs.declared.files.Files.{Files}
 

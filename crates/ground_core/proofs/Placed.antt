@@ -5,8 +5,8 @@ use Rattle.std.proofs.lemmas.Bool.{cases_Bool}
 use Rattle.std.proofs.lemmas.List.{append_assoc}
 use Rattle.std.proofs.lemmas.Bool.Decides.{nat_tests}
 use Rattle.list_members.specs.Membership.{IsIn}
-use Rattle.list_members.proofs.Members.{IsIn-before, IsIn-after}
-use Rattle.list_members.proofs.ListMembers.{any_in, in_any}
+use Rattle.list_members.specs.Members.{IsIn-before, IsIn-after}
+use Rattle.list_members.specs.ListMembers.{any_in, in_any}
 use Rattle.picture_core.specs.Key.{Key, same_key}
 use Rattle.ground_core.specs.Piece.{Piece, Latest, ArePlaced, IsLastOrEnded, while_living, lives_as, live_by}
 use Rattle.ground_core.specs.Putting.{IsPut, is_among, latest_of_sent, latest_put, pieces_at}

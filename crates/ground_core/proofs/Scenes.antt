@@ -82,33 +82,33 @@ of_two_keys = weather 1699999980
 abbrev newer_at : List ℕ → Weather
 newer_at place = weather 1700000040 (entry_at place 1700000040 ∷ [])
 
-abbrev given : List Weather → List Item
-given ws = items_made default_table no_station 1700000050 [] ws
+abbrev items_given : List Weather → List Item
+items_given ws = items_made default_table no_station 1700000050 [] ws
 
 abbrev item_of_two : Item
 item_of_two = item_of default_table no_station 1700000050 [] of_two_keys
 
-pub one-superseded : is_live (given (of_two_keys ∷ newer_at (codes "KAAA") ∷ [])) 1700000060
+pub one-superseded : is_live (items_given (of_two_keys ∷ newer_at (codes "KAAA") ∷ [])) 1700000060
     item_of_two ≡ true
 unfolding free_number default_table
 one-superseded = refl
 
-pub other-superseded : is_live (given (of_two_keys ∷ newer_at (codes "KBBB") ∷ [])) 1700000060
+pub other-superseded : is_live (items_given (of_two_keys ∷ newer_at (codes "KBBB") ∷ [])) 1700000060
     item_of_two ≡ true
 unfolding free_number default_table
 other-superseded = refl
 
 pub both-superseded :
-    is_live (given (of_two_keys ∷ newer_at (codes "KAAA") ∷ newer_at (codes "KBBB") ∷ []))
+    is_live (items_given (of_two_keys ∷ newer_at (codes "KAAA") ∷ newer_at (codes "KBBB") ∷ []))
     1700000060 item_of_two ≡ false
 unfolding free_number default_table
 both-superseded = refl
 
 -- and it lives until the last second before its end
-pub last-second : is_live (given (of_two_keys ∷ [])) 1700007179 item_of_two ≡ true
+pub last-second : is_live (items_given (of_two_keys ∷ [])) 1700007179 item_of_two ≡ true
 unfolding free_number default_table
 last-second = refl
 
-pub at-its_end : is_live (given (of_two_keys ∷ [])) 1700007180 item_of_two ≡ false
+pub at-its_end : is_live (items_given (of_two_keys ∷ [])) 1700007180 item_of_two ≡ false
 unfolding free_number default_table
 at-its_end = refl

@@ -2,8 +2,8 @@
 use Rattle.std.proofs.Common.{◌≡◌, ℕ, ◌+◌, Bool, true, false, cond, length, Some, None, is_some, refl, sym, ap, subst, ◌∙◌, arith}
 use Rattle.apdu_core.specs.Apdu.{Apdu, apdu_bytes, header_length}
 use Rattle.list_members.specs.Membership.{IsIn}
-use Rattle.list_members.proofs.ListMembers.{in_map, map_has}
-use Rattle.list_members.proofs.Ranges.{in_range, range_has}
+use Rattle.list_members.specs.ListMembers.{in_map, map_has}
+use Rattle.list_members.specs.Ranges.{in_range, range_has}
 use Rattle.segment_core.specs.File.{File, is_segmented, numbers_of, parts_of, part_of, segmentation_of, apdu_of_segment}
 use Rattle.ground_core.specs.Item.{Item, Segment, body_of, file_of, room_of, segment_of, segments_of}
 use Rattle.ground_core.specs.Sent.{IsSegmentOf, SegmentsAreOfItems}

@@ -4,7 +4,7 @@ use Rattle.std.specs.List.{range_with_len}
 use Rattle.std.proofs.lemmas.Bool.{true≢false}
 use Rattle.std.proofs.lemmas.List.{map-append, append_assoc}
 use Rattle.std.proofs.lemmas.List.Elements.{filter-append}
-use Rattle.list_members.proofs.Ranges.{map_same, list_any_same}
+use Rattle.list_members.specs.Ranges.{map_same, list_any_same}
 use Rattle.fisb_time.specs.declared.form.TimeForm.{TimeForm}
 use Rattle.life_table.specs.LifeTable.{LifeTable, greatest_life}
 use Rattle.uplink_frame.specs.declared.station.StationId.{StationId}

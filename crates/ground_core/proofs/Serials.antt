@@ -6,14 +6,14 @@ use Rattle.std.proofs.lemmas.Bool.{cases_Bool, lt-ltb}
 use Rattle.std.proofs.lemmas.Bool.Decides.{nat_tests}
 use Rattle.std.proofs.lemmas.List.{map-append}
 use Rattle.list_members.specs.Membership.{IsIn}
-use Rattle.list_members.proofs.Members.{IsIn-before, IsIn-after}
-use Rattle.list_members.proofs.ListMembers.{in_flat_map, in_any}
+use Rattle.list_members.specs.Members.{IsIn-before, IsIn-after}
+use Rattle.list_members.specs.ListMembers.{in_flat_map, in_any}
 use Rattle.life_table.specs.LifeTable.{LifeTable}
 use Rattle.uplink_frame.specs.declared.station.StationId.{StationId}
 use Rattle.picture_core.specs.Key.{Key, same_key}
 use Rattle.picture_core.specs.Entry.{Entry}
 use Rattle.uplink_frame.specs.UplinkFrame.{frame_room}
-use Rattle.list_members.proofs.Ranges.{list_any_same}
+use Rattle.list_members.specs.Ranges.{list_any_same}
 use Rattle.ground_core.specs.Item.{Weather, Item, Segment, segments_of, end_of, room_of}
 use Rattle.ground_core.specs.History.{Event, accepted, fill, items, new_items, items_made, item_of}
 use Rattle.ground_core.specs.Update.{Update, weather_of}

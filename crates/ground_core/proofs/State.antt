@@ -3,8 +3,8 @@ use Rattle.std.proofs.Common.{◌≡◌, ℕ, ◌+◌, ◌<◌, ◌≤◌, true,
 use Rattle.std.proofs.Math.Path.{fun_ext}
 use Rattle.std.proofs.lemmas.Bool.{cases_Bool, lt-ltb, ltb-true, ltb-false}
 use Rattle.list_members.specs.Membership.{IsIn}
-use Rattle.list_members.proofs.Members.{IsIn-before, IsIn-after, IsIn-either}
-use Rattle.list_members.proofs.ListMembers.{in_map}
+use Rattle.list_members.specs.Members.{IsIn-before, IsIn-after, IsIn-either}
+use Rattle.list_members.specs.ListMembers.{in_map}
 use Rattle.fisb_time.specs.Moment.{IsMoment}
 use Rattle.life_table.specs.Longest.{TextsAreWithin}
 use Rattle.life_table.specs.LifeTable.{LifeTable, greatest_life}

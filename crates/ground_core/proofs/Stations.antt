@@ -6,7 +6,7 @@ use Rattle.uplink_frame.specs.declared.station.StationId.{StationId}
 use Rattle.uplink_frame.specs.Station.{same_station}
 use Rattle.uplink_frame.specs.Laws.{StationsAreTold}
 use Rattle.list_members.specs.Membership.{IsIn}
-use Rattle.list_members.proofs.Members.{IsIn-before, IsIn-after, IsIn-either}
+use Rattle.list_members.specs.Members.{IsIn-before, IsIn-after, IsIn-either}
 use Rattle.ground_core.specs.Item.{Weather, Item}
 use Rattle.ground_core.specs.Update.{weather_of}
 use Rattle.ground_core.specs.History.{Event, accepted, fill, item_of, items_made, new_items, items}

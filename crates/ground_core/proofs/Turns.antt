@@ -6,7 +6,7 @@ use Rattle.std.proofs.lemmas.List.{map-append, length-map, length-take, nil_from
 use Rattle.std.proofs.lemmas.List.FromFn.{map-range_with_len_more}
 use Rattle.std.proofs.lemmas.List.Elements.{filter-append}
 use Rattle.list_members.specs.Membership.{IsIn}
-use Rattle.list_members.proofs.Members.{IsIn-before, IsIn-after, IsIn-either, IsIn-from_filter}
+use Rattle.list_members.specs.Members.{IsIn-before, IsIn-after, IsIn-either, IsIn-from_filter}
 use Rattle.uplink_frame.specs.UplinkFrame.{InformationFrame, fisb_frame, spelled_frames}
 use Rattle.ground_core.specs.Piece.{Piece, room_of_piece, body_of_piece, fitting_pieces, left_pieces}
 use Rattle.ground_core.specs.Turn.{HasFront, IsDropped, IsFrontAired, IsTooLong, IsStopped, fits_in}

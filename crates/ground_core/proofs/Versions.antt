@@ -14,8 +14,8 @@ use Rattle.life_table.specs.Products.{is_read_product}
 use Rattle.life_table.specs.Rules.{IsTable}
 use Rattle.uplink_frame.specs.declared.station.StationId.{StationId}
 use Rattle.list_members.specs.Membership.{IsIn}
-use Rattle.list_members.proofs.Members.{IsIn-from_filter}
-use Rattle.list_members.proofs.ListMembers.{any_in, in_map}
+use Rattle.list_members.specs.Members.{IsIn-from_filter}
+use Rattle.list_members.specs.ListMembers.{any_in, in_map}
 use Rattle.text_reports.specs.TextKey.{TextKey, KeyFault, text_key}
 use Rattle.picture_core.specs.Key.{Key, radar_block, text_report, same_key}
 use Rattle.picture_core.specs.Entry.{Entry}

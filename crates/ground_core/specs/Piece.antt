@@ -63,12 +63,12 @@ abbrev pub live_by : (Key → Option Latest) → ℕ → Piece → Bool
 live_by latest moment p = list_any (λ key. lives_as moment p.serial (latest key)) p.keys
 
 -- what is kept of a key is what was given last, or nothing once the life of that is over
-abbrev pub HasEnded : ℕ → Option Latest → Type 0
-HasEnded moment None = Unit {0}
-HasEnded moment (Some latest) = latest.until ≤ moment
+abbrev pub HasPassed : ℕ → Option Latest → Type 0
+HasPassed moment None = Unit {0}
+HasPassed moment (Some latest) = latest.until ≤ moment
 
 abbrev pub IsLastOrEnded : ℕ → Option Latest → Option Latest → Type 0
-IsLastOrEnded moment last kept = (kept ≡ last) ⊎ ((kept ≡ None) × HasEnded moment last)
+IsLastOrEnded moment last kept = (kept ≡ last) ⊎ ((kept ≡ None) × HasPassed moment last)
 
 -- what is kept of a key is of an item that has a place in the queue
 pub record HasPlace (line : List Piece) (key : Key) (kept : Latest) : Type 0 where

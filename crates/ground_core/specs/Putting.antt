@@ -103,10 +103,10 @@ AreItemsFrom serial (w ∷ more) (item ∷ items) =
     IsItemOf w serial 0 item × AreItemsFrom (serial + 1) more items
 
 -- an item of blocks, which is sent whole
-pub record IsWhole (item : SentItem) : Type 0 where
+pub record IsUncut (item : SentItem) : Type 0 where
   pub of_blocks : IsOfBlocks item.keys
   pub whole : of_file.is_segmented item.form item.payload ≡ false
 
 abbrev pub AreWhole : List SentItem → Type 0
 AreWhole [] = Unit {0}
-AreWhole (item ∷ more) = IsWhole item × AreWhole more
+AreWhole (item ∷ more) = IsUncut item × AreWhole more

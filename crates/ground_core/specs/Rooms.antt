@@ -6,7 +6,6 @@ use Rattle.std.specs.Ordering.{is_eq}
 use Rattle.list_members.specs.Membership.{IsIn}
 use Rattle.radar_core.specs.declared.key.BlockKey.{BlockKey}
 use Rattle.radar_core.specs.Keys.{block_key_cmp}
-use Rattle.radar_core.specs.contracts.key.BlockKeyOrd.TheImpl as block_order
 use Rattle.ground_core.specs.Views.{area_keys}
 use Rattle.ground_core.specs.declared.area.Area.{Area}
 use Rattle.ground_core.specs.declared.item.SentItem.{SentItem}
@@ -22,7 +21,7 @@ are_among area numbers other = list_any (λ key. is_eq (block_key_cmp key other)
     (area_keys area numbers)
 
 abbrev pub HasRoom : NewestBlocks → BlockKey → Type 0
-HasRoom newest key = IsSome (get block_order.ghosts.cmp newest.given key)
+HasRoom newest key = IsSome (get block_key_cmp newest.given key)
 
 abbrev pub HaveRoom : NewestBlocks → BlockNumbers → Type 0
 HaveRoom newest blocks = (key : BlockKey) → IsIn key (area_keys blocks.area blocks.numbers.items)

@@ -7,7 +7,7 @@ use Rattle.segment_core.specs.File.{File}
 use Rattle.picture_core.specs.Key.{Key, radar_block, text_report}
 use Rattle.ground_core.specs.Piece.{Piece, Latest}
 use Rattle.radar_core.specs.declared.key.BlockKey.{BlockKey}
-use Rattle.radar_core.specs.contracts.key.BlockKeyOrd.TheImpl as block_order
+use Rattle.radar_core.specs.Keys.{block_key_cmp}
 use Rattle.ground_core.specs.Update.{block_key}
 use Rattle.ground_core.specs.NumberedKeys.{order_among, report_key}
 use Rattle.ground_core.specs.declared.area.Area.{Area}
@@ -67,7 +67,7 @@ where_given (Some given) = given
 
 abbrev pub latest_block : NewestBlocks → BlockKey → Option Latest
 latest_block newest key =
-    option_map given_view (where_given (get block_order.ghosts.cmp newest.given key))
+    option_map given_view (where_given (get block_key_cmp newest.given key))
 
 abbrev pub latest_at : Newest → Key → Option Latest
 latest_at newest (radar_block key) = latest_block newest.blocks key

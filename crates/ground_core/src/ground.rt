@@ -63,7 +63,7 @@ impl Ground {
     ghost use Rattle.segment_core.specs.Store.{last_above};
     ghost use Rattle.ground_core.specs.StandsFor.{StandsFor, IsOnAir, history_clock};
     ghost use Rattle.ground_core.specs.Views.{latest_at, count_at};
-    ghost use Rattle.ground_core.specs.Putting.{IsPut, IsAsBefore, AreItemsOf, IsWhole, AreWhole};
+    ghost use Rattle.ground_core.specs.Putting.{IsPut, IsAsBefore, AreItemsOf, IsUncut, AreWhole};
     ghost use Rattle.ground_core.specs.Putting.{AreItemsFrom, values_of};
     ghost use Rattle.life_table.specs.Rules.{IsTable};
     ghost use Rattle.radar_core.specs.Cells.{IsCells};
@@ -362,7 +362,7 @@ impl Ground {
     ) -> Result<SentItem, GiveFault>
         ensures item { IfOk result (λ item. AreItemsFrom self.now.given
             (weather_of self.now.table (block_update version key.now cells.now)) (item ∷ [])) }
-        ensures whole { IfOk result IsWhole }
+        ensures whole { IfOk result IsUncut }
         ensures in_range { OnOk result (IsMoment version) }
         ensures cells { IsCells cells.now }
         ensures none { OnOk result (refusal_by self.now.table (latest_at self.now.newest)

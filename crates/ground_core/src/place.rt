@@ -24,7 +24,7 @@ impl Place {
     ghost use Rattle.ground_core.specs.Views.{place_view};
     ghost use Rattle.ground_core.specs.Views.{latest_at};
     ghost use Rattle.ground_core.specs.Piece.{body_of_piece, room_of_piece, live_by};
-    ghost use Rattle.segment_core.specs.File.{segmentation_of};
+    ghost use Rattle.segment_core.specs.File.{body_limit, segmentation_of};
 
     /// Whether it is live: its item was given last under one of its keys, and its life is not over.
     pub(crate) fn is_live(&self, newest: &Newest, moment: Moment) -> bool
@@ -53,7 +53,7 @@ impl Place {
             ++ drop (length (body_of_piece (place_view self.now))) room.old }
         ensures number { result ≡ length (body_of_piece (place_view self.now)) }
         ensures size { result + 2 ≡ room_of_piece (place_view self.now) }
-        ensures within { result ≤ 422 }
+        ensures within { result ≤ body_limit }
     {
         apdu_reads_back();
         shown_fits();

@@ -7,7 +7,7 @@ ghost use Rattle.radar_core.specs.Runs.{run_record};
 ghost use Rattle.radar_core.specs.Blanks.{IsGroup, blank_record};
 ghost use Rattle.radar_core.specs.Laws.{IsOneRecord};
 ghost use Rattle.ground_core.specs.Update.{block_key, radar_weather, group_weather};
-ghost use Rattle.ground_core.specs.Putting.{IsItemOf, AreItemsFrom, IsWhole, AreWhole, values_of};
+ghost use Rattle.ground_core.specs.Putting.{IsItemOf, AreItemsFrom, IsUncut, AreWhole, values_of};
 
 use crate::area::Area;
 use crate::item::SentItem;
@@ -88,7 +88,7 @@ pub(crate) fn block_item(
 ) -> Result<SentItem, AllocError>
     requires key { FitsKey key.now }
     requires product { key.now.product < 2048 }
-    ensures whole { IfOk result IsWhole }
+    ensures whole { IfOk result IsUncut }
     ensures item { IfOk result (λ item. IsItemOf (radar_weather key.now.product validity.now.version
         (radar key.now.product validity.now.life validity.now.form)
         ((key.now, cells.now) ∷ []) (run_record key.now cells.now)) serial 0 item) }
@@ -121,7 +121,7 @@ fn group_item(
     requires scale { area.scale ≤ 2 }
     requires product { area.product < 2048 }
     requires group { IsOneRecord group.now }
-    ensures whole { IfOk result IsWhole }
+    ensures whole { IfOk result IsUncut }
     ensures item { IfOk result (λ item. AreItemsFrom serial
         (group_weather validity.now.version
         (radar area.product validity.now.life validity.now.form)

@@ -5,7 +5,7 @@ use Rattle.std.specs.List.{AllByRecursion}
 use Rattle.std.proofs.lemmas.Slice.Eq.{bytes_eq-Decides}
 use Rattle.std.proofs.lemmas.List.Folds.{fold-map}
 use Rattle.std.specs.Str.{bytes_eq}
-use Rattle.list_members.proofs.Tests.{mapped_some}
+use Rattle.list_members.specs.Tests.{mapped_some}
 use Rattle.life_table.specs.LifeTable.{TextRow, RadarRow, row, radar, text_row, radar_row, greatest_of, longest}
 use Rattle.life_table.specs.Views.{text_view, radar_view, table_of, greater}
 use Rattle.life_table.specs.declared.rows.KeptText.{KeptText}

@@ -5,7 +5,7 @@ use Rattle.std.specs.Prelude.{int_lt, nat_lt, unsigned_abs}
 use Rattle.std.specs.Str.{is_utf8}
 use Rattle.std.proofs.lemmas.Bool.{cases_Bool, ltb-false}
 use Rattle.std.proofs.lemmas.List.{length-append}
-use Rattle.list_members.proofs.Tests.{ok_past_test}
+use Rattle.list_members.specs.Tests.{ok_past_test}
 use Rattle.toml.specs.Data.{Data, Items, no_items, item, Members, table}
 use Rattle.toml.specs.Parse.{parse_document}
 use Rattle.life_table.specs.LifeTable.{LifeTable, TextRow, RadarRow}

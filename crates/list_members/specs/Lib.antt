@@ -1,1 +1,7 @@
+pub mod Finding
+pub mod ListMembers
+pub mod Members
 pub mod Membership
+pub mod Places
+pub mod Ranges
+pub mod Tests

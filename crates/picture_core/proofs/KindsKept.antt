@@ -2,7 +2,7 @@
 use Rattle.std.proofs.Common.{◌≡◌, ℕ, nat_lt, List, [], ◌∷◌, map, refl}
 use Rattle.std.proofs.Common.{sym, subst, inl, inr}
 use Rattle.std.proofs.lemmas.List.Elements.{All-nil, All-cons}
-use Rattle.list_members.proofs.Members.{IsIn-from_filter}
+use Rattle.list_members.specs.Members.{IsIn-from_filter}
 use Rattle.picture_core.specs.Entry.{Entry, AreOfKind, IsOfKind}
 use Rattle.picture_core.specs.Kept.{live_entries}
 use Rattle.picture_core.specs.Views.{AreShownOfKind, ShownValue, entry_view}

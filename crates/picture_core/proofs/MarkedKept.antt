@@ -3,7 +3,7 @@ use Rattle.std.proofs.Common.{◌≡◌, ℕ, nat_lt, List, map, Some, None, Res
 use Rattle.std.proofs.Common.{sym, ap, subst, ◌∙◌, inl, inr}
 use Rattle.std.specs.Option.{option_map}
 use Rattle.list_members.specs.Membership.{IsIn}
-use Rattle.list_members.proofs.Members.{IsIn-from_filter}
+use Rattle.list_members.specs.Members.{IsIn-from_filter}
 use Rattle.picture_core.specs.Entry.{Entry}
 use Rattle.picture_core.specs.Kept.{live_entries, put}
 use Rattle.undo_map.specs.Marked.{Marked}

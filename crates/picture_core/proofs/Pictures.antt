@@ -13,7 +13,7 @@ use Rattle.picture_core.specs.Kept.{AreMonotone, HasLife, HaveLife}
 use Rattle.picture_core.specs.Shown.{shown_with}
 use Rattle.picture_core.proofs.Keys.{equal_keys, equal_from_key_cmp, apart_above, below_from_above}
 use Rattle.picture_core.proofs.KeysRising.{by_order, AreAbove-lower, IsRising-with_key}
-use Rattle.list_members.proofs.Members.{IsIn-before, IsIn-after, IsIn-either}
+use Rattle.list_members.specs.Members.{IsIn-before, IsIn-after, IsIn-either}
 use Rattle.picture_core.proofs.PicturesFound.{kept_at-same, kept_at-other, kept_at-above, kept_at-live, live}
 use Rattle.picture_core.proofs.PicturesFound.{IsRising-filter, same_entries}
 use Rattle.picture_core.proofs.PicturesShown.{IsRising-picture, kept_at-picture, shown_at-push}

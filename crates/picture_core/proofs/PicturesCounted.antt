@@ -3,8 +3,8 @@ use Rattle.std.proofs.Common.{◌≡◌, ℕ, ◌+◌, ◌≤◌, nat_lt, List, 
 use Rattle.std.specs.declared.cmp.Ordering.TheVariants.{Less, Equal}
 use Rattle.std.proofs.lemmas.List.{length-map}
 use Rattle.list_members.specs.Membership.{IsIn}
-use Rattle.list_members.proofs.Members.{IsIn-filter, IsIn-from_filter}
-use Rattle.list_members.proofs.ListMembers.{in_map}
+use Rattle.list_members.specs.Members.{IsIn-filter, IsIn-from_filter}
+use Rattle.list_members.specs.ListMembers.{in_map}
 use Rattle.picture_core.specs.Entry.{Entry}
 use Rattle.picture_core.specs.Key.{Key, key_cmp}
 use Rattle.picture_core.specs.Kept.{IsRising, IsStore, keys, live_entries}

@@ -1,7 +1,7 @@
 -- That ended entries may be forgotten.
 use Rattle.std.proofs.Common.{◌≡◌, ℕ, ◌≤◌, false, nat_lt, List, [], ◌∷◌, refl, sym, ap, ◌∙◌, arith, inl, inr}
 use Rattle.std.proofs.lemmas.Bool.{cases_Bool, ltb-false, le-ltb}
-use Rattle.list_members.proofs.Members.{IsIn-from_filter}
+use Rattle.list_members.specs.Members.{IsIn-from_filter}
 use Rattle.picture_core.specs.Entry.{Entry}
 use Rattle.picture_core.specs.Kept.{IsRising, IsStore, keys, live_entries}
 use Rattle.picture_core.proofs.PicturesFound.{IsRising-filter}

@@ -11,7 +11,7 @@ use Rattle.list_members.specs.Membership.{IsIn}
 use Rattle.picture_core.specs.Contents.{entry_by_row, entry_by_key, report_entries, payload_entries, life_of, life_of_row}
 use Rattle.life_table.specs.Products.{text_product}
 use Rattle.picture_core.specs.Kept.{HaveLife}
-use Rattle.list_members.proofs.Members.{IsIn-either}
+use Rattle.list_members.specs.Members.{IsIn-either}
 use Rattle.picture_core.proofs.RadarLife.{radar-HaveLife}
 
 HaveLife-flat_map :

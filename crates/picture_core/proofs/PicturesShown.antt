@@ -13,7 +13,7 @@ use Rattle.picture_core.specs.Kept.{IsRising, kept_at, keys, newer_of}
 use Rattle.picture_core.specs.Shown.{IsShown, shown_with}
 use Rattle.picture_core.proofs.Keys.{same_key-Decides, equal_keys}
 use Rattle.picture_core.proofs.KeysRising.{IsRising-keys_of, IsIn-keys_of}
-use Rattle.list_members.proofs.Members.{IsIn-filter, IsIn-from_filter}
+use Rattle.list_members.specs.Members.{IsIn-filter, IsIn-from_filter}
 use Rattle.picture_core.proofs.PicturesFound.{IsOwn, IsRising-given, kept_at-given}
 
 -- the best of entries, each newer_of one taken

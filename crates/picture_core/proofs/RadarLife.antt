@@ -2,7 +2,7 @@
 use Rattle.std.proofs.Common.{◌≡◌, ℕ, ◌+◌, ◌==◌, nat_lt, nat_le, Bool, true, false, if◌then◌else◌, List, length, take}
 use Rattle.std.proofs.Common.{drop, Option, Some, None, Result, Ok, Err, refl, sym, ap, ◌∙◌}
 use Rattle.list_members.specs.Membership.{IsIn}
-use Rattle.list_members.proofs.ListMembers.{in_map, in_one}
+use Rattle.list_members.specs.ListMembers.{in_map, in_one}
 use Rattle.life_table.specs.LifeTable.{LifeTable, RadarRow, radar_row}
 use Rattle.radar_core.specs.declared.key.BlockKey.{BlockKey}
 use Rattle.radar_core.specs.declared.fault.RadarFault.{RadarFault}

@@ -1,5 +1,5 @@
 //! The picture and its calls.
-ghost use Rattle.std.specs.Prelude.{◌≡◌, IsSome, IfOk, OnOk, OnErr, Some, None, [], length, map};
+ghost use Rattle.std.specs.Prelude.{◌≡◌, ◌≤◌, IsSome, IfOk, OnOk, OnErr, Some, None, [], length, map};
 ghost use Rattle.picture_core.specs.Entry.{AreOfKind, IsOfKind};
 ghost use Rattle.picture_core.specs.Kept.{IsRising, keys, live_entries, put};
 ghost use Rattle.picture_core.specs.Marked.{MarkedEntries};
@@ -49,6 +49,13 @@ impl Picture {
         ensures kinds { AreOfKind self.now.entries }
     {
         self.kept.len()
+    }
+
+    /// How many places the keys have in the queue by which a purge finds what has ended.
+    pub fn places(&self) -> usize
+        ensures { result ≤ length self.now.entries }
+    {
+        self.kept.places()
     }
 
     /// Puts a version under a key, where no version is kept that is at least as new.

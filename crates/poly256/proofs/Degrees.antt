@@ -7,7 +7,7 @@ use Rattle.gf256_core.specs.Field.{IsField}
 use Rattle.poly256.specs.Polynomial.{element_product, sum_of, list_product, trimmed, IsDivision}
 use Rattle.poly256.proofs.ListSums.{coefficient-sum, length-sum_left, length-sum_at_most, coefficient-scaled}
 use Rattle.poly256.proofs.ListProducts.{coefficient-product, product-single, product-empty_left, product-empty_right, length-product, product-sum_left}
-use Rattle.bit_fields.proofs.Xors.{xor-swap, xor-equal}
+use Rattle.bit_fields.specs.Xors.{xor-swap, xor-equal}
 use Rattle.poly256.proofs.Trims.{trimmed-empty, trimmed_from_last, last_from_trimmed, trimmed_from_same, same_from_trimmed, coefficient-trimmed, trimmed-trimmed, trimmed-product, length-trimmed}
 
 pub IsBytes : List ℕ → Type 0

@@ -5,7 +5,7 @@ use Rattle.std.proofs.lemmas.Bool.{cases_eq}
 use Rattle.std.specs.Int.Bits.{bit_xor, xor_self}
 use Rattle.gf256_core.specs.Field.{IsField}
 use Rattle.poly256.specs.Polynomial.{element_product, sum_of, scaled, shifted, raised, list_product, trimmed, IsDivision}
-use Rattle.bit_fields.proofs.Xors.{xor-same_right}
+use Rattle.bit_fields.specs.Xors.{xor-same_right}
 use Rattle.poly256.proofs.ListSums.{coefficient-sum, sum-empty_right, coefficient-scaled, length-scaled}
 use Rattle.poly256.proofs.ListProducts.{product-sum_left, product-shifted_left, product-single}
 use Rattle.poly256.proofs.Trims.{zeros-product, same-product, trimmed_from_same, length-trimmed}

@@ -6,7 +6,7 @@ use Rattle.std.proofs.lemmas.Bool.{cases_lt}
 use Rattle.gf256_core.specs.Field.{IsField}
 use Rattle.poly256.specs.Polynomial.{element_product, trimmed, value_at}
 use Rattle.poly256.specs.Laws.{AreDifferent, HasFewRoots}
-use Rattle.bit_fields.proofs.Xors.{xor-same_left, xor-equal, xor-through}
+use Rattle.bit_fields.specs.Xors.{xor-same_left, xor-equal, xor-through}
 use Rattle.poly256.proofs.Trims.{trimmed-zeros}
 use Rattle.poly256.proofs.Values.{value-empty, value-cons, value-fits}
 

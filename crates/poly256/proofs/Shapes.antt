@@ -3,7 +3,7 @@ use Rattle.std.proofs.Common.{◌≡◌, ℕ, zero, suc, ◌+◌, ◌<◌, ◌�
 use Rattle.std.proofs.lemmas.List.{get_or_past, get_or-take, length-take}
 use Rattle.std.proofs.lemmas.Bool.{cases_lt}
 use Rattle.std.specs.Int.Bits.{bit_xor}
-use Rattle.list_members.proofs.Places.{get_or-zeros}
+use Rattle.list_members.specs.Places.{get_or-zeros}
 use Rattle.poly256.specs.Polynomial.{trimmed, sum_of, list_product, IsPolynomial}
 use Rattle.poly256.proofs.ListProducts.{product-empty_left, product-empty_right, length-product}
 use Rattle.poly256.proofs.ListSums.{coefficient-sum}

@@ -3,7 +3,7 @@ use Rattle.std.proofs.Common.{◌≡◌, ℕ, zero, suc, ◌<◌, List, [], ◌�
 use Rattle.std.specs.Int.Bits.{bit_xor, xor_zero_r}
 use Rattle.gf256_core.specs.Field.{power, IsField}
 use Rattle.poly256.specs.Polynomial.{element_product, element_power, sum_of, scaled, shifted, list_product, trimmed, prepended, terms_from, value_at}
-use Rattle.bit_fields.proofs.Xors.{xor-shuffle}
+use Rattle.bit_fields.specs.Xors.{xor-shuffle}
 use Rattle.poly256.proofs.ListProducts.{product-cons, product-empty_left}
 use Rattle.poly256.proofs.Trims.{trimmed-cons, trimmed-empty}
 

@@ -11,7 +11,7 @@ use Rattle.std.proofs.Math.Nat.{zero-div}
 use Rattle.bit_fields.specs.Bits.{field_at}
 use Rattle.radar_core.specs.declared.key.BlockKey.{BlockKey}
 use Rattle.bit_fields.specs.Bits.{bit}
-use Rattle.bit_fields.proofs.BitsBack.{bit_below, bit_back}
+use Rattle.bit_fields.specs.BitsBack.{bit_below, bit_back}
 use Rattle.radar_core.specs.Keys.{front_bytes}
 use Rattle.radar_core.specs.Cells.{blank_cells}
 use Rattle.radar_core.specs.Blanks.{IsGroup, block_in_ring, bitmap_length, is_named, named_offsets, key_beside, length_for, first_bitmap_byte, bitmap_byte, bitmap_of, blank_record}

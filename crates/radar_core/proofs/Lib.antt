@@ -1,4 +1,5 @@
 pub mod RunCells
+pub mod KeyNumbers
 pub mod RankLemmas
 pub mod FrontLemmas
 pub mod MarkLemmas

@@ -9,7 +9,7 @@ use Rattle.bit_fields.specs.Bits.{field_at}
 use Rattle.radar_core.specs.declared.key.BlockKey.{BlockKey}
 use Rattle.radar_core.specs.declared.run.Run.{Run}
 use Rattle.bit_fields.specs.Bits.{bit}
-use Rattle.bit_fields.proofs.BitsBack.{bit_below, bit_back}
+use Rattle.bit_fields.specs.BitsBack.{bit_below, bit_back}
 use Rattle.radar_core.specs.Keys.{FitsKey, front_bytes, is_run_in, scale_in, key_in}
 use Rattle.radar_core.specs.Cells.{IsCells}
 use Rattle.radar_core.specs.Runs.{FitsRun, run_byte, run_cells, run_in, cells_in, runs_from, longest_runs, run_record}

@@ -1,9 +1,9 @@
 -- What is written of a record are bytes.
-use Rattle.std.proofs.Common.{◌≡◌, ℕ, ◌+◌, ◌-◌, ◌*◌, ◌^◌, ◌<◌, ◌≤◌, Bool, List, [], ◌∷◌, ◌++◌, length, map, true, false, refl, arith}
+use Rattle.std.proofs.Common.{ℕ, ◌+◌, ◌-◌, ◌*◌, ◌<◌, Bool, List, [], ◌∷◌, map, true, false, arith}
 use Rattle.std.specs.List.{All, range_with_len}
 use Rattle.std.proofs.lemmas.List.Elements.{All-nil, All-cons, All-head, All-tail, All-append}
-use Rattle.bit_fields.specs.Bits.{AreBytes, bit}
-use Rattle.bit_fields.proofs.BitsBack.{bit_below}
+use Rattle.bit_fields.specs.Bits.{AreBytes}
+use Rattle.bit_fields.specs.BitsBack.{bit_below}
 use Rattle.radar_core.specs.declared.key.BlockKey.{BlockKey}
 use Rattle.radar_core.specs.declared.run.Run.{Run}
 use Rattle.radar_core.specs.Keys.{front_bytes}

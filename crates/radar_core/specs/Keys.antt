@@ -1,6 +1,7 @@
 -- The keys of radar blocks, and the three bytes before a record (RTCA DO-358): run flag,
 -- hemisphere, scale, block number.
-use Rattle.std.specs.Prelude.{ℕ, ◌^◌, ◌<◌, ◌≤◌, Bool, ◌==◌, List, [], ◌∷◌, take}
+use Rattle.std.specs.Prelude.{ℕ, ◌+◌, ◌*◌, ◌^◌, ◌<◌, ◌≤◌, Bool, ◌==◌, List, [], ◌∷◌, take}
+use Rattle.std.specs.Cmp.{IsTotalOrder, nat_cmp_total, on_total, then_total}
 use Rattle.std.specs.Int.{bytes_high_first}
 use Rattle.std.specs.Ordering.{nat_cmp, ordering_then}
 use Rattle.std.specs.declared.cmp.Ordering.{Ordering}
@@ -12,6 +13,19 @@ abbrev pub block_key_cmp : BlockKey → BlockKey → Ordering
 block_key_cmp a b =
     ordering_then (nat_cmp a.product b.product) (ordering_then (nat_cmp a.scale b.scale)
     (ordering_then (nat_cmp (bit a.south) (bit b.south)) (nat_cmp a.number b.number)))
+
+-- it is an order
+pub block_keys_total : IsTotalOrder block_key_cmp
+block_keys_total =
+    then_total (on_total (λ (k : BlockKey). k.product) nat_cmp_total)
+    (then_total (on_total (λ (k : BlockKey). k.scale) nat_cmp_total)
+    (then_total (on_total (λ (k : BlockKey). bit k.south) nat_cmp_total)
+    (on_total (λ (k : BlockKey). k.number) nat_cmp_total)))
+
+-- the fields as one number, which stands in the same order
+abbrev pub key_number : BlockKey → ℕ
+key_number key =
+    ((key.product * 256 + key.scale) * 2 + bit key.south) * 4294967296 + key.number
 
 -- the first block at high latitudes: from it on no empty record names a block
 abbrev pub first_high : ℕ

@@ -6,7 +6,7 @@ use Rattle.std.proofs.lemmas.Bool.{cases_Bool, and_parts, and_from, or_left, or_
 use Rattle.std.proofs.lemmas.List.{append_assoc, append-nil}
 use Rattle.std.proofs.lemmas.List.Folds.{list_any-append}
 use Rattle.std.proofs.lemmas.List.Sums.{sum_by-append, sum_by_push}
-use Rattle.list_members.proofs.Ranges.{all_in, list_all_same, list_any_same, range_has}
+use Rattle.list_members.specs.Ranges.{all_in, list_all_same, list_any_same, range_has}
 use Rattle.apdu_core.specs.declared.unit.Seg.{Seg}
 use Rattle.uplink_frame.specs.Laws.{StationsAreTold}
 use Rattle.uplink_frame.specs.Station.{same_station}

@@ -9,7 +9,7 @@ use Rattle.std.proofs.lemmas.Bool.{cases_Bool, cond-true, cond-false, eqb-true, 
 use Rattle.std.proofs.lemmas.List.{get_or_past, length-drop, length-map, length-take}
 use Rattle.std.proofs.lemmas.List.Sums.{count_by-le-length, length-filter}
 use Rattle.std.proofs.lemmas.Nat.Bits.{bit_at-zero}
-use Rattle.list_members.proofs.Finding.{find-passes}
+use Rattle.list_members.specs.Finding.{find-passes}
 use Rattle.life_table.specs.LifeTable.{LifeTable, RadarRow, longest, radar_row}
 use Rattle.life_table.specs.Longest.{RadarsAreWithin}
 use Rattle.life_table.specs.Rules.{IsTable}

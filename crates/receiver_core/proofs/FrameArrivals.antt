@@ -3,7 +3,7 @@ use Rattle.std.proofs.Common.{◌≡◌, ℕ, ◌+◌, ◌≤◌, Bool, true, fa
 use Rattle.std.specs.Prelude.{◌==◌, nat_lt}
 use Rattle.std.proofs.lemmas.Bool.{eqb-false, ltb-false, or_parts}
 use Rattle.std.proofs.lemmas.List.{length-drop}
-use Rattle.list_members.proofs.Tests.{ok_past_test}
+use Rattle.list_members.specs.Tests.{ok_past_test}
 use Rattle.fisb_time.specs.declared.form.TimeForm.{TimeForm}
 use Rattle.fisb_time.specs.declared.form.TimeForm.TheVariants.{Minute, Second, DayMinute, DaySecond}
 use Rattle.fisb_time.specs.declared.form.TimeFields.{TimeFields}

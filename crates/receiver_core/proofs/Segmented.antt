@@ -3,10 +3,10 @@ use Rattle.std.proofs.Common.{◌≡◌, ℕ, ◌≤◌, Bool, true, false, cond
 use Rattle.std.specs.List.{range_with_len, sum_by}
 use Rattle.std.specs.Option.{option_map}
 use Rattle.std.proofs.lemmas.List.Sums.{sum_by-cons}
-use Rattle.list_members.proofs.Ranges.{any_filter, find_filter, list_all_same}
+use Rattle.list_members.specs.Ranges.{any_filter, find_filter, list_all_same}
 use Rattle.apdu_core.specs.declared.unit.Seg.{Seg}
 use Rattle.segment_core.specs.Arrival.{Arrival, first_piece, has_piece, is_piece}
-use Rattle.segment_core.specs.Kept.{arrival_named, fields_of, kept_of, kept_piece, was_whole}
+use Rattle.segment_core.specs.Kept.{arrival_named, seg_of_name, kept_of, kept_piece, was_whole}
 use Rattle.segment_core.specs.Store.{StandsFor, Store}
 use Rattle.segment_core.specs.declared.piece_name.PieceName.{PieceName}
 use Rattle.receiver_core.proofs.Weights.{sum_above, sum_of_filter}
@@ -30,7 +30,7 @@ module _ (taken : List Arrival) where
   kept_same : (name : PieceName) → kept_of taken name ≡ kept_of (filter is_segment taken) name
   kept_same name =
       let a = arrival_named name in
-      let s = fields_of name in
+      let s = seg_of_name name in
       let first = first_same a s name.number in
       let whole : was_whole (filter is_segment taken) name ≡ was_whole taken name =
       list_all_same (has_piece (filter is_segment taken) a s) (has_piece taken a s) (range_with_len 1 name.count)

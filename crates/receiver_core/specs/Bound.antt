@@ -18,8 +18,8 @@ number_alive table moment heard = length (filter (may_live table moment) heard)
 
 -- For so many receptions, the bytes of all pieces, all segment numbers and all entries that are
 -- kept: a payload has 424 bytes of frames, a frame with segment fields takes nine of them at
--- least, and a byte says five entries at most. The places of names and keys in the queues by
--- their ends are not counted.
+-- least, and a byte says five entries at most. The queues by their ends have no more places than
+-- there are numbers and entries (`Joiner::places`, `Picture::places`).
 pub record IsFewFor (held : Held) (number : ℕ) : Type 0 where
   pub bytes : pieces_size held.joiner.store.pieces ≤ frame_room * number
   pub numbers : length held.joiner.store.pieces ≤ 47 * number

@@ -1,7 +1,7 @@
 //! What the information frames of a payload bring, and what of them is passed on unread.
 ghost use Rattle.std.specs.Prelude.{◌≡◌, ◌≤◌, ◌++◌, List, IfOk, OnOk, length, map};
 ghost use Rattle.std.specs.Option.{option_map};
-ghost use Rattle.uplink_frame.specs.UplinkFrame.{information_frames};
+ghost use Rattle.uplink_frame.specs.UplinkFrame.{frame_room, information_frames};
 ghost use Rattle.uplink_frame.specs.Views.{frame_view};
 ghost use Rattle.picture_core.specs.Kept.{put_all};
 ghost use Rattle.segment_core.specs.Arrival.{Arrival, whole_with};
@@ -81,7 +81,7 @@ fn take_frame(
     picture: &mut Picture,
     unread: &mut Vec<Unread>,
 ) -> Result<(), AllocError>
-    requires short { length frame.now.body.now ≤ 424 }
+    requires short { length frame.now.body.now ≤ frame_room }
     requires moment { IsNotBefore joiner.old.store.clock moment }
     requires longest { joiner.old.store.longest ≡ longest_lives table.now }
     ensures joined { (before : List Arrival) → StandsFor joiner.old.store before
@@ -123,7 +123,7 @@ fn take_answer(
     picture: &mut Picture,
     unread: &mut Vec<Unread>,
 ) -> Result<(), AllocError>
-    requires { length frame.now.body.now ≤ 424 }
+    requires { length frame.now.body.now ≤ frame_room }
     ensures entries { OnOk result (picture.new.entries ≡ put_all
         (entries_of_whole table.now (option_map (whole_with (arrival_view arrived.now))
         (payload_made_whole taken)))

@@ -1,6 +1,7 @@
 //! The reports of a whole payload of text.
 ghost use Rattle.std.specs.Prelude.{◌≡◌, ◌≤◌, ◌++◌, IfOk, OnOk, Some, length, map};
 ghost use Rattle.std.specs.Prelude.{flat_map, option_to_list};
+ghost use Rattle.uplink_frame.specs.UplinkFrame.{frame_room};
 ghost use Rattle.dlac_text.specs.Reports.{reports_of};
 ghost use Rattle.text_reports.specs.TextKey.{text_key};
 ghost use Rattle.uplink_frame.specs.Views.{frame_view};
@@ -29,7 +30,7 @@ pub(crate) fn take_reports(
     picture: &mut Picture,
     unread: &mut Vec<Unread>,
 ) -> Result<(), AllocError>
-    requires { length frame.now.body.now ≤ 424 }
+    requires { length frame.now.body.now ≤ frame_room }
     ensures entries { OnOk result (picture.new.entries
         ≡ put_all (flat_map (report_entries table.now version) (reports_of payload.now))
         picture.old.entries) }

@@ -1,6 +1,7 @@
 //! What a receiver passes on unread.
 ghost use Rattle.std.specs.Prelude.{◌≡◌, ◌<◌, ◌≤◌, ◌==◌, length};
 ghost use Rattle.std.specs.List.{slice_index_or};
+ghost use Rattle.uplink_frame.specs.UplinkFrame.{frame_room};
 ghost use Rattle.uplink_frame.specs.Views.{frame_view};
 ghost use Rattle.receiver_core.specs.Hearing.{unread_view};
 ghost use Rattle.receiver_core.specs.UnreadParts.{part_in};
@@ -63,7 +64,7 @@ pub struct Unread {
 impl Unread {
     /// What is passed on of a frame for this reason.
     pub(crate) fn of(frame: &InfoFrame<'_>, reason: UnreadReason) -> Unread
-        requires { length frame.now.body.now ≤ 424 }
+        requires { length frame.now.body.now ≤ frame_room }
         ensures { unread_view result ≡ part_in (frame_view frame.now) reason }
     {
         let product = if frame.kind == 0 {

@@ -1,5 +1,6 @@
 //! What a whole payload says.
 ghost use Rattle.std.specs.Prelude.{◌≡◌, ◌≤◌, ◌++◌, OnOk, Some, length, map};
+ghost use Rattle.uplink_frame.specs.UplinkFrame.{frame_room};
 ghost use Rattle.uplink_frame.specs.Views.{frame_view};
 ghost use Rattle.picture_core.specs.Kept.{put_all};
 ghost use Rattle.segment_core.specs.Arrival.{Whole};
@@ -27,7 +28,7 @@ pub(crate) fn take_whole(
     picture: &mut Picture,
     unread: &mut Vec<Unread>,
 ) -> Result<(), AllocError>
-    requires { length frame.now.body.now ≤ 424 }
+    requires { length frame.now.body.now ≤ frame_room }
     ensures entries { OnOk result (picture.new.entries ≡ put_all (whole_entries table.now
         (record { product = product; version = version; payload = payload.now }))
         picture.old.entries) }

@@ -4,4 +4,6 @@
 #[cfg(test)]
 mod many_reports;
 #[cfg(test)]
+mod random;
+#[cfg(test)]
 mod tests;

@@ -328,7 +328,7 @@ pub(crate) fn is_report(
 }
 
 /// Whether the picture has these reports of these versions, in this order.
-fn has_reports(
+pub(crate) fn has_reports(
     receiver: &Receiver,
     alloc: Global,
     seconds: u64,

@@ -50,7 +50,6 @@ reason_words reasons.Ahead = codes "ahead" ∷ []
 reason_words reasons.Expired = codes "expired" ∷ []
 reason_words (reasons.NotNewer kept) = codes "notnewer" ∷ decimal kept ∷ []
 reason_words reasons.NoFile = codes "nofile" ∷ []
-reason_words reasons.NotBuilt = codes "notbuilt" ∷ []
 
 abbrev pub refusal_text : ℕ → Reason → List ℕ
 refusal_text line reason = line_of_words (codes "refused" ∷ decimal line ∷ reason_words reason)

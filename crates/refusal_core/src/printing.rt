@@ -51,7 +51,6 @@ fn refusal_line(alloc: Global, line: u64, reason: &Reason) -> Result<String, All
         Reason::Ahead => format!(in alloc; "refused {line} ahead\n"),
         Reason::Expired => format!(in alloc; "refused {line} expired\n"),
         Reason::NoFile => format!(in alloc; "refused {line} nofile\n"),
-        Reason::NotBuilt => format!(in alloc; "refused {line} notbuilt\n"),
     }
 }
 

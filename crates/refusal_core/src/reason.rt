@@ -68,6 +68,4 @@ pub enum Reason {
     },
     /// The text is sent in segments, and no file number is free.
     NoFile,
-    /// The line, one of its fields or the command is not built yet.
-    NotBuilt,
 }

@@ -3,7 +3,7 @@ use Rattle.std.proofs.Common.{◌≡◌, ℕ, zero, suc, ◌+◌, ◌-◌, ◌*�
 use Rattle.std.specs.Int.Bits.{bit_xor, xor_zero_r, xor_self}
 use Rattle.std.proofs.lemmas.List.{drop_at, length-take-le, length-replicate, ext_get_or, get_or_past}
 use Rattle.std.proofs.lemmas.Bool.{cases_lt}
-use Rattle.list_members.proofs.Places.{get_or-zeros}
+use Rattle.list_members.specs.Places.{get_or-zeros}
 use Rattle.gf256_core.specs.Field.{IsField}
 use Rattle.poly256.specs.Polynomial.{element_product, element_power, sum_of, scaled, raised}
 use Rattle.poly256.specs.Laws.{HasDegrees}

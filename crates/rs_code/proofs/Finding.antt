@@ -2,8 +2,8 @@
 use Rattle.std.proofs.Common.{◌≡◌, ℕ, zero, suc, ◌<◌, List, [], ◌∷◌, length, get_or, map, refl, arith, inl}
 use Rattle.std.specs.List.{range_with_len}
 use Rattle.list_members.specs.Membership.{IsIn}
-use Rattle.list_members.proofs.ListMembers.{flat_map_has, map_has}
-use Rattle.list_members.proofs.Ranges.{range_has}
+use Rattle.list_members.specs.ListMembers.{flat_map_has, map_has}
+use Rattle.list_members.specs.Ranges.{range_has}
 use Rattle.rs_code.specs.Functions.{words}
 
 -- a word of bytes stands among all words

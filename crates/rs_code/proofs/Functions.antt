@@ -4,7 +4,7 @@ use Rattle.std.specs.List.{list_all, range_with_len}
 use Rattle.std.specs.Option.{unwrap_or}
 use Rattle.std.proofs.lemmas.Bool.{and_parts, and_from, eqb-true, ltb-true, lt-ltb, cases_eq}
 use Rattle.gf256_core.specs.Field.{IsField}
-use Rattle.list_members.proofs.Finding.{find-passes, find-none, find-only}
+use Rattle.list_members.specs.Finding.{find-passes, find-none, find-only}
 use Rattle.poly256.specs.Laws.{HasDegrees}
 use Rattle.rs_code.specs.CodeWord.{IsInstance, IsCodeWord, IsNear, IsCorrectable, power_sum, differences, are_near}
 use Rattle.rs_code.specs.Functions.{words, is_code_word, begins_with, encoded, corrected}

@@ -4,7 +4,7 @@ use Rattle.std.specs.Int.Bits.{bit_xor, xor_zero_r}
 use Rattle.std.proofs.lemmas.Bool.{cases_lt}
 use Rattle.std.proofs.lemmas.List.{length-take-le}
 use Rattle.std.proofs.lemmas.Nat.{xor_comm}
-use Rattle.bit_fields.proofs.Xors.{xor-cancel}
+use Rattle.bit_fields.specs.Xors.{xor-cancel}
 use Rattle.gf256_core.specs.Field.{IsField}
 use Rattle.poly256.specs.Polynomial.{element_product, element_power, scaled}
 use Rattle.poly256.specs.Laws.{HasDegrees}

@@ -3,7 +3,7 @@ use Rattle.std.proofs.Common.{◌≡◌, ℕ, zero, suc, ◌+◌, ◌-◌, ◌<�
 use Rattle.std.specs.Int.Bits.{bit_xor, xor_zero_r, xor_self}
 use Rattle.std.proofs.lemmas.Bool.{cases_eq, cases_lt, leb-true}
 use Rattle.std.proofs.lemmas.List.{get_or_past, get_or-set_other}
-use Rattle.bit_fields.proofs.Xors.{xor-equal}
+use Rattle.bit_fields.specs.Xors.{xor-equal}
 use Rattle.gf256_core.specs.Field.{IsField}
 use Rattle.poly256.specs.Polynomial.{element_product, element_power, value_at, sum_of, scaled, shifted}
 use Rattle.poly256.specs.Laws.{HasDegrees, HasValues, IgnoresEndZeros}

@@ -2,7 +2,7 @@
 use Rattle.std.proofs.Common.{◌≡◌, ℕ, suc, ◌+◌, ◌-◌, ◌*◌, ◌/◌, ◌<◌, ◌≤◌, List, [], length, get_or, take, lit<, refl, sym, ◌∙◌, ap, subst, arith, inl, inr}
 use Rattle.std.specs.Int.Bits.{bit_xor, xor_zero_r}
 use Rattle.std.proofs.lemmas.List.{get_or-take, length-take-le}
-use Rattle.list_members.proofs.Places.{take-below}
+use Rattle.list_members.specs.Places.{take-below}
 use Rattle.gf256_core.specs.Field.{IsField}
 use Rattle.poly256.specs.Polynomial.{element_product, element_power, value_at}
 use Rattle.poly256.specs.Laws.{HasDegrees, HasFewRoots, HasValues, IgnoresEndZeros}

@@ -3,7 +3,7 @@ use Rattle.std.proofs.Common.{◌≡◌, ℕ, zero, suc, ◌+◌, ◌-◌, ◌*�
 use Rattle.std.specs.Int.Bits.{bit_xor, xor_zero_r}
 use Rattle.std.proofs.lemmas.Bool.{cases_eq}
 use Rattle.std.proofs.lemmas.List.{set_at, get_or_at}
-use Rattle.bit_fields.proofs.Xors.{xor-cancel}
+use Rattle.bit_fields.specs.Xors.{xor-cancel}
 use Rattle.gf256_core.specs.Field.{IsField}
 use Rattle.poly256.specs.Polynomial.{element_product, element_power, value_at}
 use Rattle.rs_code.specs.CodeWord.{power_sum}

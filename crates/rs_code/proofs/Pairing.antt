@@ -2,7 +2,7 @@
 use Rattle.std.proofs.Common.{◌≡◌, ℕ, zero, suc, ◌+◌, ◌-◌, ◌<◌, ◌≤◌, List, [], ◌∷◌, length, get_or, take, lit<, refl, sym, ◌∙◌, ap, ap₂, arith}
 use Rattle.std.specs.Int.Bits.{bit_xor, xor_zero_r, xor_zero_l}
 use Rattle.std.proofs.lemmas.List.{get_or_past, length-take}
-use Rattle.bit_fields.proofs.Xors.{xor-shuffle}
+use Rattle.bit_fields.specs.Xors.{xor-shuffle}
 use Rattle.gf256_core.specs.Field.{IsField}
 use Rattle.poly256.specs.Polynomial.{element_product, sum_of, scaled, shifted, raised}
 use Rattle.poly256.specs.Laws.{HasDegrees}

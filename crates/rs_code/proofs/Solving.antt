@@ -3,7 +3,7 @@ use Rattle.std.proofs.Common.{◌≡◌, ◌≢◌, ℕ, zero, suc, ◌+◌, ◌
 use Rattle.std.specs.Int.Bits.{bit_xor, xor_zero_r, xor_assoc, xor_self, xor_zero_l}
 use Rattle.std.proofs.lemmas.Bool.{cases_eq}
 use Rattle.std.proofs.lemmas.List.{ext_get_or, get_or-set_same, get_or-set_other}
-use Rattle.bit_fields.proofs.Xors.{xor-shuffle, xor-equal}
+use Rattle.bit_fields.specs.Xors.{xor-shuffle, xor-equal}
 use Rattle.gf256_core.specs.Field.{IsField}
 use Rattle.poly256.specs.Polynomial.{element_product, element_power}
 use Rattle.poly256.specs.Laws.{AreDifferent}

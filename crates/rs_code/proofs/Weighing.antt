@@ -3,7 +3,7 @@
 -- polynomial is 0.
 use Rattle.std.proofs.Common.{◌≡◌, ℕ, zero, suc, ◌+◌, ◌-◌, ◌*◌, ◌<◌, ◌≤◌, ◌⊎◌, List, [], ◌∷◌, length, get_or, lit<, refl, sym, ◌∙◌, ap, ap₂, arith}
 use Rattle.std.specs.Int.Bits.{bit_xor, xor_zero_r}
-use Rattle.bit_fields.proofs.Xors.{xor-shuffle}
+use Rattle.bit_fields.specs.Xors.{xor-shuffle}
 use Rattle.gf256_core.specs.Field.{IsField}
 use Rattle.poly256.specs.Polynomial.{element_product, element_power, value_at}
 use Rattle.poly256.specs.Laws.{HasValues}

@@ -5,13 +5,10 @@ use Rattle.std.proofs.Math.Seq.{take-append-add}
 use Rattle.run_core.specs.Limits.{input_limit}
 use Rattle.run_core.specs.Run.{acted_part}
 
-take-short : (limit : ℕ) (text : List ℕ) → length text ≤ limit → take limit text ≡ text
-take-short limit text within = take_all limit text within
-
 -- of bytes within the limit it is all
 pub part-within : (text : List ℕ) → length text ≤ input_limit → acted_part text ≡ text
 unfolding acted_part
-part-within text within = take-short input_limit text within
+part-within text within = take_all input_limit text within
 
 -- what comes after the limit is no part of it
 pub part-full : (text more : List ℕ) → input_limit ≤ length text → acted_part (text ++ more) ≡ acted_part text

@@ -1,6 +1,7 @@
 -- What a run answers and writes, by the bytes that it took from its source.
 use Rattle.std.specs.Prelude.{◌≡◌, ◌≢◌, ℕ, ◌+◌, ◌<◌, ◌≤◌, Bool, true, false, ◌⊎◌, nat_le}
 use Rattle.std.specs.Prelude.{if◌then◌else◌, List, ◌++◌, length, take, Option, Some, None, IfSome}
+use Rattle.std.specs.Prelude.{Result, OnErr}
 use Rattle.std.specs.Io.KnownBytes.{Consumes, Appends, IsAtEnd}
 use Rattle.fisb_wire.specs.Faults.{Rose}
 use Rattle.run_core.specs.declared.status.Status.{Status}
@@ -129,6 +130,14 @@ HasAnswered task old new status =
 abbrev pub AppendsFront : Option (List ℕ) → Option (List ℕ) → List ℕ → Type 0
 AppendsFront before after piece =
     (size : ℕ) × (size ≤ length piece) × Appends before after (take size piece)
+
+-- A sink that tells what it holds, and surely takes more bytes than these and the piece, takes the
+-- piece whole.
+abbrev pub IsTakenWhole : {A F : Type 0} → Option ℕ → Option (List ℕ) → List ℕ → Result A F
+    → Type 0
+IsTakenWhole reach written piece result = (before : List ℕ) (room : ℕ)
+    → written ≡ Some before → reach ≡ Some room → length (before ++ piece) < room
+    → OnErr result ⊥
 
 -- a prefix of the output of the bytes taken was written
 pub record IsFront (task : Task) (old new : Ends) (taken : List ℕ) (ending : Ending) : Type 0 where

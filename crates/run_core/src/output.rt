@@ -2,7 +2,7 @@
 ghost use Rattle.std.specs.Prelude.{◌≡◌, ℕ, ◌≤◌, None, length, take, OnOk, OnErr};
 ghost use Rattle.std.specs.Io.KnownBytes.{Appends};
 ghost use Rattle.fisb_wire.specs.Faults.{Rose};
-ghost use Rattle.run_core.specs.Run.{AppendsFront};
+ghost use Rattle.run_core.specs.Run.{AppendsFront, IsTakenWhole};
 
 use fisb_wire::{Failed, Sink};
 
@@ -14,6 +14,7 @@ pub fn write_all<K: Sink>(sink: &mut K, piece: &[u8]) -> Result<(), Failed>
     ensures kept { OnOk result (K.faults sink.new ≡ K.faults sink.old) }
     ensures later { K.faults sink.old ≤ K.faults sink.new }
     ensures rose { OnErr result (Rose (K.faults sink.old) (K.faults sink.new)) }
+    ensures complete { IsTakenWhole (K.reach sink.old) (K.written sink.old) piece.now result }
     ensures spare { K.spare sink.new ≡ None }
     ensures reach { K.reach sink.new ≡ K.reach sink.old }
 {

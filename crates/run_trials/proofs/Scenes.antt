@@ -1,6 +1,7 @@
 -- Small scenes of where the first fault of an input stands, computed by the definitions alone.
-use Rattle.std.proofs.Common.{◌≡◌, true, false, Some, None, refl, codes}
-use Rattle.refusal_core.specs.declared.reason.Reason.TheVariants.{Syntax, NoTable}
+use Rattle.std.proofs.Common.{◌≡◌, true, false, Some, None, Ok, [], refl, codes}
+use Rattle.refusal_core.specs.declared.reason.Reason.TheVariants.{Syntax, NoTable, NotToml}
+use Rattle.run_core.specs.Work.{Work}
 use Rattle.run_core.specs.Acted.{first_fault}
 use Rattle.run_trials.specs.Echo.{echo_work}
 
@@ -31,3 +32,17 @@ missing-table = refl
 pub open-table : first_fault echo_work false (codes "#\n") ≡ None
 unfolding first_fault
 open-table = refl
+
+-- a command that finds fault with every table
+abbrev tableless_work : Work
+tableless_work = record {
+  opened = λ table. Some NotToml;
+  told = λ table past line. Ok [];
+  refusal = λ line reason. [];
+}
+
+-- a faulty table is told at the line `---`, and begins with the input: no byte stands before it
+pub faulty-table : first_fault tableless_work false (codes "#\n---\n")
+    ≡ Some (record { line = 2; reason = NotToml; start = 0 })
+unfolding first_fault
+faulty-table = refl

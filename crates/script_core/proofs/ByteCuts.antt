@@ -3,7 +3,7 @@ use Rattle.std.proofs.Common.{◌≡◌, ◌==◌, ℕ, ◌+◌, ◌<◌, ◌≤
 use Rattle.std.proofs.lemmas.Bool.{cases_Bool}
 use Rattle.std.proofs.lemmas.Bool.Decides.{nat_tests}
 use Rattle.std.proofs.lemmas.Grind.{common_steps}
-use Rattle.std.proofs.lemmas.List.{drop-drop}
+use Rattle.std.proofs.lemmas.List.{drop-drop, take_all}
 use Rattle.std.proofs.lemmas.List.Splits.{slice_split_first, slice_split_none}
 use Rattle.std.proofs.lemmas.List.Sums.{fails_before_first}
 use Rattle.std.specs.List.{slice_split, position_or_len, position, before_first, after_first}
@@ -52,14 +52,11 @@ past_end c xs found =
       | inr outside ↦ grind (arith, nat_tests)
     ]
 
-take_whole : (n : ℕ) (xs : List ℕ) → length xs ≤ n → xs ≡ take n xs
-take_whole n xs past = grind (arith, common_steps)
-
 drop_whole : (n : ℕ) (xs : List ℕ) → length xs ≤ n → [] ≡ drop (n + 1) xs
 drop_whole n xs past = grind (arith, common_steps)
 
 pub front_none : (c : ℕ) (xs : List ℕ) → None ≡ position (λ b. b == c) xs → xs ≡ before_first (λ b. b == c) xs
-front_none c xs found = take_whole (position_or_len (λ b. b == c) xs) xs (past_end c xs found)
+front_none c xs found = sym (take_all (position_or_len (λ b. b == c) xs) xs (past_end c xs found))
 
 pub behind_none : (c : ℕ) (xs : List ℕ) → None ≡ position (λ b. b == c) xs → [] ≡ after_first (λ b. b == c) xs
 behind_none c xs found = drop_whole (position_or_len (λ b. b == c) xs) xs (past_end c xs found)

@@ -11,3 +11,4 @@ pub mod RadarRanges
 pub mod LineRanges
 pub mod PrintLines
 pub mod PrintLists
+pub mod DigitTexts

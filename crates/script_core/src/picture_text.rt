@@ -1,8 +1,9 @@
 //! The text of a picture.
-ghost use Rattle.std.specs.Prelude.{◌≡◌, ◌++◌, IfOk, OnOk, flat_map, map, string_bytes};
+ghost use Rattle.std.specs.Prelude.{◌≡◌, ◌++◌, IfOk, OnOk, flat_map, length, map, string_bytes};
 ghost use Rattle.picture_core.specs.Entry.{cells as cells_value, report as report_value};
 ghost use Rattle.picture_core.specs.Key.{radar_block, text_report};
 ghost use Rattle.picture_core.specs.Views.{entry_view};
+ghost use Rattle.radar_core.specs.Cells.{IsCells};
 ghost use Rattle.text_reports.specs.Views.{key_view};
 ghost use Rattle.script_core.specs.Printed.{cell_digits, entry_text, hemisphere_word, picture_text, shown_entry};
 
@@ -37,42 +38,52 @@ fn push_entries(alloc: Global, text: &mut String, entries: &[Entry]) -> Result<(
         ≡ string_bytes text.old ++ flat_map shown_entry (map entry_view entries.now)) }
 {
     for entry in entries {
-        text.push_str(entry_line(alloc, entry)?.as_str())?;
+        push_entry(alloc, text, entry)?;
     }
     Ok(())
 }
 
-fn entry_line(alloc: Global, entry: &Entry) -> Result<String, AllocError>
-    ensures { IfOk result (λ s. string_bytes s ≡ shown_entry (entry_view entry.now)) }
+/// Writes the line of an entry at the end of a text.
+fn push_entry(alloc: Global, text: &mut String, entry: &Entry) -> Result<(), AllocError>
+    ensures { OnOk result (string_bytes text.new
+        ≡ string_bytes text.old ++ shown_entry (entry_view entry.now)) }
 {
     match &entry.key {
         Key::Radar(key) => match &entry.value {
-            Shown::Cells(cells) => radar_line(alloc, key, entry.version, cells),
-            Shown::Text(_) => Ok(String::new(alloc)),
+            Shown::Cells(cells) => push_radar(text, key, entry.version, cells),
+            Shown::Text(_) => Ok(()),
         },
         Key::Text(key) => match &entry.value {
-            Shown::Cells(_) => Ok(String::new(alloc)),
-            Shown::Text(report) => text_line(alloc, key, entry.version, report),
+            Shown::Cells(_) => Ok(()),
+            Shown::Text(report) => {
+                text.push_str(text_line(alloc, key, entry.version, report)?.as_str())
+            }
         },
     }
 }
 
-fn radar_line(
-    alloc: Global,
+/// Writes the line of a block at the end of a text.
+fn push_radar(
+    text: &mut String,
     key: &BlockKey,
     version: Moment,
     cells: &Cells,
-) -> Result<String, AllocError>
-    ensures { IfOk result (λ s. string_bytes s
-        ≡ entry_text (radar_block key.now) version (cells_value cells.now)) }
+) -> Result<(), AllocError>
+    ensures { OnOk result (string_bytes text.new ≡ string_bytes text.old
+        ++ entry_text (radar_block key.now) version (cells_value cells.now)) }
 {
     let product = key.product;
     let scale = key.scale;
     let hemisphere = hemisphere_word(key.south);
     let number = key.number;
     let version = version.seconds();
-    let digits = cell_digits(alloc, cells)?;
-    format!(in alloc; "radar {product} {scale} {hemisphere} {number} {version} {digits}\n")
+    let mut digits = [0; CELLS];
+    put_digits(cells, &mut digits);
+    let digits = str::from_utf8(&digits).unwrap();
+    write!(
+        text,
+        "radar {product} {scale} {hemisphere} {number} {version} {digits}\n"
+    )
 }
 
 fn hemisphere_word(south: bool) -> &'static str
@@ -81,15 +92,15 @@ fn hemisphere_word(south: bool) -> &'static str
     if south { "s" } else { "n" }
 }
 
-/// The intensities of the cells, a digit each.
-fn cell_digits(alloc: Global, cells: &Cells) -> Result<String, AllocError>
-    ensures { IfOk result (λ s. string_bytes s ≡ cell_digits cells.now) }
+/// Writes the intensities of the cells, a digit each.
+fn put_digits(cells: &Cells, digits: &mut [u8])
+    requires { length digits.old ≡ 128 }
+    ensures digits { digits.new ≡ cell_digits cells.now }
+    ensures cells { IsCells cells.now }
 {
-    let mut digits = String::with_capacity(alloc, CELLS)?;
     for place in 0..CELLS {
-        digits.push(char::from(b'0' + cells.at(place)))?;
+        digits[place] = b'0' + cells.at(place);
     }
-    Ok(digits)
 }
 
 fn text_line(

@@ -11,12 +11,12 @@ use Rattle.std.proofs.lemmas.Bool.{cases_Bool, cond-true, cond-false}
 use Rattle.std.proofs.lemmas.List.Sums.{sum_by-cons}
 use Rattle.std.proofs.lemmas.Map.Entries.{length-values_of, sum_by-remove_entry}
 use Rattle.std.proofs.lemmas.Map.Keys.{sorted_head, sorted_tail}
-use Rattle.list_members.proofs.Ranges.{find_filter}
+use Rattle.list_members.specs.Ranges.{find_filter}
 use Rattle.apdu_core.specs.declared.unit.Seg.{Seg}
 use Rattle.uplink_frame.specs.Laws.{StationsAreTold}
 use Rattle.segment_core.specs.Arrival.{Arrival, is_piece, has_piece, other_numbers, whole_with, completes}
 use Rattle.segment_core.specs.Kept.{KeptPieces, kept_under, kept_piece, was_whole, piece_name, arrival_named}
-use Rattle.segment_core.specs.Kept.{fields_of, same_piece}
+use Rattle.segment_core.specs.Kept.{seg_of_name, same_piece}
 use Rattle.segment_core.specs.Store.{Store, StandsFor, is_in_life, is_in_life_at, live_answer}
 use Rattle.segment_core.specs.Bound.{AreNamedOnce, IsPurged, IsBounded, piece_size, live_arrivals, payload_made_whole}
 use Rattle.segment_core.specs.declared.piece_name.PieceName.{PieceName}
@@ -102,7 +102,7 @@ module _ (told : StationsAreTold) where
   weighed_one f g a came before es once fits None none =
       let rest : Fits f g came es = λ k v h.
       let found = fits k v h in
-      let other : is k k.number a ≡ false = ap (is_piece (arrival_named k) (fields_of k) k.number a) none in
+      let other : is k k.number a ≡ false = ap (is_piece (arrival_named k) (seg_of_name k) k.number a) none in
       (found.0, sym (cond-false (is k k.number a) (Some a) (first came k k.number) other) ∙ found.1, found.2) in
       let less = before es once rest in
       let more = sum_by-cons g a came in
@@ -139,7 +139,7 @@ module _ (told : StationsAreTold) where
       → is k k.number a ≡ true → is_in_life longest moment k.product k.version ≡ true
       → is_in_life longest moment a.product a.version ≡ true
   named_live longest moment k a None none is_k live =
-      let other : is k k.number a ≡ false = ap (is_piece (arrival_named k) (fields_of k) k.number a) none in
+      let other : is k k.number a ≡ false = ap (is_piece (arrival_named k) (seg_of_name k) k.number a) none in
       absurd (cc)
   named_live longest moment k a (Some s) seg is_k live =
       let same : k ≡ piece_name a s = same-is told k (piece_name a s) (sym (is-named k k.number a s seg) ∙ is_k) in

@@ -10,15 +10,15 @@ use Rattle.uplink_frame.specs.declared.station.StationId.{StationId}
 use Rattle.uplink_frame.specs.Laws.{StationsAreTold}
 use Rattle.apdu_core.specs.declared.unit.Seg.{Seg}
 use Rattle.list_members.specs.Membership.{IsIn}
-use Rattle.list_members.proofs.Members.{IsIn-before, IsIn-after, IsIn-either, IsIn-filter, IsIn-from_filter}
-use Rattle.list_members.proofs.ListMembers.{in_filter_map, filter_map_has, in_one}
+use Rattle.list_members.specs.Members.{IsIn-before, IsIn-after, IsIn-either, IsIn-filter, IsIn-from_filter}
+use Rattle.list_members.specs.ListMembers.{in_filter_map, filter_map_has, in_one}
 use Rattle.segment_core.specs.File.{File, is_segmented, parts_of, part_of, segmentation_of}
 use Rattle.segment_core.specs.Arrival.{Arrival, Whole, whole_with, joined_payload, other_numbers, completes}
 use Rattle.segment_core.specs.Arrival.{completed_after}
 use Rattle.segment_core.specs.Joining.{FileSegment, segment, arrival_of, whole_of, AreSent, HasAll, IsOfFile}
 use Rattle.segment_core.proofs.Parts.{parts-whole, are_parts}
-use Rattle.list_members.proofs.Ranges.{in_range, range_has, all_in, in_all, not_all_in}
-use Rattle.segment_core.proofs.Joined.{fields_of, segmentation-cut, segmentation-whole, has, IsOfSent, AreAmong, has-in}
+use Rattle.list_members.specs.Ranges.{in_range, range_has, all_in, in_all, not_all_in}
+use Rattle.segment_core.proofs.Joined.{seg_of_file, segmentation-cut, segmentation-whole, has, IsOfSent, AreAmong, has-in}
 use Rattle.segment_core.proofs.Joined.{in-has, joined-is}
 
 -- one more arrival, among those that were there
@@ -66,13 +66,13 @@ in-others s n there =
 -- the test by which a segment completes its file
 abbrev is_last_missing : List FileSegment → StationId → File → ℕ → Bool
 is_last_missing before station f number = not (has station f number before)
-    && list_all (λ (n : ℕ). has station f n before) (other_numbers (fields_of f number))
+    && list_all (λ (n : ℕ). has station f n before) (other_numbers (seg_of_file f number))
 
 -- what an arrival of segments makes whole
 abbrev joined_whole : List FileSegment → StationId → File → ℕ → Whole
 joined_whole before station f number = whole_with (arrival_of (segment station f number))
     (joined_payload (map arrival_of before ++ arrival_of (segment station f number) ∷ []) (arrival_of (segment station f 1))
-    (fields_of f 1))
+    (seg_of_file f 1))
 
 all_cut : (before : List FileSegment) (station : StationId) (f : File) (number : ℕ) (all : List FileSegment) → IsOfSent all station f
     → AreAmong before all → is_last_missing before station f number ≡ true
@@ -81,8 +81,8 @@ all_cut before station f number all of_sent among test n least most = elim (case
   | inl e ↦ IsIn-after _ before (segment station f number ∷ []) (inl (ap (segment station f) e))
   | inr other ↦ IsIn-before _ before (segment station f number ∷ [])
       (has-in all station f n before of_sent among
-      (all_in _ n (other_numbers (fields_of f number))
-      (and_parts _ _ test).1 (others-in (fields_of f number) n least most other)))
+      (all_in _ n (other_numbers (seg_of_file f number))
+      (and_parts _ _ test).1 (others-in (seg_of_file f number) n least most other)))
 ]
 
 joined_whole-is : (before : List FileSegment) (station : StationId) (f : File) (number : ℕ) (all : List FileSegment) → IsOfSent all station f
@@ -93,14 +93,14 @@ joined_whole-is before station f number all of_sent among has_all =
     ≡ map arrival_of before ++ arrival_of (segment station f number) ∷ [] =
     map-append arrival_of before (segment station f number ∷ []) in
     ap (whole_with (arrival_of (segment station f number)))
-    (ap (λ (arrived : List Arrival). joined_payload arrived (arrival_of (segment station f 1)) (fields_of f 1)) (sym moved)
+    (ap (λ (arrived : List Arrival). joined_payload arrived (arrival_of (segment station f 1)) (seg_of_file f 1)) (sym moved)
     ∙ joined-is all station f (before ++ segment station f number ∷ []) of_sent among has_all)
 
 -- what a segment of a file that is cut completes: that file, where it has all
 joined_whole_only : (before : List FileSegment) (station : StationId) (f : File) (number : ℕ) (all : List FileSegment) (w : Whole)
     → IsOfSent all station f
     → AreAmong (before ++ segment station f number ∷ []) all
-    → completes (map arrival_of before) (arrival_of (segment station f number)) (Some (fields_of f number)) ≡ Some w
+    → completes (map arrival_of before) (arrival_of (segment station f number)) (Some (seg_of_file f number)) ≡ Some w
     → (w ≡ whole_of f) × HasAll (before ++ segment station f number ∷ []) station f
 joined_whole_only before station f number all w of_sent among is = elim (cases_Bool (is_last_missing before station f number)) [
   | inl test ↦
@@ -121,12 +121,12 @@ joined_whole_only before station f number all w of_sent among is = elim (cases_B
 made_whole : (before : List FileSegment) (station : StationId) (f : File) (number : ℕ) (all : List FileSegment) → IsOfSent all station f
     → AreAmong (before ++ segment station f number ∷ []) all → HasAll (before ++ segment station f number ∷ []) station f
     → has station f number before ≡ false
-    → completes (map arrival_of before) (arrival_of (segment station f number)) (Some (fields_of f number)) ≡ Some (whole_of f)
+    → completes (map arrival_of before) (arrival_of (segment station f number)) (Some (seg_of_file f number)) ≡ Some (whole_of f)
 made_whole before station f number all of_sent among has_all new =
     let before_in : AreAmong before all = λ s there. among s (IsIn-before s before (segment station f number ∷ []) there) in
-    let others : list_all (λ (n : ℕ). has station f n before) (other_numbers (fields_of f number)) ≡ true =
-    in_all (λ (n : ℕ). has station f n before) (other_numbers (fields_of f number)) (λ n there.
-    let o = in-others (fields_of f number) n there in
+    let others : list_all (λ (n : ℕ). has station f n before) (other_numbers (seg_of_file f number)) ≡ true =
+    in_all (λ (n : ℕ). has station f n before) (other_numbers (seg_of_file f number)) (λ n there.
+    let o = in-others (seg_of_file f number) n there in
     in-has all station f n before of_sent (elim (IsIn-either _ before (segment station f number ∷ []) (has_all n o.0 o.1)) [
       | inl old ↦ old
       | inr now ↦ absurd (o.2 (ap (λ (s : FileSegment). s.number) (in_one _ _ now)))

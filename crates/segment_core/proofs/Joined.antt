@@ -13,27 +13,27 @@ use Rattle.segment_core.specs.File.{File, is_segmented, parts_of, part_of, segme
 use Rattle.segment_core.specs.Arrival.{same_file, is_piece, first_piece, has_piece, bytes_of_piece, joined_payload}
 use Rattle.segment_core.specs.Joining.{FileSegment, segment, arrival_of, AreApart, HasAll}
 use Rattle.segment_core.proofs.Parts.{are_parts}
-use Rattle.list_members.proofs.Ranges.{in_range, flat_map_same}
+use Rattle.list_members.specs.Ranges.{in_range, flat_map_same}
 use Rattle.segment_core.proofs.Ranges.{read_all}
 
 -- the fields of a segment of a payload that is cut
-abbrev pub fields_of : File → ℕ → Seg
-fields_of f number = record { file = f.number; count = length (parts_of f); number = number }
+abbrev pub seg_of_file : File → ℕ → Seg
+seg_of_file f number = record { file = f.number; count = length (parts_of f); number = number }
 
 pub segmentation-cut : (f : File) (number : ℕ) → is_segmented f.form f.payload ≡ true → segmentation_of f number
-    ≡ Some (fields_of f number)
-segmentation-cut f number cut = cond-true (is_segmented f.form f.payload) (Some (fields_of f number)) None cut
+    ≡ Some (seg_of_file f number)
+segmentation-cut f number cut = cond-true (is_segmented f.form f.payload) (Some (seg_of_file f number)) None cut
 
 pub segmentation-whole : (f : File) (number : ℕ) → is_segmented f.form f.payload ≡ false → segmentation_of f number ≡ None
-segmentation-whole f number whole = cond-false (is_segmented f.form f.payload) (Some (fields_of f number)) None whole
+segmentation-whole f number whole = cond-false (is_segmented f.form f.payload) (Some (seg_of_file f number)) None whole
 
 -- whether a segment is a piece of a file, and whether one of these is
 abbrev pub is_of : StationId → File → ℕ → FileSegment → Bool
-is_of station f number s = is_piece (arrival_of (segment station f 1)) (fields_of f 1) number (arrival_of s)
+is_of station f number s = is_piece (arrival_of (segment station f 1)) (seg_of_file f 1) number (arrival_of s)
     (segmentation_of s.file s.number)
 
 abbrev pub has : StationId → File → ℕ → List FileSegment → Bool
-has station f number xs = has_piece (map arrival_of xs) (arrival_of (segment station f 1)) (fields_of f 1) number
+has station f number xs = has_piece (map arrival_of xs) (arrival_of (segment station f 1)) (seg_of_file f 1) number
 
 -- the file is one of those of which segments are sent, and it is cut
 pub record IsOfSent (all : List FileSegment) (station : StationId) (f : File) : Type 0 where
@@ -56,10 +56,10 @@ pub piece-is : (all : List FileSegment) (station : StationId) (f : File) (number
 piece-is all station f number s of_sent there is = elim (cases_Bool (is_segmented s.file.form s.file.payload)) [
   | inl cut ↦
       let fields = segmentation-cut s.file s.number cut in
-      let test : (same_file (arrival_of (segment station f 1)) (fields_of f 1) (arrival_of s)
-      (fields_of s.file s.number) && (s.number == number)) ≡ true =
+      let test : (same_file (arrival_of (segment station f 1)) (seg_of_file f 1) (arrival_of s)
+      (seg_of_file s.file s.number) && (s.number == number)) ≡ true =
       subst (λ (o : Option Seg). is_piece (arrival_of (segment station f 1))
-      (fields_of f 1) number (arrival_of s) o ≡ true) fields is in
+      (seg_of_file f 1) number (arrival_of s) o ≡ true) fields is in
       let both = and_parts _ _ test in
       let four = and_parts _ _ both.0 in
       let three = and_parts _ _ four.0 in
@@ -73,7 +73,7 @@ piece-is all station f number s of_sent there is = elim (cases_Bool (is_segmente
       let none = segmentation-whole s.file s.number whole in
       let test : false ≡ true =
       subst (λ (o : Option Seg). is_piece (arrival_of (segment station f 1))
-      (fields_of f 1) number (arrival_of s) o ≡ true) none is in
+      (seg_of_file f 1) number (arrival_of s) o ≡ true) none is in
       absurd (cc)
 ]
 
@@ -81,7 +81,7 @@ pub is_piece-of : (all : List FileSegment) (station : StationId) (f : File) (num
     → is_of station f number (segment station f number) ≡ true
 is_piece-of all station f number of_sent =
     subst (λ (o : Option Seg). is_piece (arrival_of (segment station f 1))
-    (fields_of f 1) number (arrival_of (segment station f number)) o ≡ true)
+    (seg_of_file f 1) number (arrival_of (segment station f number)) o ≡ true)
     (sym (segmentation-cut f number of_sent.cut))
     (and_from _ _ (and_from _ _ (and_from _ _ (and_from _ _ (and_from _ _
     ((of_sent.told station station).1 refl) (eq-eqb f.product f.product refl)) (eq-eqb f.version f.version refl))
@@ -111,14 +111,14 @@ in-has all station f number (x ∷ xs) of_sent (inr h) =
 -- the first piece of a number carries that part
 pub first-is : (all : List FileSegment) (station : StationId) (f : File) (number : ℕ) (xs : List FileSegment) → IsOfSent all station f
     → AreAmong xs all → IsIn (segment station f number) xs
-    → bytes_of_piece (first_piece (map arrival_of xs) (arrival_of (segment station f 1)) (fields_of f 1) number)
+    → bytes_of_piece (first_piece (map arrival_of xs) (arrival_of (segment station f 1)) (seg_of_file f 1) number)
     ≡ part_of f number
 first-is all station f number [] of_sent among h = absurd h
 first-is all station f number (x ∷ xs) of_sent among h = elim (cases_Bool (is_of station f number x)) [
   | inl here ↦
       let e : x ≡ segment station f number = piece-is all station f number x of_sent (among x (inl refl)) here in
       ap bytes_of_piece (cond-true (is_of station f number x) (Some (arrival_of x)) (first_piece (map arrival_of xs)
-      (arrival_of (segment station f 1)) (fields_of f 1) number) here)
+      (arrival_of (segment station f 1)) (seg_of_file f 1) number) here)
       ∙ ap (λ (s : FileSegment). part_of s.file s.number) e
   | inr other ↦
       let later : IsIn (segment station f number) xs = elim h [
@@ -129,14 +129,14 @@ first-is all station f number (x ∷ xs) of_sent among h = elim (cases_Bool (is_
         | inr there ↦ there
       ] in
       ap bytes_of_piece (cond-false (is_of station f number x) (Some (arrival_of x)) (first_piece (map arrival_of xs)
-      (arrival_of (segment station f 1)) (fields_of f 1) number) other)
+      (arrival_of (segment station f 1)) (seg_of_file f 1) number) other)
       ∙ first-is all station f number xs of_sent (λ s there. among s (inr there)) later
 ]
 
 -- all of them joined are the payload
 pub joined-is : (all : List FileSegment) (station : StationId) (f : File) (xs : List FileSegment) → IsOfSent all station f
     → AreAmong xs all → HasAll xs station f
-    → joined_payload (map arrival_of xs) (arrival_of (segment station f 1)) (fields_of f 1) ≡ f.payload
+    → joined_payload (map arrival_of xs) (arrival_of (segment station f 1)) (seg_of_file f 1) ≡ f.payload
 joined-is all station f xs of_sent among has_all =
     flat_map_same _ (part_of f) (range_with_len 1 (length (parts_of f))) (λ n there.
     let within = in_range n 1 (length (parts_of f)) there in

@@ -13,8 +13,8 @@ use Rattle.std.proofs.lemmas.Bool.{cases_Bool, and_parts, and_from}
 use Rattle.std.proofs.lemmas.Bool.{eqb-true, eq-eqb, leb-true, le-leb}
 use Rattle.std.proofs.lemmas.Bool.{false_from_ne_true}
 use Rattle.std.proofs.Math.Bool.{and_assoc}
-use Rattle.list_members.proofs.ListMembers.{any_in, in_any}
-use Rattle.list_members.proofs.Tests.{tied_numbers}
+use Rattle.list_members.specs.ListMembers.{any_in, in_any}
+use Rattle.list_members.specs.Tests.{tied_numbers}
 use Rattle.uplink_frame.specs.Station.{same_flag}
 use Rattle.uplink_frame.specs.Laws.{StationsAreTold}
 use Rattle.undo_map.specs.Marked.{with_all}
@@ -22,7 +22,7 @@ use Rattle.segment_core.specs.Kept.{KeptPieces, kept_under, same_piece, with_num
 use Rattle.segment_core.specs.HeldPieces.{is_number_of, others_held, held_with}
 use Rattle.segment_core.specs.declared.piece_name.PieceName.{PieceName}
 use Rattle.segment_core.specs.contracts.piece_name.PieceNameOrd.TheImpl as order
-use Rattle.list_members.proofs.Ranges.{in_range, range_has}
+use Rattle.list_members.specs.Ranges.{in_range, range_has}
 
 pub bool_same : (a b : Bool) → (a ≡ true → b ≡ true) → (b ≡ true → a ≡ true) → a ≡ b
 bool_same true b f g = sym (f refl)

@@ -3,28 +3,33 @@ use Rattle.std.proofs.Common.{◌≡◌, ℕ, Bool, ◌+◌, ◌≤◌, ◌&&◌
 use Rattle.std.proofs.Common.{◌∙◌, inl, inr, nat_le}
 use Rattle.std.specs.BTreeMap.{is_at}
 use Rattle.std.specs.List.{AllByRecursion}
-use Rattle.std.specs.Map.{remove_entry}
+use Rattle.std.specs.Map.{lookup, remove_entry}
 use Rattle.std.specs.Ordering.{is_eq}
-use Rattle.std.proofs.lemmas.Bool.{and_parts, cases_Bool, cond-true, leb-true, le-leb}
+use Rattle.std.proofs.lemmas.Bool.{and_from, and_parts, cases_Bool, cond-true, leb-true, le-leb}
 use Rattle.std.proofs.lemmas.Bool.Decides.{eqb_tells}
-use Rattle.list_members.proofs.Ranges.{all_in}
-use Rattle.undo_map.specs.Ends.{HasAdded, HasLeft, KeepsPlaces, PlacesStay, has_place_by}
-use Rattle.undo_map.specs.Marked.{Marked}
+use Rattle.list_members.specs.Ranges.{all_in}
+use Rattle.undo_map.specs.Ends.{HasAdded, HasLeft, KeepsPlaces, has_place_by}
 use Rattle.uplink_frame.specs.Laws.{StationsAreTold}
 use Rattle.segment_core.specs.Arrival.{other_numbers}
-use Rattle.segment_core.specs.Ends.{MarkedPiecesHavePlaces, PiecesHavePlaces, stale_from}
+use Rattle.segment_core.specs.Ends.{PiecesHavePlaces}
 use Rattle.segment_core.specs.HeldPieces.{held_with, is_held, is_number_of, others_held}
-use Rattle.segment_core.specs.Kept.{KeptPieces, fields_of, kept_under, same_piece, with_number}
+use Rattle.segment_core.specs.Kept.{IsNumbered, KeptPieces, seg_of_name, kept_under, same_piece, with_number}
 use Rattle.segment_core.specs.Store.{is_in_life, live_pieces, longest_of}
 use Rattle.segment_core.specs.contracts.piece_name.PieceNameOrd.TheImpl as order
 use Rattle.segment_core.specs.declared.piece_name.PieceName.{PieceName}
 use Rattle.segment_core.specs.declared.arrived.Longest.{Longest}
 use Rattle.segment_core.proofs.Bounded.{same-turned}
 use Rattle.segment_core.proofs.Completed.{others-in}
-use Rattle.segment_core.proofs.PieceNames.{agrees, same-is, same-self}
+use Rattle.segment_core.proofs.PieceNames.{agrees, kept-found, same-is, same-self}
 
-abbrev pub MarkedPieces : Type 0
-MarkedPieces = Marked PieceName (Option (List ℕ))
+none-is : {X : Type 0} (o : Option X) → is_some o ≡ false → o ≡ None
+none-is None none = refl
+none-is (Some x) none = absurd (cc)
+
+-- by the order of the names nothing is held, and something
+pub absent-found : (name : PieceName) (pieces : KeptPieces) → is_some (kept_under pieces name) ≡ false
+    → lookup (is_at (order.ghosts.cmp name)) pieces ≡ None
+absent-found name pieces absent = kept-found name pieces ∙ none-is (kept_under pieces name) absent
 
 -- what is held in the other entries
 held-later : (e : PieceName × Option (List ℕ)) (es : KeptPieces) (q : PieceName) → is_some (kept_under es q) ≡ true
@@ -81,6 +86,16 @@ module _ (told : StationsAreTold) where
       added (λ place. is_eq (order.ghosts.cmp place.1 name) && nat_le place.0 (name.version + longest_of longest name.product))
       (rw own (le-leb end (name.version + longest_of longest name.product) before))
 
+  -- a segment that makes its file whole is held with it
+  pub own-held : (pieces later : KeptPieces) (name : PieceName) (payload : List ℕ) → IsNumbered name
+      → is_some (kept_under pieces name) ≡ false → others_held pieces name ≡ true
+      → kept_under later name ≡ held_with pieces name payload name
+      → is_some (lookup (is_at (order.ghosts.cmp name)) later) ≡ true
+  own-held pieces later name payload numbered fresh others becomes =
+      let own : is_number_of name name ≡ true =
+      and_from _ _ (and_from _ _ (same-self told name) (le-leb 1 name.number numbered.0)) (le-leb name.number name.count numbered.1) in
+      ap is_some (kept-found name later ∙ becomes) ∙ rw (fresh, others, own) refl
+
   -- what holds of a name, and of each that was held, holds of each that is held with it
   each-with : (P : PieceName → Type 0) (pieces : KeptPieces) (name q : PieceName) (payload : List ℕ) → P name
       → ((k : PieceName) → is_some (kept_under pieces k) ≡ true → P k)
@@ -96,10 +111,10 @@ module _ (told : StationsAreTold) where
             subst P (sym same) (elim (eqb_tells q.number name.number) [
               | inl this ↦ subst P (sym (ap (with_number name) this.1)) own
               | inr other ↦
-                  let there = others-in (fields_of name) q.number (leb-true 1 q.number parts.1) (leb-true q.number name.count both.1)
+                  let there = others-in (seg_of_name name) q.number (leb-true 1 q.number parts.1) (leb-true q.number name.count both.1)
                   other.1 in
                   before (with_number name q.number)
-                  (all_in (is_held pieces name) q.number (other_numbers (fields_of name)) all there)
+                  (all_in (is_held pieces name) q.number (other_numbers (seg_of_name name)) all there)
             ])
         | inr not ↦ before q (let was = rw (new, all, not) at some in was)
       ]
@@ -164,30 +179,3 @@ module _ (told : StationsAreTold) where
             (other-left longest end name q old left taken other
             (each-held (λ k. has_place longest old k ≡ true) pieces placed q some))
       ])
-
-pub marked-taken : PlacesStay PieceName (Option (List ℕ)) → (longest : Longest) (before places : List (ℕ × PieceName))
-    (old new : MarkedPieces) → KeepsPlaces before places → new.mark ≡ old.mark → PiecesHavePlaces longest places new.entries
-    → MarkedPiecesHavePlaces longest before old → MarkedPiecesHavePlaces longest places new
-marked-taken stay longest before places old new kept mark now all = (
-  now,
-  λ es is. stay order.ghosts.cmp (stale_from longest) before places es kept (all.1 es (sym mark ∙ is)),
-)
-
-pub marked-alone : (longest : Longest) (places : List (ℕ × PieceName)) (new : MarkedPieces) → new.mark ≡ None
-    → PiecesHavePlaces longest places new.entries → MarkedPiecesHavePlaces longest places new
-marked-alone longest places new mark all = (all, λ es is. let none : None ≡ Some es = sym mark ∙ is in cc none)
-
--- a mark that is set at the pieces, and one that is let go
-pub marked-mark : (longest : Longest) (places : List (ℕ × PieceName)) (old new : MarkedPieces)
-    → new ≡ record old { mark = Some old.entries }
-    → MarkedPiecesHavePlaces longest places old → MarkedPiecesHavePlaces longest places new
-marked-mark longest places old new is all =
-    subst (MarkedPiecesHavePlaces longest places) (sym is) (
-      all.0,
-      λ es here. let same : old.entries ≡ es = cc in subst (PiecesHavePlaces longest places) same all.0,
-    )
-
-pub marked-settle : (longest : Longest) (places : List (ℕ × PieceName)) (old new : MarkedPieces)
-    → new ≡ record old { mark = None } → MarkedPiecesHavePlaces longest places old → MarkedPiecesHavePlaces longest places new
-marked-settle longest places old new is all =
-    subst (MarkedPiecesHavePlaces longest places) (sym is) (all.0, λ es none. cc none)

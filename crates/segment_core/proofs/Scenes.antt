@@ -54,8 +54,8 @@ pub other_bytes : whole_payloads (piece 100 2 2 (0xBB ∷ []) ∷ piece 100 2 2 
 other_bytes = refl
 
 -- a payload without segment fields is whole each time that it arrives
-abbrev unsegmented : Arrival
-unsegmented = record { station = no_station; product = 413; version = 100; segmentation = None; payload = 0xEE ∷ [] }
+abbrev whole_arrival : Arrival
+whole_arrival = record { station = no_station; product = 413; version = 100; segmentation = None; payload = 0xEE ∷ [] }
 
-pub whole_again : whole_payloads (unsegmented ∷ unsegmented ∷ []) ≡ whole 100 (0xEE ∷ []) ∷ whole 100 (0xEE ∷ []) ∷ []
+pub whole_again : whole_payloads (whole_arrival ∷ whole_arrival ∷ []) ≡ whole 100 (0xEE ∷ []) ∷ whole 100 (0xEE ∷ []) ∷ []
 whole_again = refl

@@ -14,14 +14,14 @@ use Rattle.uplink_frame.specs.Station.{same_station}
 use Rattle.uplink_frame.specs.Laws.{StationsAreTold}
 use Rattle.segment_core.specs.Arrival.{Arrival, is_piece, first_piece, has_piece, bytes_of_piece, joined_payload, other_numbers}
 use Rattle.segment_core.specs.Kept.{KeptPieces, IsNumbered, kept_under, kept_of, kept_piece, was_whole, with_number, piece_name}
-use Rattle.segment_core.specs.Kept.{arrival_named, fields_of, same_piece}
+use Rattle.segment_core.specs.Kept.{arrival_named, seg_of_name, same_piece}
 use Rattle.segment_core.specs.HeldPieces.{is_held, others_held, bytes_at, held_bytes, joined_held, held_answer}
 use Rattle.segment_core.specs.HeldPieces.{held_with, is_number_of}
 use Rattle.segment_core.specs.Store.{live_answer}
 use Rattle.segment_core.specs.declared.piece_name.PieceName.{PieceName}
 use Rattle.segment_core.specs.declared.arrived.Taken.TheVariants.{Whole}
-use Rattle.list_members.proofs.Ranges.{in_range, range_has, all_in, in_all, not_all, not_all_in, list_all_same, flat_map_same}
-use Rattle.list_members.proofs.Tests.{none_from, mapped_some, or_none}
+use Rattle.list_members.specs.Ranges.{in_range, range_has, all_in, in_all, not_all, not_all_in, list_all_same, flat_map_same}
+use Rattle.list_members.specs.Tests.{none_from, mapped_some, or_none}
 use Rattle.segment_core.proofs.Completed.{in-others, others-in}
 use Rattle.segment_core.proofs.PieceNames.{bool_same, same-is, same-self}
 
@@ -39,13 +39,13 @@ alone_kept (Some x) e = refl
 
 -- whether a piece of this number has arrived, the first such, and whether an arrival is one
 abbrev pub has : List Arrival → PieceName → ℕ → Bool
-has xs q n = has_piece xs (arrival_named q) (fields_of q) n
+has xs q n = has_piece xs (arrival_named q) (seg_of_name q) n
 
 abbrev pub first : List Arrival → PieceName → ℕ → Option Arrival
-first xs q n = first_piece xs (arrival_named q) (fields_of q) n
+first xs q n = first_piece xs (arrival_named q) (seg_of_name q) n
 
 abbrev pub is : PieceName → ℕ → Arrival → Bool
-is q n a = is_piece (arrival_named q) (fields_of q) n a a.segmentation
+is q n a = is_piece (arrival_named q) (seg_of_name q) n a a.segmentation
 
 has-first : (xs : List Arrival) (q : PieceName) (n : ℕ) → is_some (first xs q n) ≡ has xs q n
 has-first xs q n = found_some (is q n) xs
@@ -69,7 +69,7 @@ same_file_as q a s = same_station q.station a.station && (q.product == a.product
 pub is-named : (q : PieceName) (n : ℕ) (a : Arrival) (s : Seg) → a.segmentation ≡ Some s → is q n a
     ≡ same_piece (with_number q n) (piece_name a s)
 is-named q n a s seg =
-    ap (is_piece (arrival_named q) (fields_of q) n a) seg
+    ap (is_piece (arrival_named q) (seg_of_name q) n a) seg
     ∙ ap (λ (b : Bool). same_file_as q a s && b) (same_number s.number n)
 
 -- what is kept, where neither the first piece nor the whole changes

@@ -7,7 +7,7 @@ use Rattle.std.proofs.lemmas.Map.Entries.{lookup-filter-keys}
 use Rattle.apdu_core.specs.declared.unit.Seg.{Seg}
 use Rattle.uplink_frame.specs.Laws.{StationsAreTold}
 use Rattle.segment_core.specs.Arrival.{Arrival, is_piece}
-use Rattle.segment_core.specs.Kept.{KeptPieces, IsNumbered, kept_under, kept_of, with_number, piece_name, arrival_named, fields_of}
+use Rattle.segment_core.specs.Kept.{KeptPieces, IsNumbered, kept_under, kept_of, with_number, piece_name, arrival_named, seg_of_name}
 use Rattle.segment_core.specs.Kept.{same_piece}
 use Rattle.segment_core.specs.HeldPieces.{others_held, held_with, is_number_of, held_answer, arrival_answer, held_after}
 use Rattle.segment_core.specs.Store.{Store, StandsFor, IsNotBefore, FitsFile, live_answer, answer_of, taken_with}
@@ -47,7 +47,7 @@ pub stands-whole : (longest : Longest) (clock : Option ℕ) (moment : ℕ) (piec
 stands-whole longest clock moment pieces taken a none after stands = record {
   keeps = λ name number live.
       stands.keeps name number (earlier-live longest clock moment name after live)
-      ∙ sym (kept_other taken a name (λ n. ap (is_piece (arrival_named name) (fields_of name) n a) none));
+      ∙ sym (kept_other taken a name (λ n. ap (is_piece (arrival_named name) (seg_of_name name) n a) none));
   numbered = stands.numbered;
 }
 

@@ -1,6 +1,6 @@
 -- The queue in which the names that are held stand by the second from which on their file is stale.
 use Rattle.std.specs.Prelude.{ℕ, ◌+◌, List, Option}
-use Rattle.undo_map.specs.Ends.{HaveMarkedPlacesBy, HavePlacesBy}
+use Rattle.undo_map.specs.Ends.{HavePlacesBy, IsQueueOf, Queue}
 use Rattle.undo_map.specs.Marked.{Marked}
 use Rattle.segment_core.specs.Kept.{KeptPieces}
 use Rattle.segment_core.specs.Store.{longest_of}
@@ -17,8 +17,7 @@ abbrev pub PiecesHavePlaces : Longest → List (ℕ × PieceName) → KeptPieces
 PiecesHavePlaces longest places pieces =
     HavePlacesBy order.ghosts.cmp (stale_from longest) places pieces
 
--- the same at the mark too
-abbrev pub MarkedPiecesHavePlaces : Longest → List (ℕ × PieceName)
-    → Marked PieceName (Option (List ℕ)) → Type 0
-MarkedPiecesHavePlaces longest places marked =
-    HaveMarkedPlacesBy order.ghosts.cmp (stale_from longest) places marked
+-- so it is, at the mark too, and there are no more places than names
+abbrev pub IsQueueOfPieces : Longest → Queue PieceName → Marked PieceName (Option (List ℕ)) → Type 0
+IsQueueOfPieces longest queue marked =
+    IsQueueOf order.ghosts.cmp (stale_from longest) queue marked

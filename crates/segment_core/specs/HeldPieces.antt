@@ -4,7 +4,7 @@ use Rattle.std.specs.Prelude.{Option, Some, None, is_some}
 use Rattle.std.specs.List.{list_all, range_with_len}
 use Rattle.apdu_core.specs.declared.unit.Seg.{Seg}
 use Rattle.segment_core.specs.Arrival.{Arrival, other_numbers}
-use Rattle.segment_core.specs.Kept.{KeptPieces, kept_under, with_number, piece_name, fields_of}
+use Rattle.segment_core.specs.Kept.{KeptPieces, kept_under, with_number, piece_name, seg_of_name}
 use Rattle.segment_core.specs.Kept.{same_piece}
 use Rattle.segment_core.specs.declared.piece_name.PieceName.{PieceName}
 use Rattle.segment_core.specs.declared.arrived.Taken.{Taken}
@@ -14,7 +14,7 @@ abbrev pub is_held : KeptPieces → PieceName → ℕ → Bool
 is_held pieces name number = is_some (kept_under pieces (with_number name number))
 
 abbrev pub others_held : KeptPieces → PieceName → Bool
-others_held pieces name = list_all (is_held pieces name) (other_numbers (fields_of name))
+others_held pieces name = list_all (is_held pieces name) (other_numbers (seg_of_name name))
 
 abbrev pub held_bytes : Option (Option (List ℕ)) → List ℕ
 held_bytes None = []

@@ -30,8 +30,8 @@ with_number name number = record {
   number = number;
 }
 
-abbrev pub fields_of : PieceName → Seg
-fields_of name = record { file = name.file; count = name.count; number = name.number }
+abbrev pub seg_of_name : PieceName → Seg
+seg_of_name name = record { file = name.file; count = name.count; number = name.number }
 
 -- an arrival of this name
 abbrev pub arrival_named : PieceName → Arrival
@@ -39,7 +39,7 @@ arrival_named name = record {
   station = name.station;
   product = name.product;
   version = name.version;
-  segmentation = Some (fields_of name);
+  segmentation = Some (seg_of_name name);
   payload = [];
 }
 
@@ -62,7 +62,7 @@ kept_under pieces name = lookup (same_piece name) pieces
 -- each number of the file has arrived
 abbrev pub was_whole : List Arrival → PieceName → Bool
 was_whole taken name =
-    list_all (has_piece taken (arrival_named name) (fields_of name)) (range_with_len 1 name.count)
+    list_all (has_piece taken (arrival_named name) (seg_of_name name)) (range_with_len 1 name.count)
 
 abbrev pub kept_piece : Bool → Arrival → Option (List ℕ)
 kept_piece is_whole a = if is_whole then None else Some a.payload
@@ -71,4 +71,4 @@ kept_piece is_whole a = if is_whole then None else Some a.payload
 abbrev pub kept_of : List Arrival → PieceName → Option (Option (List ℕ))
 kept_of taken name =
     option_map (kept_piece (was_whole taken name)) (first_piece taken (arrival_named name)
-    (fields_of name) name.number)
+    (seg_of_name name) name.number)

@@ -1,7 +1,7 @@
 //! The pieces that are held, and what a segment brings among them.
 ghost use Rattle.std.specs.Prelude.{◌≡◌, ℕ, ◌+◌, ◌-◌, ◌^◌, ◌<◌, ◌≤◌, List, IfOk, OnErr, None, map};
-ghost use Rattle.std.specs.Prelude.{is_some};
-ghost use Rattle.undo_map.specs.Ends.{HasLeft, KeepsPlaces, due_places};
+ghost use Rattle.std.specs.Prelude.{is_some, length};
+ghost use Rattle.undo_map.specs.Ends.{HasLeft, all_places, due_places, place_count};
 ghost use Rattle.std.specs.List.{range_with_len};
 ghost use Rattle.std.specs.Option.{option_copied};
 ghost use Rattle.segment_core.specs.Bound.{AreNamedOnce};
@@ -42,9 +42,11 @@ pub(crate) fn take_live(
         arrived.now.seg other) }
     ensures mark { pieces.new.mark ≡ pieces.old.mark }
     ensures err { OnErr result (pieces.new ≡ pieces.old) }
-    ensures kept { KeepsPlaces ends.old.places ends.new.places }
-    ensures placed { PiecesHavePlaces longest.now ends.old.places pieces.old.entries
-        → PiecesHavePlaces longest.now ends.new.places pieces.new.entries }
+    ensures kept { ends.new.places ≡ ends.old.places }
+    ensures placed { PiecesHavePlaces longest.now (all_places ends.old) pieces.old.entries
+        → PiecesHavePlaces longest.now (all_places ends.new) pieces.new.entries }
+    ensures few { place_count ends.new + length pieces.old.entries
+        ≤ place_count ends.old + length pieces.new.entries }
 {
     match arrived.seg {
         None => {
@@ -76,22 +78,27 @@ fn take_piece(
         kept_under pieces.new.entries other ≡ held_with pieces.old.entries name payload.now other) }
     ensures mark { pieces.new.mark ≡ pieces.old.mark }
     ensures err { OnErr result (pieces.new ≡ pieces.old) }
-    ensures kept { KeepsPlaces ends.old.places ends.new.places }
-    ensures placed { PiecesHavePlaces longest.now ends.old.places pieces.old.entries
-        → PiecesHavePlaces longest.now ends.new.places pieces.new.entries }
+    ensures kept { ends.new.places ≡ ends.old.places }
+    ensures placed { PiecesHavePlaces longest.now (all_places ends.old) pieces.old.entries
+        → PiecesHavePlaces longest.now (all_places ends.new) pieces.new.entries }
+    ensures few { place_count ends.new + length pieces.old.entries
+        ≤ place_count ends.old + length pieces.new.entries }
 {
     stations_are_told();
     if is_held(pieces, &name) {
         return Ok(Taken::Again);
     }
-    ends.add(end_of(longest, name.product, name.version), name)?;
+    ends.reserve()?;
+    let end = end_of(longest, name.product, name.version);
     if are_others_held(pieces, &name) {
         let whole = join_pieces(alloc, pieces, &name, payload)?;
         pieces.write_all(numbers_alone(alloc, &name)?)?;
+        ends.add(end, name);
         Ok(Taken::Whole(Bytes::of(whole)))
     } else {
         let bytes = copy_of(alloc, payload)?;
         pieces.write(name, Some(bytes))?;
+        ends.add(end, name);
         Ok(Taken::Waits)
     }
 }
@@ -234,10 +241,13 @@ pub(crate) fn drop_stale(
 )
     requires unmarked { pieces.old.mark ≡ None }
     requires placed { PiecesHavePlaces longest.now ends.old.places pieces.old.entries }
+    requires few { length ends.old.places ≤ length pieces.old.entries }
     ensures pieces { pieces.new.entries ≡ live_pieces longest.now moment pieces.old.entries }
     ensures once { AreNamedOnce pieces.new.entries }
     ensures mark { pieces.new.mark ≡ None }
     ensures placed { PiecesHavePlaces longest.now ends.new.places pieces.new.entries }
+    ensures few { length ends.new.places ≤ length pieces.new.entries }
+    ensures added { ends.new.added ≡ ends.old.added }
 {
     let now = moment.seconds();
     while let Some((_, name)) = ends.take_ended(now) {
@@ -265,7 +275,10 @@ fn drop_name(
         → HasLeft (end, name) before ends.old.places
         → PiecesHavePlaces longest.now before pieces.old.entries
         → PiecesHavePlaces longest.now ends.new.places pieces.new.entries }
+    ensures few { length ends.old.places + 1 ≤ length pieces.old.entries
+        → length ends.new.places ≤ length pieces.new.entries }
     ensures due { due_places moment ends.new.places ≡ due_places moment ends.old.places }
+    ensures added { ends.new.added ≡ ends.old.added }
 {
     stations_are_told();
     if is_in_life(longest, moment, name.product, name.version) {

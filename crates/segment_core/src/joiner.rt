@@ -1,5 +1,5 @@
 //! Joins segments as they arrive, and forgets what is stale.
-ghost use Rattle.std.specs.Prelude.{◌≡◌, IfOk, IsSome, List, None, OnErr, OnOk, Some, [], true};
+ghost use Rattle.std.specs.Prelude.{◌≡◌, ◌≤◌, length, IfOk, IsSome, List, None, OnErr, OnOk, Some, [], true};
 ghost use Rattle.segment_core.specs.Arrival.{Arrival};
 ghost use Rattle.segment_core.specs.Bound.{IsPurged};
 ghost use Rattle.segment_core.specs.Store.{FitsFile, IsNotBefore, StandsFor, answer_of};
@@ -14,7 +14,7 @@ use fisb_time::Moment;
 use fisb_wire::Bytes;
 use std::alloc::{AllocError, Global};
 use std::marker::Model;
-use undo_map::laws::places_stay;
+use undo_map::laws::queues_stay;
 use undo_map::{EndQueue, UndoMap};
 use uplink_frame::stations_are_told;
 
@@ -28,7 +28,7 @@ pub struct Joiner {
     marked_clock: Option<Moment>,
     pieces: UndoMap<PieceName, Option<Bytes>>,
     /// Each name that is held, now or at the mark, stands here by the second from which on its file
-    /// is stale; so a purge finds what is stale and looks at nothing else.
+    /// is stale, and no more; so a purge finds what is stale and looks at nothing else.
     ends: EndQueue<PieceName>,
 }
 
@@ -47,9 +47,9 @@ impl Model for Joiner {
       }) j.pieces.mark;
     } };
 
-    ghost use Rattle.segment_core.specs.Ends.{MarkedPiecesHavePlaces};
+    ghost use Rattle.segment_core.specs.Ends.{IsQueueOfPieces};
 
-    ghost invariant = { λ j. MarkedPiecesHavePlaces j.longest j.ends.places j.pieces };
+    ghost invariant = { λ j. IsQueueOfPieces j.longest j.ends j.pieces };
 }
 
 impl Joiner {
@@ -78,6 +78,14 @@ impl Joiner {
         self.clock
     }
 
+    /// How many places the names that are held have in the queue by which a purge finds what is
+    /// stale.
+    pub fn places(&self) -> usize
+        ensures { result ≤ length self.now.store.pieces }
+    {
+        self.ends.len()
+    }
+
     /// Takes an arrival, and answers what it brings.
     ///
     /// # Errors
@@ -103,7 +111,7 @@ impl Joiner {
             return Ok(Taken::Stale);
         }
         stations_are_told();
-        places_stay::<PieceName, Option<Bytes>>();
+        queues_stay::<PieceName, Option<Bytes>>();
         let taken = take_live(
             self.alloc,
             &self.longest,
@@ -129,6 +137,8 @@ impl Joiner {
             → StandsFor self.new.store taken }
     {
         stations_are_told();
+        queues_stay::<PieceName, Option<Bytes>>();
+        self.ends.settle();
         drop_stale(&mut self.pieces, &mut self.ends, &self.longest, moment);
         self.clock = Some(moment);
     }
@@ -138,6 +148,8 @@ impl Joiner {
         requires { self.old.mark ≡ None }
         ensures { self.new ≡ record self.old { mark = Some self.old.store } }
     {
+        queues_stay::<PieceName, Option<Bytes>>();
+        self.ends.settle();
         self.pieces.mark();
         self.marked_clock = self.clock;
     }
@@ -148,7 +160,9 @@ impl Joiner {
         ensures store { self.old.mark ≡ Some self.new.store }
         ensures mark { self.new.mark ≡ None }
     {
+        queues_stay::<PieceName, Option<Bytes>>();
         self.pieces.undo();
+        self.ends.undo();
         self.clock = self.marked_clock;
     }
 
@@ -157,6 +171,7 @@ impl Joiner {
         requires { IsSome self.old.mark }
         ensures { self.new ≡ record self.old { mark = None } }
     {
+        queues_stay::<PieceName, Option<Bytes>>();
         self.pieces.settle();
     }
 }

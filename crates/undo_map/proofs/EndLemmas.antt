@@ -1,12 +1,12 @@
 -- Queues of places, and the entries that have a place.
-use Rattle.std.proofs.Common.{◌≡◌, ℕ, ◌≤◌, ◌&&◌, ◌++◌, true, false, Bool, List, [], ◌∷◌, refl, sym, ap, ◌∙◌}
+use Rattle.std.proofs.Common.{◌≡◌, ℕ, ◌+◌, length, ◌≤◌, ◌&&◌, ◌++◌, true, false, Bool, List, [], ◌∷◌, refl, sym, ap, ◌∙◌}
 use Rattle.std.proofs.Common.{Result, Ok, Err, OnOk, OnErr, nat_le, nat_lt, cond, arith, inl, inr, IsPermutation, subst}
-use Rattle.std.specs.Prelude.{Some, None}
+use Rattle.std.specs.Prelude.{Option, Some, None, is_some}
 use Rattle.std.specs.BTreeMap.{insert_entry, is_at}
 use Rattle.std.specs.Cmp.{IsTotalOrder}
 use Rattle.std.specs.List.{AllByRecursion, list_any}
 use Rattle.std.specs.List.Sorted.{IsStrictlySortedBy}
-use Rattle.std.specs.Map.{keys_of, lookup, set_value}
+use Rattle.std.specs.Map.{keys_of, lookup, remove_entry, set_value}
 use Rattle.std.specs.Ordering.{is_eq}
 use Rattle.std.specs.declared.cmp.Ordering.{Ordering}
 use Rattle.std.specs.declared.cmp.Ordering.TheVariants.{Less, Equal, Greater}
@@ -17,10 +17,15 @@ use Rattle.std.proofs.lemmas.Map.{lookup-none}
 use Rattle.std.proofs.lemmas.Map.Entries.{none_below_head}
 use Rattle.std.proofs.lemmas.Map.Keys.{sorted_tail}
 use Rattle.std.proofs.lemmas.Map.Steps.{set_value_same}
-use Rattle.undo_map.specs.Ends.{HavePlaces, KeepsPlaces, PlacesStay, has_place, has_place_by, with_newer}
+use Rattle.undo_map.specs.Ends.{HavePlaces, HavePlacesBy, KeepsPlacesBy, has_place, has_place_by, with_newer}
+use Rattle.undo_map.specs.Marked.{with_all}
 use Rattle.undo_map.specs.Steps.{before_all}
 use Rattle.undo_map.specs.declared.step.Step.{Step}
 use Rattle.undo_map.proofs.StepLemmas.{before_all-append}
+
+none-is : {X : Type 0} (o : Option X) → is_some o ≡ false → o ≡ None
+none-is None yet = refl
+none-is (Some x) yet = absurd (cc)
 
 -- what holds after success and after failure holds
 pub either : {A B P Q Z : Type 0} (r : Result A B) → OnOk r P → OnErr r Q → (P → Z) → (Q → Z) → Z
@@ -38,10 +43,6 @@ on-both P Q (Err e) p q = tt
 pub on-err-both : {A B : Type 0} (P Q : Type 0) (r : Result A B) → OnErr r P → OnErr r Q → OnErr r (P × Q)
 on-err-both P Q (Ok x) p q = tt
 on-err-both P Q (Err e) p q = (p, q)
-
-pub map-ok : {A B : Type 0} (P Q : Type 0) (r : Result A B) → (P → Q) → OnOk r P → OnOk r Q
-map-ok P Q (Ok x) f p = f p
-map-ok P Q (Err e) f p = tt
 
 pub map-err : {A B : Type 0} (P Q : Type 0) (r : Result A B) → (P → Q) → OnErr r P → OnErr r Q
 map-err P Q (Ok x) f p = tt
@@ -175,30 +176,123 @@ module _ {K V : Type 0} where
   all-insert R total P key v (e ∷ es) own all =
       all-insert_first R total P key v e es own all (all-insert R total P key v es own all.1) (R key e.0) refl
 
-  pub places-kept : PlacesStay K V
+  pub places-kept :
+      (R : K → K → Ordering) (end : K × V → ℕ) (old new : List (ℕ × K)) (es : List (K × V)) → KeepsPlacesBy R old new
+      → HavePlacesBy R end old es → HavePlacesBy R end new es
   places-kept R end old new es kept all =
       all-weaker (λ e. has_place_by R old e.0 (end e) ≡ true) (λ e. has_place_by R new e.0 (end e) ≡ true) es
-      (λ e some. kept (λ place. is_eq (R place.1 e.0) && nat_le place.0 (end e)) some) all
+      (λ e some. kept e.0 (end e) some) all
 
   pub places-set :
       (R : K → K → Ordering) (end : V → ℕ) (old new : List (ℕ × K)) (key : K) (was v : V) (es : List (K × V))
-      → lookup (is_at (R key)) es ≡ Some was → KeepsPlaces old new
+      → lookup (is_at (R key)) es ≡ Some was → KeepsPlacesBy R old new
       → ((k : K) → is_eq (R key k) ≡ true → has_place R end old (k, was) ≡ true → has_place R end new (k, v) ≡ true)
       → HavePlaces R end old es → HavePlaces R end new (set_value (is_at (R key)) es v)
   places-set R end old new key was v es found kept own all =
       all-set (is_at (R key)) (λ e. has_place R end old e ≡ true) (λ e. has_place R end new e ≡ true) was v es found
-      (λ e some. kept (λ place. is_eq (R place.1 e.0) && nat_le place.0 (end e.1)) some) own all
+      (λ e some. kept e.0 (end e.1) some) own all
 
   pub places-insert :
       (R : K → K → Ordering) → IsTotalOrder R → (end : V → ℕ) (old new : List (ℕ × K)) (key : K) (v : V) (es : List (K × V))
-      → KeepsPlaces old new → ((k : K) → is_eq (R key k) ≡ true → has_place R end new (k, v) ≡ true)
+      → KeepsPlacesBy R old new → ((k : K) → is_eq (R key k) ≡ true → has_place R end new (k, v) ≡ true)
       → HavePlaces R end old es → HavePlaces R end new (insert_entry R es key v)
   places-insert R total end old new key v es kept own all =
       all-insert R total (λ e. has_place R end new e ≡ true) key v es own
       (places-kept R (λ e. end e.1) old new es kept all)
 
   pub places-moved :
-      (R : K → K → Ordering) (end : V → ℕ) (old new : List (ℕ × K)) (es : List (K × V)) → IsPermutation old new
-      → HavePlaces R end old es → HavePlaces R end new es
+      (R : K → K → Ordering) (end : K × V → ℕ) (old new : List (ℕ × K)) (es : List (K × V)) → IsPermutation old new
+      → HavePlacesBy R end old es → HavePlacesBy R end new es
   places-moved R end old new es moves all =
-      places-kept R (λ e. end e.1) old new es (λ test some. sym (list_any-IsPermutation test old new moves) ∙ some) all
+      places-kept R end old new es
+      (λ key by some. sym (list_any-IsPermutation (λ (place : ℕ × K). is_eq (R place.1 key) && nat_le place.0 by) old new moves) ∙ some)
+      all
+
+  -- how many entries there are where a value is written under a key that has none
+  length-insert_first :
+      (R : K → K → Ordering) (key : K) (v : V) (e : K × V) (es : List (K × V)) → lookup (is_at (R key)) (e ∷ es) ≡ None
+      → (lookup (is_at (R key)) es ≡ None → length (insert_entry R es key v) ≡ length es + 1)
+      → (o : Ordering) → R key e.0 ≡ o → length (insert_entry R (e ∷ es) key v) ≡ length (e ∷ es) + 1
+  length-insert_first R key v e es absent rest Less below = rw below (omega arith)
+  length-insert_first R key v e es absent rest Equal same = let some : Some e.1 ≡ None = rw same at absent in absurd (cc)
+  length-insert_first R key v e es absent rest Greater above =
+      let later : lookup (is_at (R key)) es ≡ None = rw above at absent in
+      let more = rest later in
+      rw above (omega (arith, more))
+
+  pub length-insert :
+      (R : K → K → Ordering) (key : K) (v : V) (es : List (K × V)) → lookup (is_at (R key)) es ≡ None
+      → length (insert_entry R es key v) ≡ length es + 1
+  length-insert R key v [] absent = refl
+  length-insert R key v (e ∷ es) absent =
+      length-insert_first R key v e es absent (length-insert R key v es) (R key e.0) refl
+
+  -- a write keeps the entries that are there, and makes one more where a key has a value only then
+  insert-longer_first :
+      (R : K → K → Ordering) (key : K) (v : V) (e : K × V) (es : List (K × V)) → length es ≤ length (insert_entry R es key v)
+      → (o : Ordering) → R key e.0 ≡ o → length (e ∷ es) ≤ length (insert_entry R (e ∷ es) key v)
+  insert-longer_first R key v e es rest Less below = rw below (omega arith)
+  insert-longer_first R key v e es rest Equal same = rw same (omega arith)
+  insert-longer_first R key v e es rest Greater above = rw above (omega (arith, rest))
+
+  insert-longer : (R : K → K → Ordering) (key : K) (v : V) (es : List (K × V)) → length es ≤ length (insert_entry R es key v)
+  insert-longer R key v [] = omega arith
+  insert-longer R key v (e ∷ es) = insert-longer_first R key v e es (insert-longer R key v es) (R key e.0) refl
+
+  insert-more_first :
+      (R : K → K → Ordering) (key k : K) (v : V) (e : K × V) (es : List (K × V)) → lookup (is_at (R key)) (e ∷ es) ≡ None
+      → is_some (lookup (is_at (R key)) (insert_entry R (e ∷ es) k v)) ≡ true
+      → (lookup (is_at (R key)) es ≡ None → is_some (lookup (is_at (R key)) (insert_entry R es k v)) ≡ true
+      → length es + 1 ≤ length (insert_entry R es k v))
+      → (b : Bool) → is_eq (R key e.0) ≡ b → (o : Ordering) → R k e.0 ≡ o
+      → length (e ∷ es) + 1 ≤ length (insert_entry R (e ∷ es) k v)
+  insert-more_first R key k v e es absent some rest true here o at =
+      let found : Some e.1 ≡ None = rw here at absent in absurd (cc)
+  insert-more_first R key k v e es absent some rest false other Less below = rw below (omega arith)
+  insert-more_first R key k v e es absent some rest false other Equal same =
+      let none : lookup (is_at (R key)) es ≡ None = rw other at absent in
+      let is : is_some (lookup (is_at (R key)) es) ≡ true = rw (same, other) at some in
+      let never : false ≡ true = rw none at is in
+      absurd (cc)
+  insert-more_first R key k v e es absent some rest false other Greater above =
+      let none : lookup (is_at (R key)) es ≡ None = rw other at absent in
+      let is : is_some (lookup (is_at (R key)) (insert_entry R es k v)) ≡ true = rw (above, other) at some in
+      let more = rest none is in
+      rw above (omega (arith, more))
+
+  insert-more :
+      (R : K → K → Ordering) (key k : K) (v : V) (es : List (K × V)) → lookup (is_at (R key)) es ≡ None
+      → is_some (lookup (is_at (R key)) (insert_entry R es k v)) ≡ true → length es + 1 ≤ length (insert_entry R es k v)
+  insert-more R key k v [] absent some = omega arith
+  insert-more R key k v (e ∷ es) absent some =
+      insert-more_first R key k v e es absent some (insert-more R key k v es) (is_eq (R key e.0)) refl (R k e.0) refl
+
+  all-longer : (R : K → K → Ordering) (pairs es : List (K × V)) → length es ≤ length (with_all R es pairs)
+  all-longer R [] es = omega arith
+  all-longer R (p ∷ pairs) es =
+      let one = insert-longer R p.0 p.1 es in
+      let rest = all-longer R pairs (insert_entry R es p.0 p.1) in
+      omega (arith, one, rest)
+
+  pub all-more :
+      (R : K → K → Ordering) (key : K) (pairs es : List (K × V)) → lookup (is_at (R key)) es ≡ None
+      → is_some (lookup (is_at (R key)) (with_all R es pairs)) ≡ true → length es + 1 ≤ length (with_all R es pairs)
+  all-more R key [] es absent some = let never : false ≡ true = rw absent at some in absurd (cc)
+  all-more R key (p ∷ pairs) es absent some = elim (cases_Bool (is_some (lookup (is_at (R key)) (insert_entry R es p.0 p.1)))) [
+    | inl now ↦
+        let one = insert-more R key p.0 p.1 es absent now in
+        let rest = all-longer R pairs (insert_entry R es p.0 p.1) in
+        omega (arith, one, rest)
+    | inr yet ↦
+        let one = insert-longer R p.0 p.1 es in
+        let rest = all-more R key pairs (insert_entry R es p.0 p.1)
+        (none-is (lookup (is_at (R key)) (insert_entry R es p.0 p.1)) yet) some in
+        omega (arith, one, rest)
+  ]
+
+  pub removed-fewer : (test : K → Bool) (es : List (K × V)) → length es ≤ length (remove_entry test es) + 1
+  removed-fewer test [] = omega arith
+  removed-fewer test (e ∷ es) = elim (cases_Bool (test e.0)) [
+    | inl passes ↦ rw passes (omega arith)
+    | inr fails ↦ let rest = removed-fewer test es in rw fails (omega (arith, rest))
+  ]

@@ -1,5 +1,5 @@
 -- Entries that are over, and those that have a place once they are dropped.
-use Rattle.std.proofs.Common.{◌≡◌, ℕ, ◌<◌, ◌≤◌, ◌&&◌, true, false, Bool, List, [], ◌∷◌, refl, sym, ap, ◌∙◌, not}
+use Rattle.std.proofs.Common.{◌≡◌, ℕ, ◌+◌, ◌<◌, ◌≤◌, ◌&&◌, true, false, Bool, List, [], ◌∷◌, length, refl, sym, ap, ◌∙◌, not}
 use Rattle.std.proofs.Common.{nat_le, nat_lt, arith, inl, inr, filter, IsPermutation}
 use Rattle.std.specs.Prelude.{Option, Some, None}
 use Rattle.std.specs.BTreeMap.{is_at}
@@ -19,7 +19,7 @@ use Rattle.std.proofs.lemmas.Map.Entries.{none_below_head}
 use Rattle.std.proofs.lemmas.Map.Keys.{sorted_head, sorted_tail}
 use Rattle.undo_map.specs.Ends.{HasLeft, HavePlaces, HavePlacesBy, NoneIsOver, OthersHavePlaces, has_place, has_place_by}
 use Rattle.undo_map.proofs.EndLemmas.{has-added, places-kept}
-use Rattle.undo_map.proofs.PlaceLemmas.{keeps-added, left-behind}
+use Rattle.undo_map.proofs.PlaceLemmas.{keeps-added, keeps-added-by, left-behind}
 
 -- a place by a second, where all places come after another
 later-place :
@@ -146,7 +146,7 @@ module _ {K V : Type 0} where
   live-placed_first R total end at key v old new e es sorted found moves placed rest Less below =
       let none = none_below_head total key e es sorted below in
       let absent : lookup (is_at (R key)) (e ∷ es) ≡ None = lookup-none (is_at (R key)) (e ∷ es) none in
-      places-kept R (λ e. end e.1) old new (e ∷ es) (keeps-added (end v, key) old new moves)
+      places-kept R (λ e. end e.1) old new (e ∷ es) (keeps-added-by R (end v, key) old new moves)
       (absent-placed R (λ e. end e.1) at key ((at, key) ∷ old) old (e ∷ es) (left-behind (at, key) old) absent placed)
   live-placed_first R total end at key v old new e es sorted found moves placed rest Equal same =
       let value : Some e.1 ≡ Some v = rw same at found in
@@ -154,7 +154,7 @@ module _ {K V : Type 0} where
       let below : end v ≤ end e.1 = rw is (omega arith) in
       let tied : is_eq (R key e.0) ≡ true = rw same refl in (
         has-added R (end v) key e.0 (end e.1) old new moves tied below,
-        places-kept R (λ e. end e.1) old new es (keeps-added (end v, key) old new moves)
+        places-kept R (λ e. end e.1) old new es (keeps-added-by R (end v, key) old new moves)
             (absent-placed R (λ e. end e.1) at key ((at, key) ∷ old) old es (left-behind (at, key) old)
             (absent-tail R total key e es same (sorted_head R e.0 (keys_of es) sorted)) placed.1),
       )
@@ -237,3 +237,16 @@ pub end-found :
     {V : Type 0} (end : V → ℕ) (o : Option V) (at : ℕ) → option_map end o ≡ Some at → (v : V) × (o ≡ Some v) × (end v ≡ at)
 end-found end None at found = cc
 end-found end (Some v) at found = (v, refl, cc)
+
+-- how many entries are left where one is removed
+pub length-removed :
+    {K V : Type 0} (test : K → Bool) (es : List (K × V)) (v : V) → lookup test es ≡ Some v
+    → length (remove_entry test es) + 1 ≡ length es
+length-removed test [] v found = absurd (cc)
+length-removed test (e ∷ es) v found = elim (cases_Bool (test e.0)) [
+  | inl passes ↦ rw passes (omega arith)
+  | inr fails ↦
+      let later : lookup test es ≡ Some v = rw fails at found in
+      let left = length-removed test es v later in
+      rw fails (omega (arith, left))
+]

@@ -1,12 +1,15 @@
 -- Places that are added to a queue, and taken out of it.
-use Rattle.std.proofs.Common.{◌≡◌, ℕ, ◌+◌, ◌<◌, ◌≤◌, true, false, List, [], ◌∷◌, subst, ◌||◌, refl, sym, ap, ◌∙◌, nat_le, cond, arith, IsPermutation, Result, Ok, Err, OnOk, IsOk}
+use Rattle.std.proofs.Common.{◌≡◌, ℕ, ◌+◌, ◌<◌, ◌≤◌, ◌&&◌, true, false, List, [], ◌∷◌, ◌++◌, inl, inr, subst, ◌||◌, refl, sym, ap, ◌∙◌, nat_le, cond, arith, IsPermutation, Result, Ok, Err, OnOk, IsOk}
 use Rattle.std.specs.List.{list_any}
-use Rattle.std.proofs.lemmas.Bool.{le-leb, or_left, or_right}
+use Rattle.std.proofs.lemmas.Bool.{le-leb, or_cases, or_left, or_right}
 use Rattle.std.proofs.lemmas.Bool.Decides.{nat_tests}
+use Rattle.std.proofs.lemmas.List.Folds.{list_any-append}
 use Rattle.std.proofs.lemmas.List.Sorted.{list_any-IsPermutation, sum_by_popped, sum_by_pushed}
 use Rattle.std.specs.Prelude.{IsSomeAnd, slice_get, slice_index_or}
 use Rattle.undo_map.specs.declared.ends.Place.{Place}
-use Rattle.undo_map.specs.Ends.{HasAdded, HasLeft, KeepsPlaces, due_places}
+use Rattle.std.specs.Ordering.{is_eq}
+use Rattle.std.specs.declared.cmp.Ordering.{Ordering}
+use Rattle.undo_map.specs.Ends.{HasAdded, HasLeft, KeepsPlaces, KeepsPlacesBy, due_places}
 
 pub at-ok : {A B P : Type 0} (r : Result A B) → IsOk r → OnOk r P → P
 at-ok (Ok x) is p = p
@@ -16,6 +19,11 @@ module _ {K : Type 0} where
   pub keeps-added : (added : ℕ × K) (old new : List (ℕ × K)) → IsPermutation (added ∷ old) new → KeepsPlaces old new
   keeps-added added old new moves test some =
       sym (list_any-IsPermutation test (added ∷ old) new moves) ∙ or_right (test added) (list_any test old) some
+
+  pub keeps-added-by :
+      (R : K → K → Ordering) (added : ℕ × K) (old new : List (ℕ × K)) → IsPermutation (added ∷ old) new → KeepsPlacesBy R old new
+  keeps-added-by R added old new moves key by some =
+      keeps-added added old new moves (λ place. is_eq (R place.1 key) && nat_le place.0 by) some
 
   pub has-added-place : (added : ℕ × K) (old new : List (ℕ × K)) → IsPermutation (added ∷ old) new → HasAdded added new
   has-added-place added old new moves test passes =
@@ -30,6 +38,22 @@ module _ {K : Type 0} where
   left-behind place places test fails some =
       let any : (test place || list_any test places) ≡ true = some in
       rw fails at any
+
+-- a place that is added behind others
+pub keeps-added-behind :
+    {K : Type 0} (added : ℕ × K) (front old new : List (ℕ × K)) → IsPermutation (added ∷ old) new
+    → KeepsPlaces (front ++ old) (front ++ new)
+keeps-added-behind added front old new moves test some =
+    list_any-append test front new
+    ∙ elim (or_cases (list_any test front) (list_any test old) (sym (list_any-append test front old) ∙ some)) [
+      | inl here ↦ or_left (list_any test front) (list_any test new) here
+      | inr there ↦ or_right (list_any test front) (list_any test new) (keeps-added added old new moves test there)
+    ]
+
+pub has-added-behind :
+    {K : Type 0} (added : ℕ × K) (front old new : List (ℕ × K)) → IsPermutation (added ∷ old) new → HasAdded added (front ++ new)
+has-added-behind added front old new moves test passes =
+    list_any-append test front new ∙ or_right (list_any test front) (list_any test new) (has-added-place added old new moves test passes)
 
 -- how many places have come, where one is added that has not, and where one is taken that has
 pub due-added :

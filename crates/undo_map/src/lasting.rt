@@ -1,5 +1,5 @@
 //! Values that last to a second, the newest of each key.
-ghost use Rattle.std.specs.Prelude.{◌≡◌, ℕ, ◌<◌, ◌≤◌, ◌&&◌, ◌++◌, ◌∷◌, [], List, None, Some, IsSome};
+ghost use Rattle.std.specs.Prelude.{◌≡◌, ℕ, ◌+◌, ◌<◌, ◌≤◌, ◌&&◌, ◌++◌, ◌∷◌, [], List, None, Some, IsSome};
 ghost use Rattle.std.specs.Prelude.{OnErr, OnOk, filter, if◌then◌else◌, length, nat_le, nat_lt, not, true};
 ghost use Rattle.std.specs.BTreeMap.{IsOrdered, insert_entry, is_at};
 ghost use Rattle.std.specs.List.Sorted.{IsStrictlySortedBy};
@@ -7,13 +7,13 @@ ghost use Rattle.std.specs.Map.{keys_of, lookup};
 ghost use Rattle.std.specs.Map.Iter.{ShowsInOrder, deref_pair};
 ghost use Rattle.std.specs.Option.{option_map};
 ghost use Rattle.std.specs.Ordering.{is_eq};
-ghost use Rattle.undo_map.specs.Ends.{HaveMarkedPlaces, HavePlaces, KeepsPlaces, due_places, has_place, has_place_by};
-ghost use Rattle.undo_map.specs.Ends.{with_newer};
+ghost use Rattle.undo_map.specs.Ends.{HavePlaces, HasPlaceSooner, KeepsPlacesBy, all_places, due_places, has_place, has_place_by};
+ghost use Rattle.undo_map.specs.Ends.{place_count, with_newer};
 ghost use Rattle.undo_map.specs.Steps.{before_all};
 
 use crate::duplicate::Duplicate;
 use crate::ends::EndQueue;
-use crate::laws::none_is_over;
+use crate::laws::{none_is_over, queues_stay};
 use crate::map::UndoMap;
 use crate::step::{Step, write_step};
 use std::alloc::{AllocError, Global};
@@ -56,9 +56,12 @@ pub(crate) fn put_step<K: Duplicate, V: Lasting>(
     ensures err { OnErr result (entries.new.entries ≡ entries.old.entries) }
     ensures steps_err { OnErr result (steps.new.items ≡ steps.old.items) }
     ensures ordered { IsOrdered K.cmp entries.new }
-    ensures kept { KeepsPlaces ends.old.places ends.new.places }
-    ensures placed { HavePlaces K.cmp V.end ends.old.places entries.old.entries
-        → HavePlaces K.cmp V.end ends.new.places entries.new.entries }
+    ensures kept { KeepsPlacesBy K.cmp ends.old.places ends.new.places }
+    ensures few_kept { length ends.new.places ≤ length ends.old.places }
+    ensures placed { HavePlaces K.cmp V.end (all_places ends.old) entries.old.entries
+        → HavePlaces K.cmp V.end (all_places ends.new) entries.new.entries }
+    ensures few { place_count ends.new + length entries.old.entries
+        ≤ place_count ends.old + length entries.new.entries }
 {
     match entries.get_mut(&key) {
         Some(older) => replace_step(alloc, older, steps, ends, key, value),
@@ -83,10 +86,13 @@ fn replace_step<K: Duplicate, V: Lasting>(
         else steps.old.items)) }
     ensures err { OnErr result (older.new ≡ older.old) }
     ensures steps_err { OnErr result (steps.new.items ≡ steps.old.items) }
-    ensures kept { KeepsPlaces ends.old.places ends.new.places }
+    ensures kept { KeepsPlacesBy K.cmp ends.old.places ends.new.places }
+    ensures few_kept { length ends.new.places ≤ length ends.old.places }
+    ensures all_kept { KeepsPlacesBy K.cmp (all_places ends.old) (all_places ends.new) }
     ensures placed { (k : K) → is_eq (K.cmp key k) ≡ true
-        → has_place K.cmp V.end ends.old.places (k, older.old) ≡ true
-        → has_place K.cmp V.end ends.new.places (k, older.new) ≡ true }
+        → has_place K.cmp V.end (all_places ends.old) (k, older.old) ≡ true
+        → has_place K.cmp V.end (all_places ends.new) (k, older.new) ≡ true }
+    ensures few { place_count ends.new ≤ place_count ends.old }
 {
     if value.version() <= older.version() {
         return Ok(());
@@ -101,7 +107,7 @@ fn replace_step<K: Duplicate, V: Lasting>(
     Ok(())
 }
 
-/// Gives a key a place by a second, where it has one by another.
+/// Gives a key that has a place by a second one by another.
 fn place_sooner<K: Duplicate>(
     alloc: Global,
     ends: &mut EndQueue<K>,
@@ -109,13 +115,16 @@ fn place_sooner<K: Duplicate>(
     by: u64,
     second: u64,
 ) -> Result<(), AllocError>
-    ensures kept { KeepsPlaces ends.old.places ends.new.places }
+    ensures kept { KeepsPlacesBy K.cmp ends.old.places ends.new.places }
+    ensures few_kept { length ends.new.places ≤ length ends.old.places }
+    ensures all_kept { KeepsPlacesBy K.cmp (all_places ends.old) (all_places ends.new) }
     ensures placed { OnOk result ((k : K) → is_eq (K.cmp key.now k) ≡ true
-        → has_place_by K.cmp ends.old.places k by ≡ true
-        → has_place_by K.cmp ends.new.places k second ≡ true) }
+        → has_place_by K.cmp (all_places ends.old) k by ≡ true
+        → has_place_by K.cmp (all_places ends.new) k second ≡ true) }
+    ensures few { place_count ends.new ≤ place_count ends.old }
 {
     if second < by {
-        ends.add(second, key.duplicate(alloc)?)?;
+        ends.bring_forward(alloc, second, key)?;
     }
     Ok(())
 }
@@ -137,12 +146,19 @@ fn insert_step<K: Duplicate, V: Lasting>(
     ensures err { OnErr result (entries.new.entries ≡ entries.old.entries) }
     ensures steps_err { OnErr result (steps.new.items ≡ steps.old.items) }
     ensures ordered { IsOrdered K.cmp entries.new }
-    ensures kept { KeepsPlaces ends.old.places ends.new.places }
+    ensures kept { ends.new.places ≡ ends.old.places }
+    ensures all_kept { KeepsPlacesBy K.cmp (all_places ends.old) (all_places ends.new) }
     ensures placed { OnOk result ((k : K) → is_eq (K.cmp key k) ≡ true
-        → has_place K.cmp V.end ends.new.places (k, value) ≡ true) }
+        → has_place K.cmp V.end (all_places ends.new) (k, value) ≡ true) }
+    ensures few_ok { OnOk result (place_count ends.new ≡ place_count ends.old + 1) }
+    ensures few_err { OnErr result (place_count ends.new ≡ place_count ends.old) }
 {
-    ends.add(value.end(), key.duplicate(alloc)?)?;
-    write_step(alloc, entries, steps, key, value)
+    let place = key.duplicate(alloc)?;
+    ends.reserve()?;
+    let end = value.end();
+    write_step(alloc, entries, steps, key, value)?;
+    ends.add(end, place);
+    Ok(())
 }
 
 /// Drops the entries that are over at a second, and looks at no others but those that stand in the
@@ -150,10 +166,13 @@ fn insert_step<K: Duplicate, V: Lasting>(
 fn drop_over<K: Duplicate, V: Lasting>(map: &mut UndoMap<K, V>, ends: &mut EndQueue<K>, now: u64)
     requires unmarked { map.old.mark ≡ None }
     requires placed { HavePlaces K.cmp V.end ends.old.places map.old.entries }
+    requires few { length ends.old.places ≤ length map.old.entries }
     ensures entries { map.new.entries
         ≡ filter (λ e. nat_lt now (V.end e.1)) map.old.entries }
     ensures mark { map.new.mark ≡ None }
     ensures placed { HavePlaces K.cmp V.end ends.new.places map.new.entries }
+    ensures few { length ends.new.places ≤ length map.new.entries }
+    ensures added { ends.new.added ≡ ends.old.added }
 {
     while let Some((_, key)) = ends.take_ended(now) {
         drop_key(map, ends, key, now);
@@ -177,7 +196,10 @@ fn drop_key<K: Duplicate, V: Lasting>(
     ensures placed { (end : ℕ)
         → HavePlaces K.cmp V.end ((end, key) ∷ ends.old.places) map.old.entries
         → HavePlaces K.cmp V.end ends.new.places map.new.entries }
+    ensures few { length ends.old.places + 1 ≤ length map.old.entries
+        → length ends.new.places ≤ length map.new.entries }
     ensures due { due_places now ends.new.places ≡ due_places now ends.old.places }
+    ensures added { ends.new.added ≡ ends.old.added }
 {
     let Some(end) = end_under(map, &key) else {
         return;
@@ -205,20 +227,20 @@ fn end_under<K: Duplicate, V: Lasting>(map: &UndoMap<K, V>, key: &K) -> Option<u
 #[derive(Drop)]
 pub struct LastingMap<K: Duplicate, V: Lasting> {
     map: UndoMap<K, V>,
-    /// Each key stands here, at a second that is no later than the end of its value, now and at the
-    /// mark; so a purge finds what is over by its end.
+    /// Each key has a place here, at a second that is no later than the end of its value, now and
+    /// at the mark; so a purge finds what is over by its end. No key that is not there has one.
     ends: EndQueue<K>,
 }
 
 impl<K: Duplicate, V: Lasting> Model for LastingMap<K, V> {
-    ghost use Rattle.undo_map.specs.Ends.{HaveMarkedPlaces};
+    ghost use Rattle.undo_map.specs.Ends.{IsQueueOfEnds};
     ghost use Rattle.undo_map.specs.Marked.{Marked};
 
     ghost Value = { Marked K V };
 
     ghost view = { λ m. m.map };
 
-    ghost invariant = { λ m. HaveMarkedPlaces K.cmp V.end m.ends.places m.map };
+    ghost invariant = { λ m. IsQueueOfEnds K.cmp V.end m.ends m.map };
 }
 
 impl<K: Duplicate, V: Lasting> LastingMap<K, V> {
@@ -238,6 +260,13 @@ impl<K: Duplicate, V: Lasting> LastingMap<K, V> {
         ensures ordered { IsStrictlySortedBy K.cmp (keys_of self.now.entries) }
     {
         self.map.len()
+    }
+
+    /// How many places the keys have in the queue by which a purge finds what is over.
+    pub fn places(&self) -> usize
+        ensures { result ≤ length self.now.entries }
+    {
+        self.ends.len()
     }
 
     /// The entries, in the order of their keys.
@@ -271,6 +300,8 @@ impl<K: Duplicate, V: Lasting> LastingMap<K, V> {
             ≡ filter (λ e. nat_lt now (V.end e.1)) self.old.entries }
         ensures mark { self.new.mark ≡ None }
     {
+        queues_stay::<K, V>();
+        self.ends.settle();
         drop_over(&mut self.map, &mut self.ends, now);
     }
 
@@ -279,6 +310,8 @@ impl<K: Duplicate, V: Lasting> LastingMap<K, V> {
         requires { self.old.mark ≡ None }
         ensures { self.new ≡ record self.old { mark = Some self.old.entries } }
     {
+        queues_stay::<K, V>();
+        self.ends.settle();
         self.map.mark();
     }
 
@@ -288,7 +321,9 @@ impl<K: Duplicate, V: Lasting> LastingMap<K, V> {
         ensures entries { self.old.mark ≡ Some self.new.entries }
         ensures mark { self.new.mark ≡ None }
     {
+        queues_stay::<K, V>();
         self.map.undo();
+        self.ends.undo();
     }
 
     /// Lets the mark go and keeps the entries.
@@ -296,6 +331,7 @@ impl<K: Duplicate, V: Lasting> LastingMap<K, V> {
         requires { IsSome self.old.mark }
         ensures { self.new ≡ record self.old { mark = None } }
     {
+        queues_stay::<K, V>();
         self.map.settle();
     }
 }

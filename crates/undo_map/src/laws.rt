@@ -1,6 +1,6 @@
 //! Laws of the definitions, for the crates above: each is the contract of a function that does
 //! nothing.
-ghost use Rattle.undo_map.specs.Ends.{NoneIsOver, OthersHavePlaces, PlacesStay};
+ghost use Rattle.undo_map.specs.Ends.{NoneIsOver, OthersHavePlaces, QueuesStay};
 
 /// The law that no entry is over by a second, where each has a place by its end and no place has
 /// come.
@@ -9,10 +9,10 @@ pub fn none_is_over<K, V>()
     ensures { NoneIsOver K V }
 {}
 
-/// The law that entries that had places have them, where places were only added.
+/// The laws that a queue of entries stays one where a mark is set, is undone or is settled.
 #[inline]
-pub fn places_stay<K, V>()
-    ensures { PlacesStay K V }
+pub fn queues_stay<K, V>()
+    ensures { QueuesStay K V }
 {}
 
 /// The law that the entries that are left without a key have places, where one of the key's was

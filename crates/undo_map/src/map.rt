@@ -1,11 +1,11 @@
 //! The map and its calls.
-ghost use Rattle.std.specs.Prelude.{◌≡◌, IsSome, IfOk, OnOk, OnErr, Some, None, length, []};
+ghost use Rattle.std.specs.Prelude.{◌≡◌, ◌+◌, ◌≤◌, IsSome, IfOk, OnOk, OnErr, Some, None, length, [], is_some, true};
 ghost use Rattle.std.specs.BTreeMap.{insert_entry, is_at};
 ghost use Rattle.std.specs.List.Sorted.{IsStrictlySortedBy};
 ghost use Rattle.std.specs.Map.{keys_of, lookup, remove_entry};
 ghost use Rattle.std.specs.Map.Iter.{ShowsInOrder, deref_pair};
 ghost use Rattle.std.specs.Option.{option_copied};
-ghost use Rattle.undo_map.specs.Ends.{HaveMarkedPlaces, with_newer};
+ghost use Rattle.undo_map.specs.Ends.{IsQueueOfEnds, with_newer};
 ghost use Rattle.undo_map.specs.Marked.{with_all};
 
 use crate::duplicate::Duplicate;
@@ -83,6 +83,8 @@ impl<K: Duplicate, V: Drop> UndoMap<K, V> {
     pub fn write(&mut self, key: K, value: V) -> Result<(), AllocError>
         ensures ok { OnOk result
             (self.new.entries ≡ insert_entry K.cmp self.old.entries key value) }
+        ensures more { OnOk result (lookup (is_at (K.cmp key)) self.old.entries ≡ None
+            → length self.new.entries ≡ length self.old.entries + 1) }
         ensures mark { self.new.mark ≡ self.old.mark }
         ensures err { OnErr result (self.new ≡ self.old) }
         ensures ordered { IsStrictlySortedBy K.cmp (keys_of self.new.entries) }
@@ -102,6 +104,10 @@ impl<K: Duplicate, V: Drop> UndoMap<K, V> {
     pub fn write_all(&mut self, pairs: Vec<(K, V)>) -> Result<(), AllocError>
         ensures ok { OnOk result
             (self.new.entries ≡ with_all K.cmp self.old.entries pairs.items) }
+        ensures more { OnOk result ((key : K)
+            → lookup (is_at (K.cmp key)) self.old.entries ≡ None
+            → is_some (lookup (is_at (K.cmp key)) self.new.entries) ≡ true
+            → length self.old.entries + 1 ≤ length self.new.entries) }
         ensures mark { self.new.mark ≡ self.old.mark }
         ensures err { OnErr result (self.new ≡ self.old) }
         ensures ordered { IsStrictlySortedBy K.cmp (keys_of self.new.entries) }
@@ -118,6 +124,7 @@ impl<K: Duplicate, V: Drop> UndoMap<K, V> {
         requires { self.old.mark ≡ None }
         ensures entries { self.new.entries
             ≡ remove_entry (is_at (K.cmp key.now)) self.old.entries }
+        ensures few { length self.old.entries ≤ length self.new.entries + 1 }
         ensures mark { self.new.mark ≡ None }
         ensures ordered { IsStrictlySortedBy K.cmp (keys_of self.new.entries) }
         ensures was_ordered { IsStrictlySortedBy K.cmp (keys_of self.old.entries) }
@@ -172,8 +179,8 @@ impl<K: Duplicate, V: Lasting> UndoMap<K, V> {
         ensures mark { self.new.mark ≡ self.old.mark }
         ensures err { OnErr result (self.new ≡ self.old) }
         ensures ordered { IsStrictlySortedBy K.cmp (keys_of self.new.entries) }
-        ensures placed { HaveMarkedPlaces K.cmp V.end ends.old.places self.old
-            → HaveMarkedPlaces K.cmp V.end ends.new.places self.new }
+        ensures placed { IsQueueOfEnds K.cmp V.end ends.old self.old
+            → IsQueueOfEnds K.cmp V.end ends.new self.new }
     {
         if self.is_marked {
             return put_step(

@@ -104,9 +104,13 @@ fn newer_values_last_to_their_own_end(rt: HostRuntime) -> Result<(), Fail> {
 #[test]
 fn places_come_by_their_seconds(rt: HostRuntime) -> Result<(), Fail> {
     let mut ends = EndQueue::new(rt.alloc());
-    ends.add(30, Name(1))?;
-    ends.add(10, Name(2))?;
-    ends.add(20, Name(3))?;
+    for (second, number) in [(30, 1), (10, 2), (20, 3)] {
+        ends.reserve()?;
+        ends.add(second, Name(number));
+    }
+    assert!(rt; ends.take_ended(30).is_none());
+    ends.settle();
+    assert_eq!(rt; ends.len(), 3);
     assert!(rt; ends.take_ended(9).is_none());
     let mut taken = Vec::new(rt.alloc());
     for second in [10, 29, 29, 30] {

@@ -6,7 +6,7 @@ use Rattle.std.proofs.lemmas.List.{length-take, length-take-le}
 use Rattle.std.proofs.lemmas.List.Elements.{All-nil, All-cons}
 use Rattle.std.proofs.lemmas.Nat.{from_be_bytes-to_be_bytes_8}
 use Rattle.bit_fields.specs.Bits.{bit, number_of}
-use Rattle.bit_fields.proofs.BitsBack.{bit_below, bit_back}
+use Rattle.bit_fields.specs.BitsBack.{bit_below, bit_back}
 use Rattle.uplink_frame.specs.declared.header.UplinkHeader.{UplinkHeader}
 use Rattle.uplink_frame.specs.UplinkFrame.{FitsHeader, header_bytes, header_in}
 

@@ -4,7 +4,7 @@ use Rattle.std.specs.Option.{is_none, unwrap_or}
 use Rattle.std.proofs.lemmas.Bool.{cases_lt, le-leb}
 use Rattle.std.proofs.lemmas.List.{ext_get_or, get_or-drop, get_or_past}
 use Rattle.std.proofs.lemmas.List.FromFn.{length-map-range_with_len, get_or-map-range_with_len}
-use Rattle.list_members.proofs.Places.{take-below}
+use Rattle.list_members.specs.Places.{take-below}
 use Rattle.rs_code.specs.CodeWord.{IsCodeWord, IsNear, IsCorrectable, differences, bound}
 use Rattle.rs_code.specs.Functions.{encoded}
 use Rattle.rs_code.specs.Laws.{HasOneEncoded, IsCorrected}

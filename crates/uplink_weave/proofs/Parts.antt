@@ -4,7 +4,7 @@ use Rattle.std.specs.Option.{option_map, is_none}
 use Rattle.std.specs.List.{find, range_with_len}
 use Rattle.std.proofs.lemmas.Bool.{cases_Bool, cases_eq}
 use Rattle.std.proofs.lemmas.List.{ext_get_or, get_or-take, get_or-drop, length-take-le, length-drop, take-append-drop, drop-drop, drop_all, take_at, drop_at}
-use Rattle.list_members.proofs.Finding.{find-cons_true, find-cons_false}
+use Rattle.list_members.specs.Finding.{find-cons_true, find-cons_false}
 use Rattle.uplink_weave.specs.Woven.{BeginsWithPart}
 use Rattle.uplink_weave.specs.Functions.{part, payload_of_words}
 

@@ -8,7 +8,7 @@ use Rattle.std.specs.Prelude.{bit_xor}
 use Rattle.std.proofs.lemmas.List.FromFn.{map-range_with_len_more}
 use Rattle.std.specs.List.{range_with_len}
 use Rattle.workload.specs.Draws.{state_after, number_from}
-use Rattle.workload.specs.Hearings.{place_on_air, block_changes, changes, frame_after}
+use Rattle.workload.specs.Hearings.{place_on_air, block_changes, changes, frame_with_changes}
 
 pub block_changes-zero : (before : List (ℕ × ℕ)) (block first byte : ℕ) → before ≡ before ++ block_changes block 0 first byte
 unfolding block_changes
@@ -66,12 +66,12 @@ states-end block state last h left = let none = changes-none block state h in cc
 
 -- one change more is made of a frame
 pub frame_after-next : (items : List (ℕ × ℕ)) (frame : List ℕ) (i place : ℕ) → i < length items → place ≡ (get_or items i (0, 0)).0
-    → frame_after (drop (i + 1) items) (set frame place (bit_xor (get_or frame place 0) (get_or items i (0, 0)).1)) ≡ frame_after (drop i items) frame
-unfolding frame_after
+    → frame_with_changes (drop (i + 1) items) (set frame place (bit_xor (get_or frame place 0) (get_or items i (0, 0)).1)) ≡ frame_with_changes (drop i items) frame
+unfolding frame_with_changes
 frame_after-next items frame i place h is =
     rw (is, drop-cons items i (0, 0) h, add-one i) refl
 
 -- after the last change
-pub frame_after-end : (items : List (ℕ × ℕ)) (frame : List ℕ) (i : ℕ) → length items ≤ i → frame_after (drop i items) frame ≡ frame
-unfolding frame_after
+pub frame_after-end : (items : List (ℕ × ℕ)) (frame : List ℕ) (i : ℕ) → length items ≤ i → frame_with_changes (drop i items) frame ≡ frame
+unfolding frame_with_changes
 frame_after-end items frame i h = rw (drop_of_length-le items h) refl

@@ -26,7 +26,8 @@ changes block (suc more) = do
 
 -- a frame after its changes, one after another: each byte is added to the one at its place without
 -- carry
-unfoldable pub frame_after : List (ℕ × ℕ) → List ℕ → List ℕ
-frame_after [] frame = frame
-frame_after (change ∷ more) frame =
-    frame_after more (slice_set frame change.0 (bit_xor (slice_index frame change.0) change.1))
+unfoldable pub frame_with_changes : List (ℕ × ℕ) → List ℕ → List ℕ
+frame_with_changes [] frame = frame
+frame_with_changes (change ∷ more) frame =
+    frame_with_changes more
+    (slice_set frame change.0 (bit_xor (slice_index frame change.0) change.1))

@@ -1,6 +1,6 @@
 //! What is changed of a frame before it is heard.
 ghost use Rattle.std.specs.Prelude.{◌≡◌, ◌<◌, [], ◌∷◌, ◌++◌, All, IfOk, length};
-ghost use Rattle.workload.specs.Hearings.{frame_after};
+ghost use Rattle.workload.specs.Hearings.{frame_with_changes};
 
 use std::alloc::{AllocError, Global};
 use std::marker::Model;
@@ -33,7 +33,7 @@ impl Changes {
     pub fn add_to(&self, frame: &mut [u8])
         requires places { All (λ change. change.0 < 552) self.now }
         requires frame { length frame.old ≡ 552 }
-        ensures { frame.new ≡ frame_after self.now frame.old }
+        ensures { frame.new ≡ frame_with_changes self.now frame.old }
     {
         for &(place, byte) in self.items.as_slice() {
             let place = usize::from(place);

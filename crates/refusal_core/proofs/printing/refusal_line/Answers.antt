@@ -51,8 +51,5 @@ returns-in-Ahead c = rw c.in-Ahead.is c.format-in-Ahead.ensures.ok
 pub returns-in-Expired : goal.returns-in-Expired
 returns-in-Expired c = rw c.in-Expired.is c.format-in-Expired.ensures.ok
 
-pub returns-in-NotBuilt : goal.returns-in-NotBuilt
-returns-in-NotBuilt c = rw c.in-NotBuilt.is c.format-in-NotBuilt.ensures.ok
-
 pub returns-in-NoFile : goal.returns-in-NoFile
 returns-in-NoFile c = rw c.in-NoFile.is c.format-in-NoFile.ensures.ok

@@ -1,5 +1,5 @@
 use Rattle.std.proofs.Common.{◌≡◌, ◌<◌, ◌+◌, ◌/◌, length, arith, get_or, sym, ◌∙◌, subst, length-set, rules}
-use Rattle.list_members.proofs.Places.{get_or-zeros}
+use Rattle.list_members.specs.Places.{get_or-zeros}
 use Rattle.rs_code.specs.Mending.{paired, IsLocator, IsEarlier}
 use Rattle.rs_code.proofs.Pairing.{paired-front}
 use Rattle.rs_code.proofs.Locators.{IsLocator-one, IsEarlier-none, IsLocator-same}

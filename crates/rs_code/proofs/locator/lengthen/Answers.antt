@@ -1,6 +1,6 @@
 use Rattle.std.proofs.Common.{◌≡◌, ◌<◌, ◌+◌, ◌-◌, ℕ, List, length, take, arith, get_or, replicate, ap, sym, ◌∙◌, subst}
 use Rattle.std.proofs.lemmas.List.{length-replicate}
-use Rattle.list_members.proofs.Places.{get_or-zeros}
+use Rattle.list_members.specs.Places.{get_or-zeros}
 use Rattle.poly256.specs.Polynomial.{sum_of, raised, scaled}
 use Rattle.rs_code.specs.Mending.{IsLocator}
 use Rattle.rs_code.proofs.Pairing.{paired-fits}

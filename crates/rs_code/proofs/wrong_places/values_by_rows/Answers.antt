@@ -1,7 +1,7 @@
 use Rattle.std.proofs.Common.{ℕ, List, take, get_or, arith, ap, ap₂, sym, ◌∙◌, add-one}
 use Rattle.std.specs.Int.Bits.{bit_xor}
 use Rattle.std.proofs.lemmas.List.{take_all}
-use Rattle.list_members.proofs.Places.{get_or-zeros}
+use Rattle.list_members.specs.Places.{get_or-zeros}
 use Rattle.poly256.specs.Polynomial.{element_product, element_power, value_at}
 use Rattle.rs_code.proofs.PointValues.{value_at-more}
 use Rattle.rs_code.proofs.Mending.{power-power}

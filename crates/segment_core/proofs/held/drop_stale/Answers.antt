@@ -1,5 +1,6 @@
 -- Each turn takes a place out that has come; at the end none has come, and so no file is stale.
-use Rattle.std.proofs.Common.{All, ℕ, ◌∙◌, ◌<◌, sym, subst}
+use Rattle.std.proofs.Common.{All, ℕ, ◌∙◌, ◌<◌, arith, sym, subst}
+use Rattle.std.proofs.lemmas.List.Sorted.{length_permutation}
 use Rattle.undo_map.specs.Ends.{due_places}
 use Rattle.segment_core.specs.Ends.{stale_from}
 use Rattle.segment_core.specs.contracts.piece_name.PieceNameOrd.TheImpl as order
@@ -21,6 +22,11 @@ loop-name-preserved c = record {
   placed =
       c.drop_name.ensures.placed c.loop-name.ends.places c.in-Some.field-0-0 c.in-Some.ensures.left
       c.loop-name.invariant.placed;
+  few =
+      let taken = length_permutation c.loop-name.ends.places _ c.in-Some.ensures.taken in
+      let bound = c.loop-name.invariant.few in
+      c.drop_name.ensures.few (omega (arith, taken, bound));
+  added = c.drop_name.ensures.added ∙ c.in-Some.ensures.added ∙ c.loop-name.invariant.added;
 }
 
 pub returns-clause-pieces : goal.returns-clause-pieces

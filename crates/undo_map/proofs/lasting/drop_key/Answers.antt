@@ -2,8 +2,9 @@
 use Rattle.std.proofs.Common.{◌∷◌, ◌∙◌, ◌<◌, ◌≤◌, sym, arith}
 use Rattle.std.specs.BTreeMap.{is_at}
 use Rattle.std.specs.Map.{lookup}
-use Rattle.list_members.proofs.Tests.{none_mapped}
-use Rattle.undo_map.proofs.OverLemmas.{absent-kept, absent-placed, end-found, live-kept, live-placed, over-dropped, over-placed}
+use Rattle.std.proofs.lemmas.List.Sorted.{length_permutation}
+use Rattle.list_members.specs.Tests.{none_mapped}
+use Rattle.undo_map.proofs.OverLemmas.{absent-kept, absent-placed, end-found, length-removed, live-kept, live-placed, over-dropped, over-placed}
 use Rattle.undo_map.proofs.PlaceLemmas.{left-behind}
 use Rattle.undo_map.proofs.lasting.drop_key.Goals as goal
 
@@ -54,3 +55,14 @@ returns-clause-placed g c = λ at placed.
     (over-placed g.K.Ord.cmp g.met.K.Ord.total (λ e. g.V.Lasting.end e.1) at c.args.key
     ((at, c.args.key) ∷ c.args.ends.now.places) c.args.ends.now.places c.args.map.now.entries c.end_under.ensures.ordered
     (left-behind (at, c.args.key) c.args.ends.now.places) placed)
+
+pub returns-then-now-end-clause-few : goal.returns-then-now-end-clause-few
+returns-then-now-end-clause-few g c = λ bound.
+    let more = length_permutation _ _ c.add_again.ensures.places in omega (arith, more, bound)
+
+pub returns-clause-few : goal.returns-clause-few
+returns-clause-few g c = λ bound.
+    let found = lookup (is_at (g.K.Ord.cmp c.args.key)) c.args.map.now.entries in
+    let value = end-found g.V.Lasting.end found c.in-Some.end (sym c.end_under.ensures.end ∙ c.in-Some.is) in
+    let left = length-removed (is_at (g.K.Ord.cmp c.args.key)) c.args.map.now.entries value.0 value.1 in
+    rw c.remove.ensures.entries (omega (arith, left, bound))

@@ -1,5 +1,6 @@
 -- Each turn takes a place out that has come; at the end none has come, and so no entry is over.
-use Rattle.std.proofs.Common.{All, ◌∙◌, ◌<◌, ℕ, sym, subst}
+use Rattle.std.proofs.Common.{All, ◌∙◌, ◌<◌, ℕ, sym, subst, arith}
+use Rattle.std.proofs.lemmas.List.Sorted.{length_permutation}
 use Rattle.undo_map.specs.Ends.{due_places}
 use Rattle.undo_map.proofs.EndLemmas.{places-moved}
 use Rattle.undo_map.proofs.OverLemmas.{lives-yet}
@@ -19,8 +20,13 @@ loop-key-preserved g c = record {
   mark = c.drop_key.ensures.mark;
   placed =
       c.drop_key.ensures.placed c.in-Some.field-0-0
-      (places-moved g.K.Ord.cmp g.V.Lasting.end c.loop-key.ends.places _ c.loop-key.map.entries
+      (places-moved g.K.Ord.cmp (λ e. g.V.Lasting.end e.1) c.loop-key.ends.places _ c.loop-key.map.entries
       c.in-Some.ensures.taken c.loop-key.invariant.placed);
+  few =
+      let taken = length_permutation c.loop-key.ends.places _ c.in-Some.ensures.taken in
+      let bound = c.loop-key.invariant.few in
+      c.drop_key.ensures.few (omega (arith, taken, bound));
+  added = c.drop_key.ensures.added ∙ c.in-Some.ensures.added ∙ c.loop-key.invariant.added;
 }
 
 pub returns-clause-entries : goal.returns-clause-entries

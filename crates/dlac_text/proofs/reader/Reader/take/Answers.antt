@@ -1,6 +1,7 @@
 use Rattle.std.proofs.Common.{ap, sym, ◌∙◌, false, ◌++◌, replicate, rules, [], ◌∷◌}
+use Rattle.list_members.specs.Tests.{on_ok}
 use Rattle.dlac_text.specs.Alphabet.{character_or_zero}
-use Rattle.dlac_text.proofs.ReadingSteps.{reading, on_ok, if_ok, spaces_read, end_read, character_read}
+use Rattle.dlac_text.proofs.ReadingSteps.{reading, if_ok, spaces_read, end_read, character_read}
 use Rattle.dlac_text.proofs.reader.Reader.take.Goals as goal
 
 pub returns-then-self : goal.returns-then-self

@@ -1,6 +1,7 @@
 use Rattle.std.proofs.Common.{ap, sym, ◌∙◌, ◌<◌, ◌+◌, ◌*◌, ◌/◌, ◌%◌, arith}
+use Rattle.list_members.specs.Tests.{on_ok}
 use Rattle.dlac_text.proofs.CharacterRows.{four_in_alphabet}
-use Rattle.dlac_text.proofs.ReadingSteps.{on_ok, four_read}
+use Rattle.dlac_text.proofs.ReadingSteps.{four_read}
 use Rattle.dlac_text.proofs.reader.Reader.take_three.Goals as goal
 
 pub push_four-requires : goal.push_four-requires

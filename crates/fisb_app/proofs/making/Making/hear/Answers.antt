@@ -1,7 +1,7 @@
 use Rattle.std.proofs.Common.{◌≡◌, ◌≢◌, ◌+◌, ◌∷◌, None, Some, ap, sym, refl, subst, fold, length, arith, ◌∙◌}
 use Rattle.std.specs.Option.{option_or}
 use Rattle.receiver_core.specs.Hearing.{IsHearFault, refusal_of_air}
-use Rattle.workload.specs.Hearings.{frame_after as changed_frame}
+use Rattle.workload.specs.Hearings.{frame_with_changes as changed_frame}
 use Rattle.workload.specs.declared.step.Step.TheVariants.{Hear}
 use Rattle.fisb_app.specs.declared.counts.Counts.{Counts}
 use Rattle.fisb_app.specs.Past.{sent_frames, receptions}

@@ -1,6 +1,6 @@
 use Rattle.std.proofs.Common.{sym, ◌∙◌}
 use Rattle.std.specs.BTreeMap.{get}
-use Rattle.list_members.proofs.Tests.{none_from}
+use Rattle.list_members.specs.Tests.{none_from}
 use Rattle.ground_core.proofs.MapKeys.{pair_cmp, reserve_count}
 use Rattle.ground_core.proofs.files.Files.make_room.Goals as goal
 

@@ -1,7 +1,7 @@
 use Rattle.std.proofs.Common.{◌<◌, map, None, sym, ap, subst, ◌∙◌}
 use Rattle.std.specs.List.{All}
 use Rattle.std.proofs.lemmas.Result.{err_from_is_err_and}
-use Rattle.list_members.proofs.ListMembers.{All-members}
+use Rattle.list_members.specs.ListMembers.{All-members}
 use Rattle.life_table.specs.LifeTable.{radar_row}
 use Rattle.picture_core.specs.Key.{radar_block}
 use Rattle.radar_core.specs.Laws.{IsOneRecord}

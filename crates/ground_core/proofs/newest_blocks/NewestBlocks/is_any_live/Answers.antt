@@ -2,7 +2,7 @@ use Rattle.std.proofs.Common.{◌≡◌, ◌<◌, false, length, take, get_or, s
 use Rattle.std.specs.List.{list_any}
 use Rattle.std.proofs.lemmas.Bool.{or_from}
 use Rattle.std.proofs.lemmas.List.{take_more}
-use Rattle.list_members.proofs.ListMembers.{in_any}
+use Rattle.list_members.specs.ListMembers.{in_any}
 use Rattle.radar_core.specs.declared.key.BlockKey.{BlockKey}
 use Rattle.ground_core.specs.Piece.{lives_as}
 use Rattle.ground_core.specs.Views.{latest_block, area_keys}

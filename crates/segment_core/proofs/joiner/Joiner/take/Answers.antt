@@ -2,7 +2,8 @@ use Rattle.std.proofs.Common.{◌≡◌, true, Some, refl, sym, ◌∙◌, subst
 use Rattle.segment_core.specs.Store.{MarkedStore, StandsFor, IsNotBefore, answer_of, is_in_life, taken_with}
 use Rattle.segment_core.specs.Views.{arrival_view}
 use Rattle.segment_core.proofs.StoreSteps.{answer-live, takes-live, takes-stale}
-use Rattle.segment_core.proofs.Places.{marked-taken}
+use Rattle.segment_core.specs.Ends.{stale_from}
+use Rattle.segment_core.specs.contracts.piece_name.PieceNameOrd.TheImpl as order
 use Rattle.segment_core.proofs.joiner.Joiner.take.Goals as goal
 
 pub returns-then-not-is_in_life-clause-stands : goal.returns-then-not-is_in_life-clause-stands
@@ -47,12 +48,12 @@ returns-clause-stands c = λ taken.
 
 pub invariant_of-self-2 : goal.invariant_of-self-2
 invariant_of-self-2 c =
-    marked-taken c.places_stay.ensures c.self.inside.longest c.self.inside.ends.places c.take_live.new.ends.places c.self.inside.pieces
-    c.take_live.new.pieces c.take_live.ensures.kept c.take_live.ensures.mark (c.take_live.ensures.placed c.self.invariant.0)
-    c.self.invariant
+    c.queues_stay.ensures.written order.ghosts.cmp (stale_from c.self.inside.longest) c.self.inside.ends c.take_live.new.ends
+    c.self.inside.pieces c.take_live.new.pieces c.take_live.ensures.kept c.take_live.ensures.placed c.take_live.ensures.few
+    c.take_live.ensures.mark c.self.invariant
 
 pub invariant_of-self-in_err-taken : goal.invariant_of-self-in_err-taken
 invariant_of-self-in_err-taken c =
-    marked-taken c.places_stay.ensures c.self.inside.longest c.self.inside.ends.places c.take_live.new.ends.places c.self.inside.pieces
-    c.take_live.new.pieces c.take_live.ensures.kept c.take_live.ensures.mark (c.take_live.ensures.placed c.self.invariant.0)
-    c.self.invariant
+    c.queues_stay.ensures.written order.ghosts.cmp (stale_from c.self.inside.longest) c.self.inside.ends c.take_live.new.ends
+    c.self.inside.pieces c.take_live.new.pieces c.take_live.ensures.kept c.take_live.ensures.placed c.take_live.ensures.few
+    c.take_live.ensures.mark c.self.invariant

@@ -15,8 +15,8 @@ returns-clause-places g c =
 pub returns-clause-kept : goal.returns-clause-kept
 returns-clause-kept g c = keeps-added (c.args.end, c.args.key) c.args.self.now.places _ (returns-clause-places g c)
 
-pub returns-clause-added : goal.returns-clause-added
-returns-clause-added g c = has-added-place (c.args.end, c.args.key) c.args.self.now.places _ (returns-clause-places g c)
+pub returns-clause-has : goal.returns-clause-has
+returns-clause-has g c = has-added-place (c.args.end, c.args.key) c.args.self.now.places _ (returns-clause-places g c)
 
 pub returns-clause-due : goal.returns-clause-due
 returns-clause-due g c = λ now later.

@@ -1,7 +1,7 @@
 -- One change after another.
 use Rattle.std.proofs.Common.{ℕ, List, sym, ap, ◌∙◌, refl, arith}
 use Rattle.std.proofs.Math.ListN.{length-set}
-use Rattle.workload.specs.Hearings.{frame_after}
+use Rattle.workload.specs.Hearings.{frame_with_changes}
 use Rattle.workload.proofs.changes.Changes.add_to.Goals as goal
 use Rattle.workload.proofs.ChangeLemmas.{frame_after-next, frame_after-end}
 
@@ -19,4 +19,4 @@ pub returns : goal.returns
 returns c =
     sym (frame_after-end c.as_slice-place-items.result.now c.loop-place.frame c.loop-place.place-index c.loop-place-test.false)
     ∙ c.loop-place.invariant.1
-    ∙ ap (λ (items : List (ℕ × ℕ)). frame_after items c.args.frame.now) (c.as_slice-place-items.ensures.value ∙ c.self.view_is)
+    ∙ ap (λ (items : List (ℕ × ℕ)). frame_with_changes items c.args.frame.now) (c.as_slice-place-items.ensures.value ∙ c.self.view_is)

@@ -4,7 +4,7 @@ use Rattle.std.specs.List.{All, list_any, cons_option}
 use Rattle.std.proofs.lemmas.List.Elements.{All-nil, All-cons}
 use Rattle.std.proofs.lemmas.Bool.{or_left, or_right, or_cases}
 use Rattle.list_members.specs.Membership.{IsIn}
-use Rattle.list_members.proofs.Members.{IsIn-before, IsIn-after, IsIn-either}
+use Rattle.list_members.specs.Members.{IsIn-before, IsIn-after, IsIn-either}
 
 pub in_one : {A : Type 0} (x y : A) → IsIn x (y ∷ []) → x ≡ y
 in_one x y (inl e) = e

@@ -1,3 +1,0 @@
-pub mod BytesAsNumbers
-pub mod BitsBack
-pub mod Xors

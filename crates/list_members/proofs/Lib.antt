@@ -1,6 +1,0 @@
-pub mod Members
-pub mod ListMembers
-pub mod Ranges
-pub mod Tests
-pub mod Finding
-pub mod Places
