@@ -230,7 +230,7 @@ fn a_frame_that_is_heard_goes_to_the_receiver(rt: HostRuntime) -> Result<(), Fai
     Ok(())
 }
 
-/// A receiver that finds no memory where the first byte of a frame is 5A.
+/// A receiver that finds no memory where the first byte of a frame is not 0.
 #[derive(Drop)]
 struct Deaf {
     receiver: Receiver,
@@ -246,7 +246,7 @@ impl Ear for Deaf {
     }
 
     fn hear(&mut self, moment: Moment, air: &[u8; 552]) -> Result<Heard, HearFault> {
-        if air[0] == 0x5A {
+        if air[0] != 0 {
             return Err(HearFault::NoMemory);
         }
         self.receiver.hear(moment, air)
@@ -257,19 +257,36 @@ impl Ear for Deaf {
     }
 }
 
+// The script with a burst of 60 wrong bytes, of which the first is the first of the frame.
+const BURST: &[u8] = b"---\ntext 1700000000 1699999980 METAR KSEA\nturn 1700000001 0\n\
+    hear 1700000002 0 \
+    0=5A 1=5A 2=5A 3=5A 4=5A 5=5A 6=5A 7=5A 8=5A 9=5A 10=5A 11=5A 12=5A 13=5A 14=5A 15=5A \
+    16=5A 17=5A 18=5A 19=5A 20=5A 21=5A 22=5A 23=5A 24=5A 25=5A 26=5A 27=5A 28=5A 29=5A \
+    30=5A 31=5A 32=5A 33=5A 34=5A 35=5A 36=5A 37=5A 38=5A 39=5A 40=5A 41=5A 42=5A 43=5A \
+    44=5A 45=5A 46=5A 47=5A 48=5A 49=5A 50=5A 51=5A 52=5A 53=5A 54=5A 55=5A 56=5A 57=5A \
+    58=5A 59=5A\n\
+    show 1700000003\n";
+
+// What `link` with the deaf receiver writes of a script.
+fn deaf_run(alloc: Global, script: &[u8]) -> Result<(Status, Vec<u8>), AllocError> {
+    let mut source = FaithfulSource::new(Bytes::of(Vec::from_slice(alloc, script)?));
+    let mut sink = MemorySink::new(alloc, 1024, numbers(alloc, &[])?)?;
+    let status = run_link_over::<FaithfulSource, MemorySink, Deaf>(alloc, &mut source, &mut sink);
+    Ok((status, Vec::from_slice(alloc, sink.taken())?))
+}
+
+#[test]
+fn a_frame_goes_to_the_receiver_as_it_was_sent(rt: HostRuntime) -> Result<(), Fail> {
+    let ran = deaf_run(rt.alloc(), SCRIPT)?;
+    assert_eq!(rt; ran.0, Status::Done);
+    assert_eq!(rt; ran.1.as_slice(), SHOWN);
+    Ok(())
+}
+
 #[test]
 fn a_frame_goes_to_the_receiver_with_its_wrong_bytes(rt: HostRuntime) -> Result<(), Fail> {
-    let script =
-        b"---\ntext 1700000000 1699999980 METAR KSEA\nturn 1700000001 0\nhear 1700000002 0\n\
-        hear 1700000002 0 0=5A\n";
-    let mut source = FaithfulSource::new(Bytes::of(Vec::from_slice(rt.alloc(), script)?));
-    let mut sink = MemorySink::new(rt.alloc(), 1024, numbers(rt.alloc(), &[])?)?;
-    let status = run_link_over::<FaithfulSource, MemorySink, Deaf>(
-        rt.alloc(),
-        &mut source,
-        &mut sink,
-    );
-    assert_eq!(rt; status, Status::NoMemory);
-    assert_eq!(rt; sink.taken(), HEARD);
+    let ran = deaf_run(rt.alloc(), BURST)?;
+    assert_eq!(rt; ran.0, Status::NoMemory);
+    assert_eq!(rt; ran.1.as_slice(), SENT);
     Ok(())
 }
