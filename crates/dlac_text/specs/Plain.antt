@@ -21,7 +21,7 @@ abbrev pub prefixed : List ℕ → Option (List ℕ) → Option (List ℕ)
 prefixed front None = None
 prefixed front (Some text) = Some (front ++ text)
 
--- what a character behind a backslash stands for, before the rest
+-- what a character after a backslash stands for, before the rest
 abbrev pub unescaped : ℕ → Option (List ℕ) → Option (List ℕ)
 unescaped character rest =
     if character == 110 then prefixed (10 ∷ []) rest

@@ -1,9 +1,9 @@
--- What of some codes was read, and that reading goes on with the codes behind.
+-- What of some codes was read, and that reading goes on with the codes after.
 use Rattle.std.specs.Prelude.{◌≡◌, ℕ, Bool, true, false, List, [], ◌∷◌, ◌++◌, filter}
 use Rattle.dlac_text.specs.Pieces.{pieces_of}
 use Rattle.dlac_text.specs.Reports.{has_characters, texts_between}
 
--- the reports that have ended, the text behind them, and whether a TAB was read last
+-- the reports that have ended, the text after them, and whether a TAB was read last
 pub record Reading : Type 0 where
   pub reports : List (List ℕ)
   pub text : List ℕ

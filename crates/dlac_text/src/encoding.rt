@@ -63,7 +63,7 @@ fn first_bad(text: &str) -> Option<usize>
         .position(|character| !is_in_alphabet(character))
 }
 
-/// The bytes of the codes of some characters of the alphabet and the code 0 behind them.
+/// The bytes of the codes of some characters of the alphabet and the code 0 after them.
 fn payload_bytes(alloc: Global, characters: &[u8]) -> Result<Vec<u8>, AllocError>
     requires { IsDlac characters.now }
     ensures { IfOk result (λ bytes. bytes.items ≡ text_payload characters.now) }
@@ -84,7 +84,7 @@ fn payload_bytes(alloc: Global, characters: &[u8]) -> Result<Vec<u8>, AllocError
     Ok(bytes)
 }
 
-/// Puts the bytes of at most three characters and of the code 0 behind them at the end.
+/// Puts the bytes of at most three characters and of the code 0 after them at the end.
 fn push_last_group(bytes: &mut Vec<u8>, characters: &[u8]) -> Result<(), AllocError>
     requires alphabet { IsDlac characters.now }
     requires few { length characters.now < 4 }

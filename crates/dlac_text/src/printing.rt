@@ -70,7 +70,7 @@ pub fn unplain(alloc: Global, text: &str) -> Result<Option<String>, AllocError>
     Ok(Some(shown))
 }
 
-/// What the text behind a backslash begins with, and what follows that.
+/// What the text after a backslash begins with, and what follows that.
 fn unescaped(after: &str) -> Option<(char, &str)>
     ensures shown { MatchOption result
         (unplained (92 ∷ after.now) ≡ None)

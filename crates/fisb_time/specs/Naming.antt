@@ -1,11 +1,11 @@
 -- Which moment the fields of a received time name. A time field has no year, and often no day, so many
 -- moments have the same fields. Meant is the latest of them that is at most a minute after the
 -- reception: what is broadcast lies in the past, and the minute allows for clocks that differ.
-use Rattle.std.specs.Prelude.{◌≡◌, ℕ, zero, suc, ◌+◌, ◌<◌, ◌≤◌, Bool, ◌&&◌, cond, IsTrue, Option, None, Some}
+use Rattle.std.specs.Prelude.{◌≡◌, ℕ, zero, suc, ◌+◌, ◌*◌, ◌<◌, ◌≤◌, Bool, ◌&&◌, cond, IsTrue, Option, None, Some}
 use Rattle.fisb_time.specs.declared.form.TimeForm.{TimeForm}
 use Rattle.fisb_time.specs.declared.form.TimeForm.TheVariants.{Minute, Second, DayMinute, DaySecond}
 use Rattle.fisb_time.specs.declared.form.TimeFields.{TimeFields}
-use Rattle.fisb_time.specs.Moment.{IsMoment, is_moment}
+use Rattle.fisb_time.specs.Moment.{IsMoment, day_seconds, is_moment}
 use Rattle.fisb_time.specs.TimeForm.{shows}
 use Rattle.fisb_time.specs.TimeFields.{shown, same_fields}
 
@@ -40,10 +40,10 @@ named form fields received = greatest_below (received + 61) (has_fields form fie
 -- the seconds from a moment until its fields may name a later one: they come again after a day, or
 -- with month and day after 365 days at the least
 abbrev pub window : TimeForm → ℕ
-window Minute = 86400
-window Second = 86400
-window DayMinute = 31536000
-window DaySecond = 31536000
+window Minute = day_seconds
+window Second = day_seconds
+window DayMinute = 365 * day_seconds
+window DaySecond = 365 * day_seconds
 
 -- the fields of a moment in this form name that moment again where they are received from a minute
 -- before it on, and earlier than a minute short of so many seconds after it

@@ -10,9 +10,9 @@ use arrayvec::ArrayVec;
 pub(crate) const FLAG: u8 = 0x7e;
 /// The byte that stands before a byte whose bit 5 is turned.
 pub(crate) const ESCAPE: u8 = 0x7d;
-/// The flag behind the control-escape.
+/// The flag after the control-escape.
 pub(crate) const ESCAPED_FLAG: u8 = 0x5e;
-/// The control-escape behind itself.
+/// The control-escape after itself.
 pub(crate) const ESCAPED_ESCAPE: u8 = 0x5d;
 
 /// Writes the message as it is sent, in place of what `out` held.

@@ -3,6 +3,7 @@ use Rattle.std.specs.Prelude.{◌≡◌, ℕ, ◌+◌, ◌≤◌, ◌⊎◌, IsT
 use Rattle.std.specs.List.{All, Contains}
 use Rattle.fisb_time.specs.declared.form.TimeForm.{TimeForm}
 use Rattle.fisb_time.specs.declared.form.TimeForm.TheVariants.{Minute, Second, DayMinute, DaySecond}
+use Rattle.fisb_time.specs.Moment.{day_seconds}
 use Rattle.life_table.specs.Products.{regional_radar, conus_radar}
 use Rattle.life_table.specs.LifeTable.{LifeTable, TextRow, RadarRow, row, text_row, radar_row}
 use Rattle.life_table.specs.LifeTable.{thirty_days}
@@ -12,8 +13,8 @@ use Rattle.life_table.specs.Document.{is_word}
 -- below the time after which a received time could name a later moment: a day where the form has no
 -- date. With a date a life is at most thirty days.
 abbrev pub IsWithinForm : ℕ → TimeForm → ℕ → Type 0
-IsWithinForm late Minute life = life + late + 60 ≤ 86400
-IsWithinForm late Second life = life + late + 60 ≤ 86400
+IsWithinForm late Minute life = life + late + 60 ≤ day_seconds
+IsWithinForm late Second life = life + late + 60 ≤ day_seconds
 IsWithinForm late DayMinute life = life ≤ thirty_days
 IsWithinForm late DaySecond life = life ≤ thirty_days
 
@@ -45,7 +46,7 @@ pub record IsTable (table : LifeTable) : Type 0 where
   pub few_radars : length table.radars ≤ 2
   pub all_texts : All (IsTextRow table) table.texts
   pub all_radars : All (IsRadarRow table) table.radars
-  -- a row with `as` stands behind the row without `as` that it is kept as
+  -- a row with `as` stands after the row without `as` that it is kept as
   pub earlier : (before after : List TextRow) (row : TextRow) → table.texts ≡ before ++ row ∷ after
       → (row.kind ≡ row.word) ⊎ Contains before (own row)
   -- the rows that a look-up finds keep the rules too

@@ -1,5 +1,5 @@
 -- The words of the contracts by which a damaged word is mended. The wrong places of a word are
--- counted by the bytes behind them, and the point of a place is 2 raised to it. A locator is a
+-- counted by the bytes after them, and the point of a place is 2 raised to it. A locator is a
 -- polynomial that is 0 at the point of each wrong place.
 use Rattle.std.specs.Prelude.{◌≡◌, ℕ, zero, suc, ◌+◌, ◌*◌, ◌-◌, ◌<◌, ◌≤◌, ◌==◌, cond, bit_xor}
 use Rattle.std.specs.Prelude.{List, [], ◌∷◌, length, slice_index, set}

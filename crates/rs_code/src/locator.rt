@@ -7,7 +7,7 @@ use crate::product::{add_product, times};
 use gf256_core::{Uat, UatTables, field_laws};
 use poly256::degree_laws;
 
-// The coefficients of a polynomial, each times the sum as far behind `from` as its power, added.
+// The coefficients of a polynomial, each times the sum as far after `from` as its power, added.
 #[inline]
 fn discrepancy(coefficients: &[u8], sums: &[u8], from: usize) -> Uat
     requires { from + length coefficients.now ≤ length sums.now }

@@ -55,7 +55,7 @@ impl AppData {
         self.used as u16
     }
 
-    /// Puts an information frame of this type behind the others: a type of at most 15, and a body of
+    /// Puts an information frame of this type after the others: a type of at most 15, and a body of
     /// at most 511 bytes.
     ///
     /// # Errors
@@ -83,7 +83,7 @@ impl AppData {
         Ok(())
     }
 
-    /// Writes the information frames into a payload from byte 8 on, and zeros behind them. The header
+    /// Writes the information frames into a payload from byte 8 on, and zeros after them. The header
     /// stays.
     pub fn finish(&self, payload: &mut [u8; 432])
         ensures bytes { payload.new ≡ take 8 payload.old ++ application_data self.now }

@@ -8,11 +8,12 @@ use Rattle.list_members.specs.Places.{take-below}
 use Rattle.rs_code.specs.CodeWord.{IsCodeWord, IsNear, IsCorrectable, differences, bound}
 use Rattle.rs_code.specs.Functions.{encoded}
 use Rattle.rs_code.specs.Laws.{HasOneEncoded, IsCorrected}
+use Rattle.rs_code.specs.Instances.{uplink_instance}
 use Rattle.uplink_weave.specs.Woven.{block, IsWoven, AllCorrectable, HasPayload, HasCounts, IsLostBlock}
 use Rattle.uplink_weave.specs.Functions.{part, woven, corrected_block, payload_in, counts_in, lost_block_in}
 use Rattle.uplink_weave.specs.Laws.{IsTheFrame, GivesPayload, FrameGivesPayload, WovenGivesPayload, NearFrameGivesPayload, BurstIsSpread, BurstGivesPayload}
 use Rattle.uplink_weave.proofs.Places.{length-block, is_block, same_frame}
-use Rattle.uplink_weave.proofs.Frames.{uplink, near_gives_payload, near_counts}
+use Rattle.uplink_weave.proofs.Frames.{near_gives_payload, near_counts}
 use Rattle.uplink_weave.proofs.Parts.{length-part, part_from, part_to, joined_to, joined_from, first_from, first_to, none_from, none_to, word_there, no_word, cases_option, joined_none}
 
 -- frames that are woven
@@ -54,7 +55,7 @@ encoded_is :
     → IsCodeWord 92 20 120 (encoded 92 20 120 (part r payload))
     × (take 72 (encoded 92 20 120 (part r payload)) ≡ part r payload)
 encoded_is E payload r h full bytes =
-    (E 92 20 120 (part r payload) (encoded 92 20 120 (part r payload)) uplink (length-part r payload h full)
+    (E 92 20 120 (part r payload) (encoded 92 20 120 (part r payload)) uplink_instance (length-part r payload h full)
     (bytes-part r payload bytes)).0 refl
 
 only_frame : (E : HasOneEncoded) (payload air : List ℕ) → IsWoven payload air → air ≡ woven payload
@@ -65,7 +66,7 @@ only_frame E payload air is =
     let front : take 72 (block r air) ≡ part r payload =
     part_from r payload (block r air) h is.full (length-block r air) (is.parts r h) in
     let same : block r air ≡ encoded 92 20 120 (part r payload) =
-    (E 92 20 120 (part r payload) (block r air) uplink (length-part r payload h is.full)
+    (E 92 20 120 (part r payload) (block r air) uplink_instance (length-part r payload h is.full)
     (subst (λ (w : List ℕ). (i : ℕ) → get_or w i 0 < 256) front (take-below 256 72 (block r air) (lit< tt) code.bytes))).1 (code, front) in
     same ∙ sym (block-woven payload r h (ap length (sym same) ∙ length-block r air)))
 
@@ -114,12 +115,12 @@ near_is :
     (C : IsCorrected) (air : List ℕ) (r : ℕ) (word : List ℕ)
     → (corrected_block air r ≡ Some word) ↔ IsNear 92 20 120 (block r air) word
 unfolding corrected_block
-near_is C air r word = C.nearest 92 20 120 (block r air) word uplink
+near_is C air r word = C.nearest 92 20 120 (block r air) word uplink_instance
 
 none_is :
     (C : IsCorrected) (air : List ℕ) (r : ℕ) → (corrected_block air r ≡ None) ↔ ¬ IsCorrectable 92 20 120 (block r air)
 unfolding corrected_block
-none_is C air r = C.none 92 20 120 (block r air) uplink
+none_is C air r = C.none 92 20 120 (block r air) uplink_instance
 
 long_word :
     (C : IsCorrected) (air : List ℕ) (r : ℕ) (word : List ℕ) → corrected_block air r ≡ Some word → length word ≡ 92

@@ -5,7 +5,7 @@ use Rattle.std.specs.Prelude.{find, Option, Some, None, option_map, unwrap_or, i
 use Rattle.std.specs.List.{range_with_len}
 use Rattle.rs_code.specs.CodeWord.{differences}
 use Rattle.rs_code.specs.Functions.{encoded, corrected}
-use Rattle.uplink_weave.specs.Woven.{block, block_bytes, block_roots, first_root}
+use Rattle.uplink_weave.specs.Woven.{block, block_bytes, block_roots, first_root, frame_bytes}
 
 -- the part of a payload that a block carries
 abbrev pub part : ℕ → List ℕ → List ℕ
@@ -16,7 +16,7 @@ unfoldable pub woven : List ℕ → List ℕ
 woven payload =
     map (λ place.
     slice_index (encoded block_bytes block_roots first_root (part (place % 6) payload)) (place / 6))
-    (range_with_len 0 552)
+    (range_with_len 0 frame_bytes)
 
 -- the code word near a block, where there is one
 unfoldable pub corrected_block : List ℕ → ℕ → Option (List ℕ)

@@ -3,8 +3,9 @@ use Rattle.std.specs.Prelude.{◌≡◌, ◌↔◌, ℕ, ◌+◌, ◌<◌, ◌�
 use Rattle.std.specs.Prelude.{replicate, map, IsTrue, Some, None}
 use Rattle.std.specs.List.{range_with_len}
 use Rattle.rs_code.specs.CodeWord.{are_near, differences}
-use Rattle.uplink_weave.specs.Woven.{block, block_roots, IsWoven, AllCorrectable, HasPayload}
-use Rattle.uplink_weave.specs.Woven.{HasCounts, IsLostBlock}
+use Rattle.uplink_frame.specs.UplinkFrame.{payload_length}
+use Rattle.uplink_weave.specs.Woven.{block, block_roots, frame_bytes, IsWoven, AllCorrectable}
+use Rattle.uplink_weave.specs.Woven.{HasCounts, HasPayload, IsLostBlock}
 use Rattle.uplink_weave.specs.Functions.{woven, payload_in, counts_in, lost_block_in}
 
 -- a woven frame has the payload that it is woven of, and no byte of it is to be changed
@@ -30,7 +31,7 @@ pub record IsUnique : Type 0 where
 -- frames that differ only inside 60 consecutive places differ in at most ten places of each block
 abbrev pub BurstIsSpread : Type 0
 BurstIsSpread =
-    (first : ℕ) (air other : List ℕ) → length air ≡ 552 → length other ≡ 552
+    (first : ℕ) (air other : List ℕ) → length air ≡ frame_bytes → length other ≡ frame_bytes
     → ((place : ℕ) → (place < first) ⊎ (first + 60 ≤ place) →
     slice_index air place ≡ slice_index other place)
     → (r : ℕ) → r < 6 → differences (block r air) (block r other) ≤ 10
@@ -39,9 +40,9 @@ BurstIsSpread =
 pub record IsTheFrame : Type 0 where
   pub only : (payload air : List ℕ) → IsWoven payload air → air ≡ woven payload
   pub made :
-      (payload : List ℕ) → length payload ≡ 432 → ((i : ℕ) → slice_index payload i < 256)
+      (payload : List ℕ) → length payload ≡ payload_length → ((i : ℕ) → slice_index payload i < 256)
       → IsWoven payload (woven payload) × ((i : ℕ) → slice_index (woven payload) i < 256)
-  pub long : (payload : List ℕ) → length (woven payload) ≡ 552
+  pub long : (payload : List ℕ) → length (woven payload) ≡ frame_bytes
 
 -- the functions of a frame give its payload, its counts and its first lost block, and give none
 -- exactly where there is none
@@ -56,7 +57,7 @@ pub record GivesPayload : Type 0 where
 -- the frame of a payload has that payload, and no byte of it is to be changed
 abbrev pub FrameGivesPayload : Type 0
 FrameGivesPayload =
-    (payload : List ℕ) → length payload ≡ 432 → ((i : ℕ) → slice_index payload i < 256)
+    (payload : List ℕ) → length payload ≡ payload_length → ((i : ℕ) → slice_index payload i < 256)
     → (payload_in (woven payload) ≡ Some payload) × (counts_in (woven payload) ≡ replicate 6 0)
     × (lost_block_in (woven payload) ≡ None)
 
@@ -64,7 +65,7 @@ FrameGivesPayload =
 -- the number of places in which its block differs
 abbrev pub NearFrameGivesPayload : Type 0
 NearFrameGivesPayload =
-    (payload air : List ℕ) → length payload ≡ 432 → ((i : ℕ) → slice_index payload i < 256)
+    (payload air : List ℕ) → length payload ≡ payload_length → ((i : ℕ) → slice_index payload i < 256)
     → ((r : ℕ) → r < 6 → IsTrue (are_near block_roots (block r air) (block r (woven payload))))
     → (payload_in air ≡ Some payload)
     × (counts_in air
@@ -75,8 +76,8 @@ NearFrameGivesPayload =
 -- payload
 abbrev pub BurstGivesPayload : Type 0
 BurstGivesPayload =
-    (payload air : List ℕ) (first : ℕ) → length payload ≡ 432
-    → ((i : ℕ) → slice_index payload i < 256) → length air ≡ 552
+    (payload air : List ℕ) (first : ℕ) → length payload ≡ payload_length
+    → ((i : ℕ) → slice_index payload i < 256) → length air ≡ frame_bytes
     → ((place : ℕ) → (place < first) ⊎ (first + 60 ≤ place) →
     slice_index air place ≡ slice_index (woven payload) place)
     → payload_in air ≡ Some payload
