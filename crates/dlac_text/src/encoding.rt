@@ -4,7 +4,7 @@ ghost use Rattle.std.specs.Prelude.{Some, map, [], ◌∷◌, ◌++◌};
 ghost use Rattle.std.specs.Str.{chars};
 ghost use Rattle.dlac_text.specs.Alphabet.{IsDlac, code_of};
 ghost use Rattle.dlac_text.specs.Payload.{text_payload};
-ghost use Rattle.dlac_text.specs.SixBits.{packed};
+ghost use Rattle.dlac_text.specs.SixBits.{packed_bytes};
 ghost use Rattle.dlac_text.specs.Refusal.{first_bad, longest_text, IsSendable, text_refusal};
 ghost use Rattle.dlac_text.specs.Refusal.{told_of_text};
 
@@ -89,7 +89,7 @@ fn push_last_group(bytes: &mut Vec<u8>, characters: &[u8]) -> Result<(), AllocEr
     requires alphabet { IsDlac characters.now }
     requires few { length characters.now < 4 }
     ensures { IfOk result
-        (λ _. bytes.new.items ≡ bytes.old.items ++ packed (map code_of characters.now ++ 0 ∷ [])) }
+        (λ _. bytes.new.items ≡ bytes.old.items ++ packed_bytes (map code_of characters.now ++ 0 ∷ [])) }
 {
     match characters {
         [first, second, third] => {

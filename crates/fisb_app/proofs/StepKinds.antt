@@ -4,8 +4,8 @@ use Rattle.std.specs.Option.{option_or}
 use Rattle.std.specs.List.{cons_option}
 use Rattle.std.proofs.lemmas.List.{length-map}
 use Rattle.list_members.specs.Tests.{zero_more}
-use Rattle.uplink_weave.specs.Functions.{part, woven, payload_in, counts_in}
-use Rattle.rs_code.specs.Functions.{encoded}
+use Rattle.uplink_weave.specs.Functions.{part, woven_frame, payload_in, counts_in}
+use Rattle.rs_code.specs.Functions.{encoded_word}
 use Rattle.std.proofs.lemmas.List.FromFn.{length-map-range_with_len}
 use Rattle.list_members.specs.Tests.{or_none}
 use Rattle.ground_core.specs.Sent.{HistoriesGrow}
@@ -128,9 +128,9 @@ show-made sends hears table acted moment old entries sum h shown is =
 
 -- a frame on the air has 552 bytes
 pub length-aired : (frame : Frame) → length (air_of frame) ≡ 552
-unfolding woven
+unfolding woven_frame
 length-aired frame =
-    length-map-range_with_len (λ (place : ℕ). get_or (encoded 92 20 120 (part (place % 6) (frame_payload frame))) (place / 6) 0) 0 552
+    length-map-range_with_len (λ (place : ℕ). get_or (encoded_word 92 20 120 (part (place % 6) (frame_payload frame))) (place / 6) 0) 0 552
 
 -- what is heard of the frame that was sent last, with its changes
 heard-air : (changes : List (ℕ × ℕ)) (found : Option Frame) (frame : Frame) → found ≡ Some frame → length (air_of frame) ≡ 552

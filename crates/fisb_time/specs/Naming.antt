@@ -7,14 +7,14 @@ use Rattle.fisb_time.specs.declared.form.TimeForm.TheVariants.{Minute, Second, D
 use Rattle.fisb_time.specs.declared.form.TimeFields.{TimeFields}
 use Rattle.fisb_time.specs.Moment.{IsMoment, day_seconds, is_moment}
 use Rattle.fisb_time.specs.TimeForm.{shows}
-use Rattle.fisb_time.specs.TimeFields.{shown, same_fields}
+use Rattle.fisb_time.specs.TimeFields.{shown_fields, same_fields}
 
 -- fields that are received at 'received' can be those of 'moment'
 pub record IsCandidate (form : TimeForm) (fields : TimeFields) (received moment : ℕ) : Type 0 where
   pub in_range : IsMoment moment
   pub not_ahead : moment ≤ received + 60
   pub showable : IsTrue (shows form moment)
-  pub same : shown form moment ≡ fields
+  pub same : shown_fields form moment ≡ fields
 
 -- the fields name this moment: it is the greatest candidate
 pub record Names (form : TimeForm) (fields : TimeFields) (received moment : ℕ) : Type 0 where
@@ -26,7 +26,7 @@ pub record Names (form : TimeForm) (fields : TimeFields) (received moment : ℕ)
 
 -- the number is a moment that the form shows with these fields
 unfoldable pub has_fields : TimeForm → TimeFields → ℕ → Bool
-has_fields form fields m = is_moment m && shows form m && same_fields (shown form m) fields
+has_fields form fields m = is_moment m && shows form m && same_fields (shown_fields form m) fields
 
 -- the greatest number below a bound that passes a test
 unfoldable pub greatest_below : ℕ → (ℕ → Bool) → Option ℕ
@@ -34,8 +34,8 @@ greatest_below zero test = None
 greatest_below (suc n) test = cond (test n) (Some n) (greatest_below n test)
 
 -- the moment that the fields name, if they name one
-unfoldable pub named : TimeForm → TimeFields → ℕ → Option ℕ
-named form fields received = greatest_below (received + 61) (has_fields form fields)
+unfoldable pub named_moment : TimeForm → TimeFields → ℕ → Option ℕ
+named_moment form fields received = greatest_below (received + 61) (has_fields form fields)
 
 -- the seconds from a moment until its fields may name a later one: they come again after a day, or
 -- with month and day after 365 days at the least
@@ -50,4 +50,4 @@ window DaySecond = 365 * day_seconds
 abbrev pub NamesAgain : TimeForm → ℕ → Type 0
 NamesAgain form seconds = (moment received : ℕ) → IsMoment moment → IsMoment received
     → IsTrue (shows form moment) → moment ≤ received + 60 → received + 60 < moment + seconds
-    → Names form (shown form moment) received moment
+    → Names form (shown_fields form moment) received moment

@@ -5,14 +5,14 @@ ghost use Rattle.fisb_time.specs.declared.form.TimeForm.{TimeForm};
 ghost use Rattle.fisb_time.specs.declared.form.TimeFields.{TimeFields};
 ghost use Rattle.fisb_time.specs.Moment.{IsMoment, day_seconds};
 ghost use Rattle.fisb_time.specs.TimeForm.{shows};
-ghost use Rattle.fisb_time.specs.TimeFields.{shown};
+ghost use Rattle.fisb_time.specs.TimeFields.{shown_fields};
 ghost use Rattle.fisb_time.specs.CivilDate.{CivilDate, IsDateOf, date_of};
-ghost use Rattle.fisb_time.specs.Naming.{Names, NamesAgain, named, window};
+ghost use Rattle.fisb_time.specs.Naming.{Names, NamesAgain, named_moment, window};
 
 /// The moment that is found by the function is the one that is named by property.
 pub fn named_is_greatest()
     ensures { (form : TimeForm) (fields : TimeFields) (received moment : ℕ) →
-        (named form fields received ≡ Some moment) ↔ Names form fields received moment }
+        (named_moment form fields received ≡ Some moment) ↔ Names form fields received moment }
 {}
 
 /// The time round trip for times of day: the fields of a moment name that moment again where they
@@ -39,7 +39,7 @@ pub fn form_round_trip()
         IsMoment moment → IsMoment received →
         IsTrue (shows form moment) →
         moment ≤ received + 60 → received + 60 < moment + window form →
-        named form (shown form moment) received ≡ Some moment }
+        named_moment form (shown_fields form moment) received ≡ Some moment }
     ensures names { (form : TimeForm) → NamesAgain form (window form) }
 {}
 

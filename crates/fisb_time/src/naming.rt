@@ -3,7 +3,7 @@ ghost use Rattle.std.specs.Prelude.{◌≡◌, ℕ, ◌+◌, ◌*◌, ◌%◌, �
 ghost use Rattle.fisb_time.specs.Moment.{IsMoment, day_seconds, last_moment};
 ghost use Rattle.fisb_time.specs.CivilDate.{IsMonthAndDay, date_of};
 ghost use Rattle.fisb_time.specs.TimeFields.{IsSecondIn, IsDateIn, IsTimeIn};
-ghost use Rattle.fisb_time.specs.Naming.{IsCandidate, Names, named};
+ghost use Rattle.fisb_time.specs.Naming.{IsCandidate, Names, named_moment};
 
 use crate::calendar::{day_number, is_month_and_day, year_at, years_between};
 use crate::form::{TimeFields, TimeForm};
@@ -19,7 +19,7 @@ pub fn resolve(form: TimeForm, fields: &TimeFields, received: Moment) -> Option<
     ensures names { IfSome result (Names form fields.now received) }
     ensures none { IsNone result ↔ ((m : ℕ) → ¬ IsCandidate form fields.now received m) }
     ensures found { (m : ℕ) → IsCandidate form fields.now received m → IsSome result }
-    ensures value { result ≡ named form fields.now received }
+    ensures value { result ≡ named_moment form fields.now received }
 {
     if !is_time(form, fields) {
         return None;

@@ -1,7 +1,7 @@
 //! A message between two flags.
 ghost use Rattle.std.specs.Prelude.{◌≡◌, ◌+◌, ◌<◌, ◌≤◌, ◌++◌, length};
 ghost use Rattle.arrayvec.specs.ArrayVec.{array_vec_len};
-ghost use Rattle.gdl90_core.specs.Framing.{escaped_byte, framed};
+ghost use Rattle.gdl90_core.specs.Framing.{escaped_byte, framed_message};
 
 use crate::fcs;
 use arrayvec::ArrayVec;
@@ -19,7 +19,7 @@ pub(crate) const ESCAPED_ESCAPE: u8 = 0x5d;
 pub fn frame_message(message: &[u8], out: &mut ArrayVec<u8, 2052>)
     requires not_empty { 0 < length message.now }
     requires fits { length message.now ≤ 1022 }
-    ensures { out.new.items ≡ framed message.now }
+    ensures { out.new.items ≡ framed_message message.now }
 {
     let check = fcs(message);
     out.clear();

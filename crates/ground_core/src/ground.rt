@@ -281,7 +281,7 @@ impl Ground {
             moment,
             slot,
             bodies: bodies as u16,
-            used: frames.used(),
+            used: frames.used_bytes(),
             air: air_of(self.station, slot, &frames),
         })
     }

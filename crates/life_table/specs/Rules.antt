@@ -19,8 +19,8 @@ IsWithinForm late DayMinute life = life ≤ thirty_days
 IsWithinForm late DaySecond life = life ≤ thirty_days
 
 -- the row without `as` that a row is kept as
-abbrev pub own : TextRow → TextRow
-own r = row r.kind r.kind r.words r.life r.form
+abbrev pub own_row : TextRow → TextRow
+own_row r = row r.kind r.kind r.words r.life r.form
 
 -- a row of reports: its word finds it, so that no type stands twice, and the type that it names
 -- finds the row that it is kept as
@@ -31,7 +31,7 @@ pub record IsTextRow (table : LifeTable) (row : TextRow) : Type 0 where
   pub lives : 1 ≤ row.life
   pub within : IsWithinForm table.late row.form row.life
   pub found : text_row table row.word ≡ Some row
-  pub named : text_row table row.kind ≡ Some (own row)
+  pub named : text_row table row.kind ≡ Some (own_row row)
 
 -- a row of radar: its product finds it, so that no product stands twice
 pub record IsRadarRow (table : LifeTable) (row : RadarRow) : Type 0 where
@@ -48,7 +48,7 @@ pub record IsTable (table : LifeTable) : Type 0 where
   pub all_radars : All (IsRadarRow table) table.radars
   -- a row with `as` stands after the row without `as` that it is kept as
   pub earlier : (before after : List TextRow) (row : TextRow) → table.texts ≡ before ++ row ∷ after
-      → (row.kind ≡ row.word) ⊎ Contains before (own row)
+      → (row.kind ≡ row.word) ⊎ Contains before (own_row row)
   -- the rows that a look-up finds keep the rules too
   pub texts : (word : List ℕ) (row : TextRow) → text_row table word ≡ Some row → IsTextRow table row
   pub radars : (product : ℕ) (row : RadarRow) → radar_row table product ≡ Some row

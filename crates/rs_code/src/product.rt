@@ -1,6 +1,6 @@
 //! Products of elements without a branch: by the powers of 2, which come round once, with zeros after them.
 ghost use Rattle.std.specs.Prelude.{◌≡◌, ◌+◌, ◌<◌, ◌≤◌, length, slice_index};
-ghost use Rattle.poly256.specs.Polynomial.{element_product, raised, scaled, sum_of};
+ghost use Rattle.poly256.specs.Polynomial.{element_product, raised_coefficients, scaled_coefficients, sum_of};
 ghost use Rattle.rs_code.specs.declared.product.TheConstants.{POWERS, LOGARITHMS};
 
 use gf256_core::{Uat, UatTables, field_laws};
@@ -127,7 +127,7 @@ pub(crate) fn times(first: Uat, second: Uat) -> Uat
 #[inline]
 pub(crate) fn add_product(room: &mut [u8], place: usize, factor: Uat, polynomial: &[u8])
     requires { place + length polynomial.now ≤ length room.old }
-    ensures { room.new ≡ sum_of room.old (raised place (scaled factor polynomial.now)) }
+    ensures { room.new ≡ sum_of room.old (raised_coefficients place (scaled_coefficients factor polynomial.now)) }
 {
     field_laws::<UatTables>();
     degree_laws();

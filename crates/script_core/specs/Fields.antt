@@ -9,7 +9,7 @@ use Rattle.std.specs.Result.{result_ok}
 use Rattle.std.specs.Str.{bytes_eq, is_utf8}
 use Rattle.hex.specs.Hex.{decode_sized}
 use Rattle.fisb_time.specs.Moment.{first_moment, last_moment}
-use Rattle.dlac_text.specs.Plain.{unplained}
+use Rattle.dlac_text.specs.Plain.{text_of_plain}
 use Rattle.uplink_weave.specs.Woven.{frame_bytes}
 use Rattle.uplink_frame.specs.declared.station.StationId.{StationId}
 use Rattle.script_core.specs.Script.{Line, empty, station, text, radar, blank, turn, hear, rx, show}
@@ -131,7 +131,7 @@ station_line (latitude ∷ longitude ∷ site ∷ more ∷ others) = None
 -- `text MOMENT VERSION REPORT`, where REPORT is all of the line after the third space, UTF-8, and
 -- shows a text
 abbrev pub report_in : List ℕ → Option (List ℕ)
-report_in bytes = if is_utf8 bytes then unplained bytes else None
+report_in bytes = if is_utf8 bytes then text_of_plain bytes else None
 
 abbrev pub text_line : List (List ℕ) → Option Line
 text_line [] = None

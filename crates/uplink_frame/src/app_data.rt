@@ -48,7 +48,7 @@ impl AppData {
     }
 
     /// The bytes that the information frames take: two for each, and its body.
-    pub fn used(&self) -> u16
+    pub fn used_bytes(&self) -> u16
         ensures used { result ≡ length (spelled_frames self.now) }
         ensures room { result ≤ frame_room }
     {
