@@ -1,5 +1,5 @@
 -- The number of a key stands in the order of the key's fields.
-use Rattle.std.proofs.Common.{◌≡◌, ℕ, ◌+◌, ◌*◌, ◌<◌, Bool, true, false, refl, ap, ◌∙◌, arith}
+use Rattle.std.proofs.Common.{◌≡◌, ℕ, ◌+◌, ◌*◌, ◌<◌, refl, sym, ap, ◌∙◌, arith}
 use Rattle.std.specs.declared.cmp.Ordering.{Ordering}
 use Rattle.std.specs.declared.cmp.Ordering.TheVariants.{Less, Equal, Greater}
 use Rattle.std.specs.Ordering.{nat_cmp, ordering_then}
@@ -44,3 +44,17 @@ pub number-order : (a b : BlockKey) (m n : ℕ) (o : Ordering) → m ≡ key_num
     → a.number < 4294967296 → b.number < 4294967296 → o ≡ nat_cmp m n → o ≡ block_key_cmp a b
 number-order a b m n o is is' scale scale' number number' compared =
     rw (compared, is, is') (keys-numbered a b scale scale' number number')
+
+itself : (n : ℕ) → nat_cmp n n ≡ Equal
+itself n = grind (arith, nat_tests)
+
+-- where the other fields are the same, the numbers decide
+pub beside-order : (a b : BlockKey) (o : Ordering) → a.product ≡ b.product → a.scale ≡ b.scale → a.south ≡ b.south
+    → o ≡ nat_cmp a.number b.number → o ≡ block_key_cmp a b
+beside-order a b o product scale south is =
+    let third : ordering_then (nat_cmp (bit a.south) (bit b.south)) (nat_cmp a.number b.number) ≡ nat_cmp a.number b.number =
+    (rw south (ap (λ p. ordering_then p (nat_cmp a.number b.number)) (itself (bit b.south)))) in
+    rw (product, scale) (is ∙ sym (ap (λ p. ordering_then p (ordering_then (nat_cmp b.scale b.scale)
+    (ordering_then (nat_cmp (bit a.south) (bit b.south)) (nat_cmp a.number b.number)))) (itself b.product)
+    ∙ ap (λ p. ordering_then p (ordering_then (nat_cmp (bit a.south) (bit b.south)) (nat_cmp a.number b.number))) (itself b.scale)
+    ∙ third))

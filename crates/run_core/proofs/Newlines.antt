@@ -1,11 +1,13 @@
 -- Bytes, cut at their first newline.
-use Rattle.std.proofs.Common.{◌≡◌, ◌==◌, ℕ, ◌+◌, ◌<◌, ◌≤◌, nat_lt, true, false, List, [], ◌∷◌, ◌++◌, Some, None, length, take, drop, sym, ap, ◌∙◌, arith, inl, inr, refl, length-append}
+use Rattle.std.proofs.Common.{◌≡◌, ◌==◌, ℕ, ◌+◌, ◌-◌, ◌<◌, ◌≤◌, nat_lt, nat_le, min, true, false, List, [], ◌∷◌, ◌++◌, Option, Some, None, slice_index, length, take, drop, sym, ap, ◌∙◌, arith, inl, inr, refl, length-append}
 use Rattle.std.proofs.lemmas.Bool.{cases_Bool}
 use Rattle.std.proofs.lemmas.Bool.Decides.{nat_tests}
-use Rattle.std.proofs.lemmas.List.{take-append-le, drop-append-le}
+use Rattle.std.proofs.lemmas.List.{take-append-le, drop-append-le, drop_all}
+use Rattle.std.proofs.Math.Seq.{drop-append-add}
 use Rattle.std.proofs.lemmas.List.Splits.{slice_split_first, slice_split_none, length-slice_split}
-use Rattle.std.proofs.lemmas.List.Sums.{fails_before_first}
+use Rattle.std.proofs.lemmas.List.Sums.{fails_before_first, position_or_len_is}
 use Rattle.std.specs.List.{position_or_len}
+use Rattle.memchr.specs.Find.{IsFirstByte, is_byte}
 use Rattle.run_core.specs.Reading.{newline_in}
 use Rattle.run_core.specs.Lines.{parts_of}
 
@@ -59,6 +61,56 @@ none-append xs more one other =
     let past = none-at more other in
     let size = length-append xs more in
     at-none (xs ++ more) (omega (arith, same, past, size))
+
+-- the first newline of bytes in two parts
+pub front-newline : (e : ℕ) (xs more : List ℕ) → newline_in xs ≡ Some e → newline_in (xs ++ more) ≡ Some e
+front-newline e xs more found =
+    let at = found-at e xs found in
+    let same = first-append xs more at.1 in
+    let size = length-append xs more in
+    let w = at.1 in
+    at-found (xs ++ more) (omega (arith, same, w, size)) ∙ ap Some (same ∙ sym at.0)
+
+pub back-newline : (e : ℕ) (xs more : List ℕ) → newline_in xs ≡ None → newline_in more ≡ Some e
+    → newline_in (xs ++ more) ≡ Some (length xs + e)
+back-newline e xs more none found =
+    let at = found-at e more found in
+    let same = past-append xs more (none-at xs none) in
+    let size = length-append xs more in
+    let w = at.1 in
+    at-found (xs ++ more) (omega (arith, same, w, size)) ∙ ap Some (same ∙ ap (λ n. length xs + n) (sym at.0))
+
+-- what is left of two parts from a place on
+pub parts-dropped : (from skipped : ℕ) (xs ys : List ℕ) → skipped ≡ min from (length xs)
+    → drop skipped xs ++ drop (from - skipped) ys ≡ drop from (xs ++ ys)
+parts-dropped from skipped xs ys is =
+    elim (cases_Bool (nat_le from (length xs))) [
+      | inl within ↦ (let all : skipped ≡ from = grind (arith, nat_tests) in
+          let here : from ≤ length xs = grind (arith, nat_tests) in
+          let none : from - skipped ≡ 0 = omega (arith, all) in
+          ap (λ n. drop n xs ++ drop (from - skipped) ys) all ∙ ap (λ n. drop from xs ++ drop n ys) none
+          ∙ sym (drop-append-le from xs ys here))
+      | inr past ↦ (let all : skipped ≡ length xs = grind (arith, nat_tests) in
+          let whole : length xs + (from - skipped) ≡ from = grind (arith, nat_tests) in
+          ap (λ n. drop n xs ++ drop (from - skipped) ys) all
+          ∙ ap (λ zs. zs ++ drop (from - skipped) ys) (drop_all (length xs) xs (omega arith))
+          ∙ sym (drop-append-add xs ys (from - skipped)) ∙ ap (λ n. drop n (xs ++ ys)) whole)
+    ]
+
+-- the answer of a search for a newline
+pub searched-newline : (xs : List ℕ) (found : Option ℕ) → IsFirstByte (is_byte 10) xs found → found ≡ newline_in xs
+searched-newline xs None none = sym (at-none xs (let at = position_or_len_is (λ b. b == 10) xs (length xs) 0 (omega arith)
+    (λ k within. elim (cases_Bool (slice_index xs k == 10)) [
+      | inl here ↦ absurd (none k (omega arith) within here)
+      | inr not_here ↦ not_here
+    ]) (λ past. absurd (omega (arith, past))) in omega (arith, at)))
+searched-newline xs (Some e) found =
+    let at = position_or_len_is (λ b. b == 10) xs e 0 (let w = found.0.high in omega (arith, w))
+    (λ k within. elim (cases_Bool (slice_index xs k == 10)) [
+      | inl here ↦ absurd (found.0.before k (omega arith) within here)
+      | inr not_here ↦ not_here
+    ]) (λ within. found.1) in
+    sym (at-found xs (let w = found.0.high in omega (arith, at, w)) ∙ ap Some at)
 
 -- the first part ends before the first newline
 pub parts-cut : (e : ℕ) (xs more : List ℕ) → newline_in xs ≡ Some e

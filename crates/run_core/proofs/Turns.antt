@@ -53,9 +53,6 @@ pub moved : (work : Work) (table : List ℕ) (stands : List (List ℕ) → Type 
     → IsAt work table stands number old now input → IsAt work table stands number old now after
 moved work table stands number old now input after same a = subst (IsAt work table stands number old now) (sym same) a
 
-pub moved-within : (input after : Input) → after ≡ input → IsWithin input → IsWithin after
-moved-within input after same w = subst IsWithin (sym same) w
-
 -- a read that found the end
 pub at-end-read : (work : Work) (table : List ℕ) (stands : List (List ℕ) → Type 0) (number : ℕ) (old : Ends)
     (lb la : Option (List ℕ)) (rb ra : ℕ) (written : Option (List ℕ)) (writes : ℕ) (input : Input)
@@ -77,51 +74,44 @@ at-end-read work table stands number old lb la rb ra written writes input none s
   writes = a.writes;
 }
 
-pub count-more : (number limit : ℕ) (input now after : Input) (lb la : Option (List ℕ)) (rb ra : ℕ) (piece : List ℕ)
-    → now ≡ input → HasGrown now after (source_end lb rb) (source_end la ra) piece
+pub count-more : (number limit : ℕ) (input after : Input) (lb la : Option (List ℕ)) (rb ra : ℕ) (piece : List ℕ)
+    → HasGrown input after (source_end lb rb) (source_end la ra) piece
     → number + length input.ring.items ≤ input.taken + limit → number + length after.ring.items ≤ after.taken + limit
-count-more number limit input now after lb la rb ra piece same g count =
-    let items = ap (λ (i : Input). length i.ring.items) same in
-    let taken = ap (λ (i : Input). i.taken) same in
-    let size = ap length g.items ∙ length-append now.ring.items piece in
+count-more number limit input after lb la rb ra piece g count =
+    let size = ap length g.items ∙ length-append input.ring.items piece in
     let all = g.taken in
-    omega (arith, items, taken, size, all, count)
+    omega (arith, size, all, count)
 
-pub clear-more : (place : ℕ) (input now after : Input) (lb la : Option (List ℕ)) (rb ra : ℕ) (piece : List ℕ)
-    → now ≡ input → HasGrown now after (source_end lb rb) (source_end la ra) piece → place ≤ length input.ring.items
+pub clear-more : (place : ℕ) (input after : Input) (lb la : Option (List ℕ)) (rb ra : ℕ) (piece : List ℕ)
+    → HasGrown input after (source_end lb rb) (source_end la ra) piece → place ≤ length input.ring.items
     → newline_in (drop place input.ring.items) ≡ None → newline_in piece ≡ None
     → newline_in (drop place after.ring.items) ≡ None
-clear-more place input now after lb la rb ra piece same g within none piece_none =
-    let items : after.ring.items ≡ input.ring.items ++ piece = g.items ∙ ap (λ (i : Input). i.ring.items ++ piece) same in
-    ap (λ xs. newline_in (drop place xs)) items ∙ ap newline_in (drop-append-le place input.ring.items piece within)
+clear-more place input after lb la rb ra piece g within none piece_none =
+    ap (λ xs. newline_in (drop place xs)) g.items ∙ ap newline_in (drop-append-le place input.ring.items piece within)
     ∙ none-append (drop place input.ring.items) piece none piece_none
 
-pub count-less : (number limit : ℕ) (input now after : Input) (e : ℕ) → now ≡ input
-    → newline_in now.ring.items ≡ Some e → after.ring.items ≡ drop (e + 1) now.ring.items → after.taken ≡ now.taken
+pub count-less : (number limit : ℕ) (input after : Input) (e : ℕ)
+    → newline_in input.ring.items ≡ Some e → after.ring.items ≡ drop (e + 1) input.ring.items → after.taken ≡ input.taken
     → number + length input.ring.items ≤ input.taken + limit → number + 1 + length after.ring.items ≤ after.taken + limit
-count-less number limit input now after e same found dropped taken count =
-    let items = ap (λ (i : Input). length i.ring.items) same in
-    let all = ap (λ (i : Input). i.taken) same in
-    let size = ap length dropped ∙ length-drop (e + 1) now.ring.items in
-    let at = found-at e now.ring.items found in
+count-less number limit input after e found dropped taken count =
+    let size = ap length dropped ∙ length-drop (e + 1) input.ring.items in
+    let at = found-at e input.ring.items found in
     let a = at.0 in
     let b = at.1 in
-    omega (arith, items, all, size, taken, count, a, b)
+    omega (arith, size, taken, count, a, b)
 
-pub within-less : (input now after : Input) (count : ℕ) → now ≡ input → after.ring.items ≡ drop count now.ring.items
-    → after.ring.capacity ≡ now.ring.capacity → after.taken ≡ now.taken
+pub within-less : (input after : Input) (count : ℕ) → after.ring.items ≡ drop count input.ring.items
+    → after.ring.capacity ≡ input.ring.capacity → after.taken ≡ input.taken
     → IsWithin input → IsWithin after
-within-less input now after count same dropped capacity taken w =
-    let items = ap (λ (i : Input). length i.ring.items) same in
-    let all = ap (λ (i : Input). i.taken) same in
-    let size = ap length dropped ∙ length-drop count now.ring.items in
+within-less input after count dropped capacity taken w =
+    let size = ap length dropped ∙ length-drop count input.ring.items in
     let a = w.items in
     let b = w.held in
     let d = w.taken in record {
-      capacity = capacity ∙ ap (λ (i : Input). i.ring.capacity) same ∙ w.capacity;
-      items = omega (arith, items, size, a);
-      held = omega (arith, items, all, size, taken, b);
-      taken = omega (arith, all, taken, d);
+      capacity = capacity ∙ w.capacity;
+      items = omega (arith, size, a);
+      held = omega (arith, size, taken, b);
+      taken = omega (arith, taken, d);
     }
 
 -- ---- the search

@@ -1,6 +1,6 @@
 -- What the search for the line that ends the table leaves.
 use Rattle.std.specs.Prelude.{◌≡◌, ℕ, ◌+◌, ◌-◌, ◌<◌, ◌≤◌, Bool, true, false, ◌&&◌, nat_le, List, []}
-use Rattle.std.specs.Prelude.{◌++◌, length, take, drop, Option, Some, None}
+use Rattle.std.specs.Prelude.{◌++◌, length, take, drop, Some, None}
 use Rattle.std.specs.Io.KnownBytes.{Consumes, IsAtEnd}
 use Rattle.fisb_wire.specs.Faults.{Rose}
 use Rattle.run_core.specs.declared.input.Input.{Input}

@@ -1,5 +1,5 @@
 //! The bytes that were read and not yet acted on.
-ghost use Rattle.std.specs.Prelude.{◌≡◌, ◌+◌, ◌<◌, ◌≤◌, [], length, drop, IfOk, IfSome, None};
+ghost use Rattle.std.specs.Prelude.{◌≡◌, ◌+◌, ◌<◌, ◌≤◌, ◌^◌, [], ◌++◌, length, drop, IfOk, IfSome, None};
 ghost use Rattle.std.specs.Prelude.{option_map, false};
 ghost use Rattle.circular_buffer.specs.Buffer.{buffer};
 ghost use Rattle.run_core.specs.Limits.{input_limit, ring_limit, table_limit};
@@ -8,6 +8,7 @@ ghost use Rattle.run_core.specs.Run.{source_end};
 
 use circular_buffer::HeapCircularBuffer;
 use fisb_wire::Source;
+use memchr::memchr;
 use std::alloc::{AllocError, Global};
 
 /// The most bytes of an input that are acted on.
@@ -85,19 +86,24 @@ impl Input {
 
     /// Where the first newline at or after a place stands. It is not looked for where there can
     /// be none.
-    pub(crate) fn next_end(&mut self, from: usize, may_end: bool) -> Option<usize>
-        requires from { from ≤ length self.old.ring.items }
-        requires none { may_end ≡ false → newline_in (drop from self.old.ring.items) ≡ None }
+    pub(crate) fn next_end(&self, from: usize, may_end: bool) -> Option<usize>
+        requires from { from ≤ length self.now.ring.items }
+        requires none { may_end ≡ false → newline_in (drop from self.now.ring.items) ≡ None }
         ensures end { result
-            ≡ option_map (λ end. from + end) (newline_in (drop from self.old.ring.items)) }
-        ensures within { IfSome result (λ end. end < length self.old.ring.items) }
-        ensures same { self.new ≡ self.old }
+            ≡ option_map (λ end. from + end) (newline_in (drop from self.now.ring.items)) }
+        ensures within { IfSome result (λ end. end < length self.now.ring.items) }
     {
         if !may_end {
             return None;
         }
-        let bytes = self.ring.make_contiguous();
-        newline_from(bytes, from)
+        let (front, back) = self.ring.as_slices();
+        let skipped = from.min(front.len());
+        let front = front.split_at(skipped).1;
+        let back = back.split_at(from - skipped).1;
+        match newline_in_two(front, back) {
+            Some(end) => Some(from + end),
+            None => None,
+        }
     }
 
     /// Lets go of so many bytes at the front.
@@ -127,18 +133,19 @@ fn past_limit<S: Source>(source: &mut S) -> Read
 fn has_newline(bytes: &[u8]) -> bool
     ensures { result ≡ false → newline_in bytes.now ≡ None }
 {
-    newline_from(bytes, 0).is_some()
+    memchr(b'\n', bytes).is_some()
 }
 
-// Where the first newline at or after a place stands.
-fn newline_from(bytes: &[u8], from: usize) -> Option<usize>
-    requires { from ≤ length bytes.now }
-    ensures end { result ≡ option_map (λ end. from + end) (newline_in (drop from bytes.now)) }
-    ensures within { IfSome result (λ end. end < length bytes.now) }
+// Where the first newline stands of bytes in two parts.
+fn newline_in_two(front: &[u8], back: &[u8]) -> Option<usize>
+    requires { length front.now + length back.now < 2 ^ 64 }
+    ensures { result ≡ newline_in (front.now ++ back.now) }
 {
-    let rest = bytes.split_at(from).1;
-    match rest.iter().position(|byte| *byte == b'\n') {
-        Some(end) => Some(from + end),
+    if let Some(end) = memchr(b'\n', front) {
+        return Some(end);
+    }
+    match memchr(b'\n', back) {
+        Some(end) => Some(front.len() + end),
         None => None,
     }
 }

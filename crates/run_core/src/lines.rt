@@ -1,14 +1,18 @@
 //! Acts on the lines after the table, one after another.
-ghost use Rattle.std.specs.Prelude.{◌≡◌, ℕ, ◌+◌, ◌≤◌, ◌<◌, List, length, Option, None};
+ghost use Rattle.std.specs.Prelude.{◌≡◌, ℕ, ◌+◌, ◌≤◌, ◌<◌, List, ◌∷◌, ◌++◌, length, take, Option, None};
 ghost use Rattle.std.specs.Io.KnownBytes.{IsAtEnd};
+ghost use Rattle.run_core.specs.Acted.{reading};
+ghost use Rattle.run_core.specs.Acting.{HasActedOn};
+ghost use Rattle.run_core.specs.Limits.{ring_limit};
 ghost use Rattle.run_core.specs.Reading.{IsWithin, newline_in};
-ghost use Rattle.run_core.specs.Run.{Ends, ends, HasRun, task_of};
+ghost use Rattle.run_core.specs.Run.{Ends, ends, sink_end, HasRun, task_of};
 ghost use Rattle.run_core.specs.Running.{IsAt};
 
-use crate::acting::{LINE_LIMIT, act_on_front, refuse};
+use crate::acting::{LINE_LIMIT, act_on_front, act_on_line, refuse};
 use crate::actor::Actor;
-use crate::input::{Input, Read};
+use crate::input::{Input, RING_LIMIT, Read};
 use crate::status::Status;
+use circular_buffer::HeapCircularBuffer;
 use fisb_wire::{Sink, Source};
 use refusal_core::Reason;
 use std::alloc::Global;
@@ -39,8 +43,7 @@ pub(crate) fn act_on_lines<A: Actor, S: Source, K: Sink>(
     let mut may_end = true;
     loop {
         if let Some(end) = input.next_end(0, may_end) {
-            let bytes = input.ring.make_contiguous();
-            if let Err(status) = act_on_front(alloc, &mut actor, number, bytes, end, sink) {
+            if let Err(status) = act_on_next(alloc, &mut actor, number, &input.ring, end, sink) {
                 return status;
             }
             input.drop_front(end + 1);
@@ -66,7 +69,7 @@ fn act_on_last<A: Actor, K: Sink>(
     alloc: Global,
     mut actor: A,
     number: u64,
-    mut input: Input,
+    input: Input,
     sink: &mut K,
 ) -> Status
     requires spare { K.spare sink.old ≡ None }
@@ -84,9 +87,51 @@ fn act_on_last<A: Actor, K: Sink>(
     if end == 0 {
         return Status::Done;
     }
-    let bytes = input.ring.make_contiguous();
-    match act_on_front(alloc, &mut actor, number, bytes, end, sink) {
+    match act_on_next(alloc, &mut actor, number, &input.ring, end, sink) {
         Ok(()) => Status::Done,
         Err(status) => status,
     }
+}
+
+/// Acts on the line before an end of line in the ring. Only a line that goes on past the end of
+/// the ring's block is copied, to be one slice.
+fn act_on_next<A: Actor, K: Sink>(
+    alloc: Global,
+    actor: &mut A,
+    number: u64,
+    ring: &HeapCircularBuffer<u8>,
+    end: usize,
+    sink: &mut K,
+) -> Result<(), Status>
+    requires spare { K.spare sink.old ≡ None }
+    requires end { end ≤ length ring.now.items }
+    requires fits { end ≤ ring_limit }
+    ensures acted { (table : List ℕ) (past : List (List ℕ)) → A.stands table past actor.old
+        → HasActedOn A.work number (reading (A.work.told table) past (take end ring.now.items))
+        (A.stands table (take end ring.now.items ∷ past) actor.new)
+        (sink_end (K.written sink.old) (K.faults sink.old))
+        (sink_end (K.written sink.new) (K.faults sink.new)) result }
+    ensures spare { K.spare sink.new ≡ None }
+    ensures reach { K.reach sink.new ≡ K.reach sink.old }
+{
+    let (front, back) = ring.as_slices();
+    if end <= front.len() {
+        return act_on_front(alloc, actor, number, front, end, sink);
+    }
+    let mut room = [0u8; RING_LIMIT];
+    let line = &mut room[..end];
+    copy_parts(front, back, line);
+    act_on_line(alloc, actor, number, line, sink)
+}
+
+/// Copies bytes in two parts, as many as the line has.
+fn copy_parts(front: &[u8], back: &[u8], line: &mut [u8])
+    requires front { length front.now ≤ length line.old }
+    requires back { length line.old ≤ length front.now + length back.now }
+    ensures { line.new ≡ take (length line.old) (front.now ++ back.now) }
+{
+    let (first, second) = line.split_at_mut(front.len());
+    first.copy_from_slice(front);
+    let rest = back.split_at(second.len()).0;
+    second.copy_from_slice(rest);
 }

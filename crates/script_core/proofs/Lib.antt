@@ -6,6 +6,7 @@ pub mod ReportTexts
 pub mod LineForms
 pub mod BlockNumbers
 pub mod CellDigits
+pub mod HexPairs
 pub mod FieldRanges
 pub mod RadarRanges
 pub mod LineRanges

@@ -1,14 +1,16 @@
 //! The fields of a line, and the small forms that they have.
-ghost use Rattle.std.specs.Prelude.{◌≡◌, ◌==◌, ◌<◌, ◌≤◌, ◌^◌, ◌∷◌, [], unwrap_or, None, Some, IfOk, IfSome, MatchOption, length, option_copied};
+ghost use Rattle.std.specs.Prelude.{◌≡◌, ◌==◌, ◌*◌, ◌<◌, ◌≤◌, ◌^◌, if◌then◌else◌, ◌∷◌, [], unwrap_or, None, Some, IfOk, IfSome, MatchOption, length, option_copied};
 ghost use Rattle.std.specs.List.{slice_split, before_first, after_first};
 ghost use Rattle.std.specs.Str.{bytes_eq};
+ghost use Rattle.std.specs.Result.{result_ok};
 ghost use Rattle.fisb_time.specs.Moment.{IsMoment};
+ghost use Rattle.hex.specs.Hex.{decode_sized, hex_digit_value};
 ghost use Rattle.script_core.specs.Fields.{parts_left, fields_left, number_within, moment_in, south_in, is_cells, intensities_in, block_number_in, numbers_in, air_in, has_leading_zero};
 
 use crate::script_line::LineFault;
 use fisb_time::Moment;
 use fisb_wire::Numbers;
-use hex::FromHex;
+use memchr::memchr;
 use radar_core::Cells;
 use std::alloc::Global;
 
@@ -55,7 +57,7 @@ pub(crate) fn cut_at(bytes: &[u8], separator: u8) -> (&[u8], Option<&[u8]>)
     ensures behind { unwrap_or (option_copied result.1) []
         ≡ after_first (λ b. b == separator) bytes.now }
 {
-    match bytes.iter().position(|byte| *byte == separator) {
+    match memchr(separator, bytes) {
         Some(end) => {
             let (front, back) = bytes.split_at(end);
             (front, Some(back.split_at(1).1))
@@ -134,10 +136,11 @@ pub(crate) fn read_cells(field: &[u8]) -> Option<Cells>
     if !is_cells(field) {
         return None;
     }
-    let Ok(digits) = <[u8; CELLS]>::try_from(field) else {
-        return None;
-    };
-    Cells::new(digits.map(|digit| digit.saturating_sub(b'0')))
+    let mut cells = [0; CELLS];
+    for place in 0..CELLS {
+        cells[place] = field[place] - b'0';
+    }
+    Cells::new(cells)
 }
 
 /// Whether the field has the digits of the cells of a block.
@@ -180,5 +183,39 @@ pub(crate) fn read_numbers(alloc: Global, field: &[u8]) -> Result<Numbers, LineF
 pub(crate) fn read_air(field: &[u8]) -> Option<[u8; 552]>
     ensures { result ≡ air_in field.now }
 {
-    <[u8; 552]>::from_hex(field).ok()
+    let mut air = [0; 552];
+    if field.len() == 2 * air.len() && read_pairs(field, &mut air) {
+        Some(air)
+    } else {
+        None
+    }
+}
+
+/// Writes the bytes that the digits spell, two digits a byte, and answers whether all are digits.
+/// No branch depends on a digit, so that many are read at a time.
+fn read_pairs(digits: &[u8], bytes: &mut [u8]) -> bool
+    requires { length digits.now ≡ 2 * length bytes.old }
+    ensures { result_ok (decode_sized digits.now (length bytes.old))
+        ≡ (if result then Some bytes.new else None) }
+{
+    let mut greatest = 0u8;
+    for place in 0..bytes.len() {
+        let high = digit_value(digits[2 * place]);
+        let low = digit_value(digits[2 * place + 1]);
+        greatest = greatest.max(high).max(low);
+        bytes[place] = high.wrapping_mul(16).wrapping_add(low);
+    }
+    greatest < 16
+}
+
+/// The value of a hexadecimal digit of either case, and 255 for another byte.
+fn digit_value(digit: u8) -> u8
+    ensures { result ≡ unwrap_or (hex_digit_value digit) 255 }
+{
+    match digit {
+        b'0'..=b'9' => digit - b'0',
+        b'A'..=b'F' => digit - b'A' + 10,
+        b'a'..=b'f' => digit - b'a' + 10,
+        _ => 255,
+    }
 }

@@ -1,13 +1,13 @@
-use Rattle.std.proofs.Common.{◌≡◌, ◌+◌, ℕ, Option, Some, None, false, is_some, ap, sym, ◌∙◌, refl}
-use Rattle.std.specs.Option.{option_map}
+use Rattle.std.proofs.Common.{◌≡◌, Option, Some, None, false, is_some, ap, sym, ◌∙◌, refl}
 use Rattle.run_core.specs.Reading.{newline_in}
+use Rattle.run_core.proofs.Newlines.{searched-newline}
 use Rattle.run_core.proofs.input.has_newline.Goals as goal
 
-none-mapped : (f : ℕ → ℕ) (found : Option ℕ) → is_some (option_map f found) ≡ false → found ≡ None
-none-mapped f None none = refl
-none-mapped f (Some e) none = cc
+not-some : {X : Type 0} (found : Option X) → is_some found ≡ false → found ≡ None
+not-some None none = refl
+not-some (Some e) none = cc
 
 pub returns : goal.returns
 returns c = λ none.
-    let same = ap is_some c.newline_from.ensures.end in
-    none-mapped (λ end. 0 + end) (newline_in c.args.bytes.now) (let some = c.is_some.ensures in sym same ∙ sym some ∙ none)
+    let found = searched-newline c.args.bytes.now c.memchr.result c.memchr.ensures in
+    not-some (newline_in c.args.bytes.now) (ap is_some (sym found) ∙ sym c.is_some.ensures ∙ none)

@@ -1,4 +1,4 @@
-use Rattle.std.proofs.Common.{◌≡◌, take, arith, ap, ◌∙◌}
+use Rattle.std.proofs.Common.{◌≡◌, take, arith}
 use Rattle.std.proofs.lemmas.Bool.Decides.{nat_tests}
 use Rattle.std.proofs.lemmas.List.{take_all}
 use Rattle.run_core.specs.Run.{at_end}
@@ -14,9 +14,8 @@ returns-then-end-eq0-clause-ran g c = λ old left reads table at end none.
 pub returns-in-Ok-clause-ran : goal.returns-in-Ok-clause-ran
 returns-in-Ok-clause-ran g c = λ old left reads table at end none.
     let acted = c.in-Ok.ensures.acted table at.past at.stands_for in
-    let line : take c.len-end.result c.make_contiguous-bytes.result.now ≡ c.args.input.ring.items =
-    ap (take c.len-end.result) c.make_contiguous-bytes.ensures.value
-    ∙ take_all _ _ (let l = c.len-end.ensures.len in omega (arith, l)) in
+    let line : take c.len-end.result c.args.input.ring.items ≡ c.args.input.ring.items =
+    take_all _ _ (let l = c.len-end.ensures.len in omega (arith, l)) in
     last-done g.A.Actor.work table c.args.number old
     (λ past. g.A.Actor.stands table past c.args.actor) _ c.args.input _ at _ _ _ acted.0 line none
     (grind (arith, nat_tests)) c.requires.within.taken end acted.1
@@ -24,9 +23,8 @@ returns-in-Ok-clause-ran g c = λ old left reads table at end none.
 pub returns-clause-ran : goal.returns-clause-ran
 returns-clause-ran g c = λ old left reads table at end none.
     let stopped = c.in-Err.ensures.acted table at.past at.stands_for in
-    let line : take c.len-end.result c.make_contiguous-bytes.result.now ≡ c.args.input.ring.items =
-    ap (take c.len-end.result) c.make_contiguous-bytes.ensures.value
-    ∙ take_all _ _ (let l = c.len-end.ensures.len in omega (arith, l)) in
+    let line : take c.len-end.result c.args.input.ring.items ≡ c.args.input.ring.items =
+    take_all _ _ (let l = c.len-end.ensures.len in omega (arith, l)) in
     let stop = last-stop g.A.Actor.work table c.args.number old
     (λ past. g.A.Actor.stands table past c.args.actor) _ c.args.input _ at line none
     (grind (arith, nat_tests)) c.requires.within.items c.requires.within.taken end in
