@@ -14,7 +14,7 @@ after-scale : (x y m n : ℕ) → m < 256 → n < 256
 after-scale x y m n small small' = grind (arith, nat_tests)
 
 after-south : (x y m n : ℕ) → m < 2 → n < 2
-    → nat_cmp (x * 2 + m) (y * 2 + n) ≡ ordering_then (nat_cmp x y) (nat_cmp m n)
+    → nat_cmp (x * 256 + m) (y * 256 + n) ≡ ordering_then (nat_cmp x y) (nat_cmp m n)
 after-south x y m n small small' = grind (arith, nat_tests)
 
 after-number : (x y m n : ℕ) → m < 4294967296 → n < 4294967296
@@ -29,8 +29,8 @@ then-then Greater p q = refl
 pub keys-numbered : (a b : BlockKey) → a.scale < 256 → b.scale < 256 → a.number < 4294967296 → b.number < 4294967296
     → nat_cmp (key_number a) (key_number b) ≡ block_key_cmp a b
 keys-numbered a b scale scale' number number' =
-    after-number ((a.product * 256 + a.scale) * 2 + bit a.south) ((b.product * 256 + b.scale) * 2 + bit b.south) a.number b.number
-    number number'
+    after-number ((a.product * 256 + a.scale) * 256 + bit a.south) ((b.product * 256 + b.scale) * 256 + bit b.south) a.number
+    b.number number number'
     ∙ ap (λ (o : Ordering). ordering_then o (nat_cmp a.number b.number))
     (after-south (a.product * 256 + a.scale) (b.product * 256 + b.scale) (bit a.south) (bit b.south) (bit_below a.south) (bit_below b.south)
     ∙ ap (λ (o : Ordering). ordering_then o (nat_cmp (bit a.south) (bit b.south)))

@@ -25,7 +25,7 @@ block_keys_total =
 -- the fields as one number, which stands in the same order
 abbrev pub key_number : BlockKey → ℕ
 key_number key =
-    ((key.product * 256 + key.scale) * 2 + bit key.south) * 4294967296 + key.number
+    ((key.product * 256 + key.scale) * 256 + bit key.south) * 4294967296 + key.number
 
 -- the first block at high latitudes: from it on no empty record names a block
 abbrev pub first_high : ℕ

@@ -12,16 +12,18 @@ use std::cmp::Ordering;
 pub const FIRST_HIGH: u32 = 405_000;
 
 /// What names a block. Keys stand in the order of product, scale, north before south, number.
+/// The fields stand the lowest first, so that in memory they mostly are the number by which keys
+/// are compared.
 #[derive(Clone, Copy, Debug, PartialEq, Eq)]
 pub struct BlockKey {
-    /// The product: 63 for the region, 64 for the whole country.
-    pub product: u16,
-    /// The scale, 0 to 2.
-    pub scale: u8,
-    /// Whether the block lies south of the equator.
-    pub south: bool,
     /// The number of the block, below 2^20.
     pub number: u32,
+    /// Whether the block lies south of the equator.
+    pub south: bool,
+    /// The scale, 0 to 2.
+    pub scale: u8,
+    /// The product: 63 for the region, 64 for the whole country.
+    pub product: u16,
 }
 
 impl BlockKey {
@@ -31,7 +33,7 @@ impl BlockKey {
         ensures scale { self.scale < 256 }
         ensures fits { self.number < 4294967296 }
     {
-        let area = (u64::from(self.product) * 256 + u64::from(self.scale)) * 2;
+        let area = (u64::from(self.product) * 256 + u64::from(self.scale)) * 256;
         (area + u64::from(self.south)) * 4_294_967_296 + u64::from(self.number)
     }
 

@@ -1,12 +1,12 @@
 //! What the information frames of a payload bring, and what of them is passed on unread.
-ghost use Rattle.std.specs.Prelude.{◌≡◌, ◌≤◌, ◌++◌, List, IfOk, OnOk, length, map};
+ghost use Rattle.std.specs.Prelude.{◌≡◌, ◌≤◌, ◌++◌, List, IfOk, None, OnOk, length, map};
 ghost use Rattle.std.specs.Option.{option_map};
 ghost use Rattle.uplink_frame.specs.UplinkFrame.{frame_room, information_frames};
 ghost use Rattle.uplink_frame.specs.Views.{frame_view};
 ghost use Rattle.picture_core.specs.Kept.{put_all};
 ghost use Rattle.segment_core.specs.Arrival.{Arrival, whole_with};
 ghost use Rattle.segment_core.specs.Bound.{payload_made_whole};
-ghost use Rattle.segment_core.specs.Store.{IsNotBefore, StandsFor};
+ghost use Rattle.segment_core.specs.Store.{IsNotBefore, StandsFor, answer_of, taken_with};
 ghost use Rattle.segment_core.specs.Views.{arrival_view};
 ghost use Rattle.receiver_core.specs.Hearing.{unread_view};
 ghost use Rattle.receiver_core.specs.Reception.{arrival_in};
@@ -108,8 +108,62 @@ fn take_frame(
             return Ok(());
         }
     };
+    if arrived.seg.is_none() {
+        take_alone(
+            alloc, table, moment, frame, &arrived, joiner, picture, unread,
+        )?;
+        return Ok(());
+    }
     let taken = joiner.take(moment, &arrived)?;
     take_answer(alloc, table, frame, &arrived, taken, picture, unread)?;
+    Ok(())
+}
+
+/// Takes an arrival that is no segment. Its payload is read where it stands in the frame.
+fn take_alone(
+    alloc: Global,
+    table: &LifeTable,
+    moment: Moment,
+    frame: &InfoFrame<'_>,
+    arrived: &Arrived<'_>,
+    joiner: &mut Joiner,
+    picture: &mut Picture,
+    unread: &mut Vec<Unread>,
+) -> Result<(), AllocError>
+    requires short { length frame.now.body.now ≤ frame_room }
+    requires alone { arrived.now.seg ≡ None }
+    requires moment { IsNotBefore joiner.old.store.clock moment }
+    ensures joined { (before : List Arrival) → StandsFor joiner.old.store before
+        → StandsFor joiner.new.store
+        (taken_with joiner.old.store.longest moment before (arrival_view arrived.now)) }
+    ensures entries { (before : List Arrival) → OnOk result (picture.new.entries ≡ put_all
+        (entries_of_whole table.now (option_map (whole_with (arrival_view arrived.now))
+        (payload_made_whole
+        (answer_of joiner.old.store.longest moment before (arrival_view arrived.now)))))
+        picture.old.entries) }
+    ensures unread { (before : List Arrival) → OnOk result (map unread_view unread.new.items
+        ≡ map unread_view unread.old.items ++ map (part_in (frame_view frame.now))
+        (taken_reasons table.now (arrival_view arrived.now)
+        (answer_of joiner.old.store.longest moment before (arrival_view arrived.now)))) }
+    ensures clock { IsNotBefore joiner.new.store.clock moment }
+    ensures longest { joiner.new.store.longest ≡ joiner.old.store.longest }
+    ensures joiner_mark { joiner.new.mark ≡ joiner.old.mark }
+    ensures picture_mark { picture.new.mark ≡ picture.old.mark }
+{
+    if !joiner.take_whole(moment, arrived) {
+        unread.push(Unread::of(frame, UnreadReason::Stale))?;
+        return Ok(());
+    }
+    take_whole(
+        alloc,
+        table,
+        frame,
+        arrived.product,
+        arrived.version,
+        arrived.payload,
+        picture,
+        unread,
+    )?;
     Ok(())
 }
 

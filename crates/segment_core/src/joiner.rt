@@ -1,11 +1,13 @@
 //! Joins segments as they arrive, and forgets what is stale.
-ghost use Rattle.std.specs.Prelude.{◌≡◌, ◌≤◌, length, IfOk, IsSome, List, None, OnErr, OnOk, Some, [], true};
+ghost use Rattle.std.specs.Prelude.{◌≡◌, ◌≤◌, length, IfOk, IsSome, List, None, OnErr, OnOk, Some, []};
+ghost use Rattle.std.specs.Prelude.{true, false};
 ghost use Rattle.segment_core.specs.Arrival.{Arrival};
 ghost use Rattle.segment_core.specs.Bound.{IsPurged};
 ghost use Rattle.segment_core.specs.Store.{FitsFile, IsNotBefore, StandsFor, answer_of};
 ghost use Rattle.life_table.specs.Products.{is_read_product};
 ghost use Rattle.segment_core.specs.Store.{live_pieces, taken_with};
 ghost use Rattle.segment_core.specs.Views.{arrival_view};
+ghost use Rattle.segment_core.specs.declared.arrived.Taken.TheVariants as answers;
 
 use crate::arrived::{Arrived, Longest, Taken};
 use crate::held::{drop_stale, is_in_life, take_live};
@@ -121,6 +123,29 @@ impl Joiner {
         )?;
         self.clock = Some(moment);
         Ok(taken)
+    }
+
+    /// Takes an arrival that is no segment, of which nothing is to be held: answers whether it is
+    /// not stale. Then it brings its own payload.
+    pub fn take_whole(&mut self, moment: Moment, arrived: &Arrived<'_>) -> bool
+        requires alone { arrived.now.seg ≡ None }
+        requires moment { IsNotBefore self.old.store.clock moment }
+        ensures whole { result ≡ true → (taken : List Arrival)
+            → answers.Whole arrived.now.payload.now
+            ≡ answer_of self.old.store.longest moment taken (arrival_view arrived.now) }
+        ensures stale { result ≡ false → (taken : List Arrival)
+            → answers.Stale
+            ≡ answer_of self.old.store.longest moment taken (arrival_view arrived.now) }
+        ensures stands { (taken : List Arrival) → StandsFor self.old.store taken
+            → StandsFor self.new.store
+            (taken_with self.old.store.longest moment taken (arrival_view arrived.now)) }
+        ensures clock { self.new.store.clock ≡ Some moment }
+        ensures longest { self.new.store.longest ≡ self.old.store.longest }
+        ensures mark { self.new.mark ≡ self.old.mark }
+    {
+        stations_are_told();
+        self.clock = Some(moment);
+        is_in_life(&self.longest, moment, arrived.product, arrived.version)
     }
 
     /// Forgets the files whose product's longest life has passed since their version.
