@@ -12,6 +12,7 @@ mod line_kinds;
 mod link;
 mod make;
 mod making;
+mod outcome;
 mod party;
 mod receiver_alone;
 mod relay;
