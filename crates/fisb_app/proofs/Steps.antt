@@ -39,8 +39,8 @@ tells-acted text S told own given (Refused why) e is = e ∙ ap (text_unless giv
 tells-acted text S told own given NoMemory e is = tt
 
 -- a line that was acted on in its order is one more
-pub in-order-more : {P : Type 0} (holds : List ℕ → List Line → P → Type 0) (bytes : List ℕ) (past : List (List ℕ)) (raw : List ℕ) (line : Line)
-    (old new : InOrder P) (made : P) → line_of raw ≡ Some line → IsInOrder holds bytes past old → holds bytes (line ∷ lines_of past) made
+pub in-order-more : {P V : Type 0} (holds : List ℕ → List Line → P → Type 0) (bytes : List ℕ) (past : List (List ℕ)) (raw : List ℕ) (line : Line)
+    (old new : InOrder P V) (made : P) → line_of raw ≡ Some line → IsInOrder holds bytes past old → holds bytes (line ∷ lines_of past) made
     → new.inner ≡ made → new.clock ≡ option_or (receiver_moment line) old.clock
     → IsInOrder holds bytes (raw ∷ past) new
 in-order-more holds bytes past raw line old new made is s h inner clocked =

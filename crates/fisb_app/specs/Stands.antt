@@ -151,8 +151,8 @@ pub record RelayHolds (bytes : List ℕ) (acted : List Line) (relay : Relay) : T
   pub opened : opening_table bytes ≡ Ok relay.table
 
 -- a command acted on these lines in their order: the clock of its receiver, too, is theirs
-pub record IsInOrder {P : Type 0} (holds : List ℕ → List Line → P → Type 0) (bytes : List ℕ)
-    (past : List (List ℕ)) (s : InOrder P) : Type 0 where
+pub record IsInOrder {P V : Type 0} (holds : List ℕ → List Line → P → Type 0) (bytes : List ℕ)
+    (past : List (List ℕ)) (s : InOrder P V) : Type 0 where
   pub parts : holds bytes (lines_of past) s.inner
   pub clock : s.clock ≡ receiver_clock (lines_of past)
 

@@ -8,8 +8,8 @@ ghost use Rattle.fisb_app.specs.declared.party.Party.TheVariants.{Ground as TheG
 ghost use Rattle.fisb_app.specs.Reading.{is_update, own_refusal};
 ghost use Rattle.fisb_app.specs.Stands.{AloneHolds, HasTried};
 
+use crate::air_outcome::{AirEvent, AirOutcome};
 use crate::in_order::LineActor;
-use crate::outcome::{Event, Outcome};
 use crate::party::Party;
 use crate::sender::Sender;
 use crate::sending::Sending;
@@ -28,6 +28,8 @@ pub(crate) struct GroundAlone<G: Sender> {
 }
 
 impl<G: Sender> LineActor for GroundAlone<G> {
+    type Given = AirOutcome;
+
     ghost PARTY = { TheGround };
 
     const PARTY: Party = Party::Ground;
@@ -43,10 +45,10 @@ impl<G: Sender> LineActor for GroundAlone<G> {
         Ok(GroundAlone { sending, sent: 0 })
     }
 
-    fn act_on(&mut self, alloc: Global, line: &Line) -> Result<Outcome, Stop> {
+    fn act_on(&mut self, alloc: Global, line: &Line) -> Result<AirOutcome, Stop> {
         match line {
             Line::Nothing | Line::Hear { .. } | Line::Rx { .. } | Line::Show { .. } => {
-                Ok(Outcome::of(Event::Nothing))
+                Ok(AirOutcome::of(AirEvent::Nothing))
             }
             Line::Station(station) => self.name_station(alloc, *station),
             Line::Text { .. } | Line::Radar { .. } | Line::Blank { .. } => self.give(line),
@@ -57,7 +59,7 @@ impl<G: Sender> LineActor for GroundAlone<G> {
 
 impl<G: Sender> GroundAlone<G> {
     /// Names the station that the following lines concern.
-    fn name_station(&mut self, alloc: Global, named: StationId) -> Result<Outcome, Stop>
+    fn name_station(&mut self, alloc: Global, named: StationId) -> Result<AirOutcome, Stop>
         requires { FitsStation named }
         ensures acted { (bytes : List ℕ) (acted : List ScriptLine)
             → AloneHolds G.stands bytes acted self.old
@@ -70,13 +72,13 @@ impl<G: Sender> GroundAlone<G> {
             → OnErr result (AloneHolds G.stands bytes acted self.new) }
     {
         match self.sending.name_station(alloc, named) {
-            Ok(()) => Ok(Outcome::of(Event::Nothing)),
+            Ok(()) => Ok(AirOutcome::of(AirEvent::Nothing)),
             Err(stop) => Err(stop),
         }
     }
 
     /// Gives the update of a line to the ground.
-    fn give(&mut self, line: &Line) -> Result<Outcome, Stop>
+    fn give(&mut self, line: &Line) -> Result<AirOutcome, Stop>
         requires ranges { HasRanges 32768 (line_view line.now) }
         requires update { is_update (line_view line.now) ≡ true }
         ensures acted { (bytes : List ℕ) (acted : List ScriptLine)
@@ -90,13 +92,13 @@ impl<G: Sender> GroundAlone<G> {
             → OnErr result (AloneHolds G.stands bytes acted self.new) }
     {
         match self.sending.give(line) {
-            Ok(()) => Ok(Outcome::of(Event::Nothing)),
+            Ok(()) => Ok(AirOutcome::of(AirEvent::Nothing)),
             Err(stop) => Err(stop),
         }
     }
 
     /// Fills a frame and counts it.
-    fn turn(&mut self, moment: Moment, slot: u8) -> Result<Outcome, Stop>
+    fn turn(&mut self, moment: Moment, slot: u8) -> Result<AirOutcome, Stop>
         requires { slot < 32 }
         ensures acted { (bytes : List ℕ) (acted : List ScriptLine)
             → AloneHolds G.stands bytes acted self.old
@@ -114,10 +116,9 @@ impl<G: Sender> GroundAlone<G> {
             Err(reason) => return Err(Stop::Refused(reason)),
         };
         self.sent = index + 1;
-        Ok(Outcome::of(Event::Sent {
+        Ok(AirOutcome::of(AirEvent::Sent {
             index: index as u32,
             frame,
-            with_air: true,
         }))
     }
 }

@@ -13,16 +13,19 @@ ghost use Rattle.fisb_app.specs.Stands.{HasTried, IsInOrder};
 ghost use Rattle.fisb_app.specs.Work.{opened_with, opening_table, refusal_written, work_of};
 
 use crate::line_kinds::{receiver_moment, takes};
-use crate::outcome::{Outcome, no_text};
+use crate::outcome::no_text;
 use crate::party::Party;
 use fisb_time::Moment;
 use fisb_wire::Bytes;
-use run_core::{Actor, Stop};
+use run_core::{Actor, Given, Stop};
 use script_core::{Line, LineFault, Reason, print_refused, read_line};
 use std::alloc::{AllocError, Global};
 
 /// What a command does with lines against which nothing but their content can stand.
 pub(crate) trait LineActor: Drop {
+    /// What its lines give.
+    type Given: Given;
+
     // The command.
     ghost PARTY: { AnyParty };
 
@@ -43,14 +46,14 @@ pub(crate) trait LineActor: Drop {
         ensures { HasOpened (opened_with (opening_table bytes.now)) (holds bytes.now []) result };
 
     /// Acts on a line of the command, and answers what it gives.
-    fn act_on(&mut self, alloc: Global, line: &Line) -> Result<Outcome, Stop>
+    fn act_on(&mut self, alloc: Global, line: &Line) -> Result<Self::Given, Stop>
         requires { HasRanges 32768 (line_view line.now) }
         ensures acted { (bytes : List ℕ) (acted : List ScriptLine)
             → party_refusal PARTY (line_view line.now) ≡ None
             → holds bytes acted self.old
             → HasTried (own_refusal PARTY (table self.old) acted (line_view line.now))
-            (λ given. (given ≡ given_text PARTY heard_picture (table self.old) acted
-            (line_view line.now))
+            (λ given. (Self.Given.text given ≡ given_text PARTY heard_picture (table self.old)
+            acted (line_view line.now))
             × holds bytes (line_view line.now ∷ acted) self.new) result }
         ensures same { (bytes : List ℕ) (acted : List ScriptLine)
             → holds bytes acted self.old → OnErr result (holds bytes acted self.new) };
@@ -65,7 +68,7 @@ pub(crate) struct InOrder<P: LineActor> {
 }
 
 impl<P: LineActor> Actor for InOrder<P> {
-    type Given = Outcome;
+    type Given = P::Given;
 
     ghost work = { work_of P.PARTY heard_picture };
 
@@ -76,7 +79,7 @@ impl<P: LineActor> Actor for InOrder<P> {
         Ok(InOrder { inner, clock: None })
     }
 
-    fn act(&mut self, alloc: Global, line: &[u8]) -> Result<Outcome, Stop> {
+    fn act(&mut self, alloc: Global, line: &[u8]) -> Result<P::Given, Stop> {
         let line = match read_line(alloc, line) {
             Ok(line) => line,
             Err(LineFault::Syntax) => return Err(Stop::Refused(Reason::Syntax)),
@@ -86,9 +89,9 @@ impl<P: LineActor> Actor for InOrder<P> {
             return Err(Stop::Refused(reason));
         }
         match self.inner.act_on(alloc, &line) {
-            Ok(outcome) => {
+            Ok(given) => {
                 self.advance(&line);
-                Ok(outcome)
+                Ok(given)
             }
             Err(stop) => Err(stop),
         }

@@ -1,6 +1,7 @@
 //! The commands.
 #![tactic(auto)]
 
+mod air_outcome;
 mod command;
 mod counts;
 mod ear;

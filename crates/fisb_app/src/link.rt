@@ -39,6 +39,8 @@ pub(crate) struct Link<G: Sender, E: Ear> {
 }
 
 impl<G: Sender, E: Ear> LineActor for Link<G, E> {
+    type Given = Outcome;
+
     ghost PARTY = { TheLink };
 
     const PARTY: Party = Party::Link;
@@ -141,8 +143,10 @@ impl<G: Sender, E: Ear> Link<G, E> {
         keep(&mut self.sent, &frame);
         Ok(Outcome::of(Event::Sent {
             index: index as u32,
-            frame,
-            with_air: false,
+            moment: frame.moment,
+            slot: frame.slot,
+            bodies: frame.bodies,
+            used: frame.used,
         }))
     }
 

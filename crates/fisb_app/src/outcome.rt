@@ -1,8 +1,8 @@
-//! What a line gave, before its text is made.
+//! What a line gave whose text has no bytes of a frame. It is small, since each line answers one.
 ghost use Rattle.std.specs.Prelude.{◌≡◌, ℕ, [], List, IfOk};
 ghost use Rattle.fisb_app.specs.Outcome.{event_text};
+ghost use Rattle.fisb_app.specs.declared.outcome.Event.TheVariants.{Sent};
 
-use crate::relay::display_message;
 use fisb_time::Moment;
 use fisb_wire::Bytes;
 use ground_core::AirFrame;
@@ -18,11 +18,13 @@ use std::marker::Model;
 pub(crate) enum Event {
     /// Nothing that is written.
     Nothing,
-    /// A frame was sent; with its bytes on the air, where those are written.
+    /// A frame was sent. Its bytes are not written.
     Sent {
         index: u32,
-        frame: AirFrame,
-        with_air: bool,
+        moment: Moment,
+        slot: u8,
+        bodies: u16,
+        used: u16,
     },
     /// A frame was heard.
     Heard {
@@ -42,10 +44,6 @@ pub(crate) enum Event {
     Picture {
         moment: Moment,
         entries: Entries,
-    },
-    /// A frame goes on to displays.
-    Relayed {
-        air: [u8; 552],
     },
 }
 
@@ -77,16 +75,38 @@ impl Given for Outcome {
             Event::Nothing => Ok(no_text(alloc)),
             Event::Sent {
                 index,
-                frame,
-                with_air,
-            } => print_sent(alloc, *index, frame, *with_air),
+                moment,
+                slot,
+                bodies,
+                used,
+            } => print_sent_alone(alloc, *index, *moment, *slot, *bodies, *used),
             Event::Heard { moment, heard } => print_heard(alloc, *moment, heard),
             Event::Lost { moment, block } => print_lost(alloc, *moment, *block),
             Event::NoApplication { moment } => print_noapp(alloc, *moment),
             Event::Picture { moment, entries } => print_picture(alloc, *moment, entries),
-            Event::Relayed { air } => display_message(alloc, air),
         }
     }
+}
+
+/// The text of a frame that was sent, without its bytes.
+fn print_sent_alone(
+    alloc: Global,
+    index: u32,
+    moment: Moment,
+    slot: u8,
+    bodies: u16,
+    used: u16,
+) -> Result<Bytes, AllocError>
+    ensures { IfOk result (λ text. text ≡ event_text (Sent index moment slot bodies used)) }
+{
+    let frame = AirFrame {
+        moment,
+        slot,
+        bodies,
+        used,
+        air: [0; 552],
+    };
+    print_sent(alloc, index, &frame, false)
 }
 
 /// The text of a line that writes nothing.

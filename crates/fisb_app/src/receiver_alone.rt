@@ -24,6 +24,8 @@ pub(crate) struct ReceiverAlone<E: Ear> {
 }
 
 impl<E: Ear> LineActor for ReceiverAlone<E> {
+    type Given = Outcome;
+
     ghost PARTY = { TheReceive };
 
     const PARTY: Party = Party::Receive;

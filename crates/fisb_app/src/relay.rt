@@ -6,8 +6,9 @@ ghost use Rattle.fisb_app.specs.declared.party.Party.TheVariants.{Gdl as TheGdl}
 ghost use Rattle.fisb_app.specs.Output.{display_bytes};
 ghost use Rattle.fisb_app.specs.Stands.{RelayHolds};
 
+use crate::air_outcome::{AirEvent, AirOutcome};
 use crate::in_order::LineActor;
-use crate::outcome::{Event, Outcome, no_text};
+use crate::outcome::no_text;
 use crate::party::Party;
 use crate::sending::read_table;
 use arrayvec::ArrayVec;
@@ -29,6 +30,8 @@ pub(crate) struct Relay {
 }
 
 impl LineActor for Relay {
+    type Given = AirOutcome;
+
     ghost PARTY = { TheGdl };
 
     const PARTY: Party = Party::Gdl;
@@ -44,7 +47,7 @@ impl LineActor for Relay {
         Ok(Relay { table })
     }
 
-    fn act_on(&mut self, _alloc: Global, line: &Line) -> Result<Outcome, Stop> {
+    fn act_on(&mut self, _alloc: Global, line: &Line) -> Result<AirOutcome, Stop> {
         match line {
             Line::Nothing
             | Line::Station(_)
@@ -53,8 +56,8 @@ impl LineActor for Relay {
             | Line::Blank { .. }
             | Line::Turn { .. }
             | Line::Hear { .. }
-            | Line::Show { .. } => Ok(Outcome::of(Event::Nothing)),
-            Line::Rx { air, .. } => Ok(Outcome::of(Event::Relayed { air: *air })),
+            | Line::Show { .. } => Ok(AirOutcome::of(AirEvent::Nothing)),
+            Line::Rx { air, .. } => Ok(AirOutcome::of(AirEvent::Relayed { air: *air })),
         }
     }
 }

@@ -1,4 +1,4 @@
-use Rattle.std.proofs.Common.{ap, sym, refl, ◌∙◌, ℕ, List, None, Some, Ok, ◌∷◌, rules}
+use Rattle.std.proofs.Common.{ap, sym, refl, ◌∙◌, None, Some, Ok, ◌∷◌, rules}
 use Rattle.script_core.specs.LineView.{line_view}
 use Rattle.fisb_app.specs.Past.{lines_of}
 use Rattle.fisb_app.specs.Output.{heard_picture}
@@ -45,6 +45,6 @@ returns-clause-acted g c = λ table past s.
     let front = front-kept party acted line _ None s.clock (sym c.in_default.is ∙ c.front_refusal.ensures) in
     let is = clear party acted line front in
     let tried = c.in-Err.ensures.acted table acted is.here s.parts in
-    tells-acted (λ (given : List ℕ). given) (IsInOrder g.P.LineActor.holds table (c.args.line.now ∷ past) (record c.args.self.now { inner = c.act_on.new.self })) _ _ _ c.in-Err.stop
+    tells-acted g.P.Given.Given.text (IsInOrder g.P.LineActor.holds table (c.args.line.now ∷ past) (record c.args.self.now { inner = c.act_on.new.self })) _ _ _ c.in-Err.stop
     (answer-formed party heard_picture table past c.args.line.now kept (Some line) (g.P.LineActor.opened table (lines_of past) _ s.parts) c.in-Ok.ensures.line
     ∙ answer-front party heard_picture kept acted line None _ front refl) tried
