@@ -7,6 +7,7 @@ ghost use Rattle.picture_core.specs.Views.{shown_value};
 ghost use Rattle.receiver_core.specs.Reception.{Reception, received_picture};
 ghost use Rattle.ground_core.specs.Airing.{Frame};
 ghost use Rattle.uplink_frame.specs.Station.{FitsStation};
+ghost use Rattle.uplink_weave.specs.Woven.{frame_bytes};
 ghost use Rattle.script_core.specs.LineView.{line_view, HasRanges};
 ghost use Rattle.script_core.specs.Script.{Line as ScriptLine, hear, station, turn};
 ghost use Rattle.fisb_app.specs.Output.{given_text, heard_picture, heard_text};
@@ -152,7 +153,7 @@ impl<G: Sender, E: Ear> Link<G, E> {
 
     /// Hears a frame that was sent, with the wrong bytes in it.
     fn hear(&mut self, moment: Moment, frame: u32, wrong: &Wrong) -> Result<Outcome, Stop>
-        requires { All (λ one. (one.0 < 552) × (one.1 < 256)) wrong.now }
+        requires { All (λ one. (one.0 < frame_bytes) × (one.1 < 256)) wrong.now }
         ensures acted { (bytes : List ℕ) (acted : List ScriptLine)
             → LinkHolds G.stands E.stands bytes acted self.old
             → HasTried
@@ -205,7 +206,7 @@ fn keep(sent: &mut Vec<SentFrame>, frame: &AirFrame)
 
 /// Puts the wrong bytes of a frame in their places.
 fn put_wrong(air: &mut [u8; 552], wrong: &[(u16, u8)])
-    requires { All (λ one. (one.0 < 552) × (one.1 < 256)) wrong.now }
+    requires { All (λ one. (one.0 < frame_bytes) × (one.1 < 256)) wrong.now }
     ensures { air.new ≡ air_heard wrong.now air.old }
 {
     for (place, byte) in wrong {
