@@ -91,7 +91,8 @@ impl<G: Sender> Sending<G> {
         }
     }
 
-    /// A ground for another station than that which was named last, that was given nothing.
+    /// A ground for another station than that which was named last, that was given nothing. It is
+    /// made also where one is kept for that station, and then only holds a place while grounds move.
     fn first_ground(&self, alloc: Global, named: StationId) -> Result<G, Stop>
         requires { FitsStation named }
         ensures { HasTried (if is_some (ground_at self.now.others named)
@@ -114,7 +115,7 @@ impl<G: Sender> Sending<G> {
         ensures stops { IfErr result (λ stop. stop ≡ Stop.NoMemory) }
         ensures same { OnErr result (IsSameSending self.old self.new) }
     {
-        // The ground of the last station is put away first, since that alone takes memory.
+        // The ground of the last station is put away first: only that may run out of memory.
         match self.put_away(first) {
             Ok(()) => {
                 self.take_back(named);
