@@ -1,5 +1,5 @@
 -- A line that gives the ground an update.
-use Rattle.std.proofs.Common.{◌≡◌, ℕ, true, List, [], ◌∷◌, Option, Some, None, option_map, Result, Ok, Err, ap, ◌∙◌, append-nil, refl}
+use Rattle.std.proofs.Common.{◌≡◌, ℕ, true, List, [], ◌∷◌, option_map, Result, Ok, Err, OnErr, ap, ◌∙◌, append-nil, refl}
 use Rattle.std.specs.Option.{option_or}
 use Rattle.segment_core.specs.Store.{last_above}
 use Rattle.life_table.specs.LifeTable.{LifeTable}
@@ -34,6 +34,15 @@ update-answered sends table station history old new moment update (Ok given) (Er
 update-answered sends table station history old new moment update (Err fault) (Ok done) Done h a s more = absurd a
 update-answered sends table station history old new moment update (Err fault) (Err stop) Done h a s more =
     a _ _ (h.refused table station history s)
+
+-- an update that is refused leaves the history
+pub update-same : {G A B : Type 0} (sends : Sends G) (table : LifeTable) (station : StationId) (history : List Event) (old new : G) (moment : ℕ) (update : Update)
+    (given : Result A GiveFault) (result : Result B Stop) (Same : Type 0) → HasGiven sends old new moment update given → HasAnswered given result → sends table station history old
+    → (sends table station history new → Same) → OnErr result Same
+update-same sends table station history old new moment update (Ok given) (Ok done) Same h a s more = tt
+update-same sends table station history old new moment update (Ok given) (Err stop) Same h a s more = absurd a
+update-same sends table station history old new moment update (Err fault) (Ok done) Same h a s more = tt
+update-same sends table station history old new moment update (Err fault) (Err stop) Same h a s more = more (h.same table station history s)
 
 -- it sends and hears nothing, and writes nothing
 pub update-frames : (acted : List Line) (line : Line) → is_update line ≡ true → (table : LifeTable) → sent_frames table (line ∷ acted) ≡ sent_frames table acted

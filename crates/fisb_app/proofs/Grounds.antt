@@ -1,35 +1,32 @@
 -- The grounds of several stations: what an event of one leaves of the others, and what naming a station leaves of all.
-use Rattle.std.proofs.Common.{◌≡◌, ℕ, ◌+◌, ◌<◌, ◌≤◌, ◌||◌, ◌&&◌, ◌==◌, nat_lt, nat_le, ◌⊎◌, Bool, true, false, cond, if◌then◌else◌, List, [], ◌∷◌, length, Option, Some, None, Result, Ok, Err, OnOk, IfErr, refl, sym, ap, subst, ◌∙◌, arith, inl, inr}
+use Rattle.std.proofs.Common.{◌≡◌, ℕ, ◌+◌, ◌||◌, ◌&&◌, ◌==◌, nat_lt, nat_le, ◌⊎◌, Bool, true, false, if◌then◌else◌, List, [], ◌∷◌, length, Option, Some, None, is_some, Result, Ok, Err, OnOk, OnErr, IfErr, refl, sym, ap, subst, ◌∙◌, arith, inl, inr}
 use Rattle.std.specs.Bool.{beq}
 use Rattle.std.specs.Cmp.{tied_then}
-use Rattle.std.specs.List.{list_any}
-use Rattle.std.specs.Ordering.{nat_cmp, bool_cmp, ordering_then, is_eq}
-use Rattle.std.specs.declared.cmp.Ordering.{Ordering}
-use Rattle.std.specs.declared.cmp.Ordering.TheVariants.{Less, Equal, Greater}
-use Rattle.std.specs.BTreeMap.{BTreeMap, is_at, get}
+use Rattle.std.specs.Ordering.{nat_cmp, bool_cmp, is_eq}
+use Rattle.std.specs.BTreeMap.{is_at}
+use Rattle.std.specs.Map.{lookup}
 use Rattle.std.proofs.lemmas.Bool.{cases_Bool}
 use Rattle.std.proofs.lemmas.Bool.Decides.{nat_tests}
 use Rattle.list_members.specs.Tests.{tied_numbers}
 use Rattle.uplink_frame.specs.declared.station.StationId.{StationId}
 use Rattle.uplink_frame.specs.contracts.station.StationIdOrd.TheImpl as station_order
-use Rattle.uplink_frame.specs.Station.{no_station, same_flag, same_station}
+use Rattle.uplink_frame.specs.Station.{same_flag, same_station}
 use Rattle.uplink_frame.specs.Ties.{tied_flags}
 use Rattle.uplink_frame.specs.Laws.{StationsAreTold}
 use Rattle.life_table.specs.LifeTable.{LifeTable}
 use Rattle.radar_core.specs.declared.key.BlockKey.{BlockKey}
 use Rattle.ground_core.specs.Update as updates
 use Rattle.ground_core.specs.History.{Event, accepted, fill}
-use Rattle.ground_core.specs.Broadcast.{StationEvent, history_of}
+use Rattle.ground_core.specs.Broadcast.{history_of}
 use Rattle.ground_core.specs.Sent.{HistoriesGrow}
 use Rattle.script_core.specs.Script.{Line, empty, station, text, radar, blank, turn, hear, rx, show}
-use Rattle.refusal_core.specs.declared.reason.Reason.{Reason}
 use Rattle.refusal_core.specs.declared.reason.Reason.TheVariants.{Station}
 use Rattle.run_core.specs.declared.stop.Stop.{Stop}
 use Rattle.run_core.specs.declared.stop.Stop.TheVariants.{NoMemory}
 use Rattle.fisb_app.specs.declared.sending.Sending.{Sending}
-use Rattle.fisb_app.specs.Past.{at_station, broadcast, event_of, events, is_among, station_after, stations}
+use Rattle.fisb_app.specs.Past.{at_station, broadcast, events, is_among, station_after, stations}
 use Rattle.fisb_app.specs.Reading.{station_refusal}
-use Rattle.fisb_app.specs.Stands.{Sends, HasTried, Holds, IsGroundOf, IsTakenFor, TellsRefusal, ground_at}
+use Rattle.fisb_app.specs.Stands.{Sends, HasTried, Holds, IsGroundOf, IsChangedTo, IsSameSending, TellsRefusal, ground_at, ground_or}
 
 -- stations are told apart by the order of the map
 flag_equal : (a b : Bool) → beq a b ≡ same_flag a b
@@ -187,27 +184,55 @@ again-free told sends bytes acted named s is h =
     let there : is_among named (stations acted) ≡ true = ap (λ p. is_among p (stations acted)) (is ∙ h.station_is) ∙ named-among told acted in
     ap (λ b. if b || nat_le (length (stations acted)) 16 then None else Some Station) there
 
+-- a station that is named first, and one that was named before: whether it may be named
+pub first-refusal : {G : Type 0} (sends : Sends G) (table : LifeTable) (acted : List Line) (named : StationId) (many : ℕ) (found : Option G)
+    → many + 1 ≡ length (stations acted) → IsGroundOf sends table acted named found
+    → station_refusal (stations acted) named ≡ (if is_some found || nat_lt many 16 then None else Some Station)
+first-refusal sends table acted named many (Some ground) count h =
+    ap (λ b. if b || nat_le (length (stations acted)) 16 then None else Some Station) h.0
+first-refusal sends table acted named many None count h =
+    let test : nat_le (length (stations acted)) 16 ≡ nat_lt many 16 = subst (λ n. nat_le n 16 ≡ nat_lt many 16) count (within many) in
+    ap (λ b. if b || nat_le (length (stations acted)) 16 then None else Some Station) h.0 ∙ ap (λ b. if b then None else Some Station) test
+  where
+    within : (n : ℕ) → nat_le (n + 1) 16 ≡ nat_lt n 16
+    within n = elim (cases_Bool (nat_lt n 16)) [
+      | inl below ↦ (let yes_it_is : nat_le (n + 1) 16 ≡ true = grind (arith, nat_tests) in yes_it_is ∙ sym below)
+      | inr above ↦ (let no_it_is : nat_le (n + 1) 16 ≡ false = grind (arith, nat_tests) in no_it_is ∙ sym above)
+    ]
+
+-- for what its ground stands
+named-ground : {G : Type 0} (sends : Sends G) (table : LifeTable) (acted : List Line) (named : StationId) (first : G) (found : Option G)
+    → IsGroundOf sends table acted named found → sends table named [] first → sends table named (history_of named (broadcast acted)) (ground_or first found)
+named-ground sends table acted named first None h s = subst (λ past. sends table named past first) (sym h.1) s
+named-ground sends table acted named first (Some ground) h s = h.1
+
+-- and how many stations there are then
+named-count : {G : Type 0} (sends : Sends G) (table : LifeTable) (acted : List Line) (named : StationId) (found : Option G)
+    → IsGroundOf sends table acted named found → length (stations (station named ∷ acted)) + (if is_some found then 1 else 0) ≡ length (stations acted) + 1
+named-count sends table acted named None h =
+    let all = ap (λ b. length (if b then stations acted else named ∷ stations acted)) h.0 in omega (arith, all)
+named-count sends table acted named (Some ground) h =
+    let all = ap (λ b. length (if b then stations acted else named ∷ stations acted)) h.0 in omega (arith, all)
+
 -- another station is named, and its ground takes the place of the one before, which goes to the others
-pub changed-holds : StationsAreTold → {G : Type 0} (sends : Sends G) (bytes : List ℕ) (acted : List Line) (named : StationId) (old taken new : Sending G) (ground : G)
-    → same_station (station_after acted) named ≡ false → Holds sends bytes acted old → IsTakenFor sends acted named old taken ground
-    → new.table ≡ old.table → new.station ≡ named → new.ground ≡ ground
-    → ((place : StationId) → ground_at new.others place ≡ (if same_station old.station place then Some old.ground else ground_at taken.others place))
-    → length new.others.entries ≡ length taken.others.entries + 1
-    → Holds sends bytes (station named ∷ acted) new
-changed-holds told {G = G} sends bytes acted named old taken new ground other h t table place is at many =
-    let now = station_after acted in
-    let back : same_station named now ≡ false = same-back told now named other in
-    let old_is : same_station old.station named ≡ false = ap (λ p. same_station p named) h.station_is ∙ other in record {
-      opened = h.opened ∙ ap Ok (sym table);
-      station_is = place;
-      ground = subst (λ x. sends x named (history_of named (broadcast acted)) new.ground) (sym table)
-          (subst (λ x. sends old.table named (history_of named (broadcast acted)) x) (sym is) t.stands);
-      apart = at named ∙ ap (λ b. if b then Some old.ground else ground_at taken.others named) old_is ∙ t.rest named
-          ∙ ap (λ b. if b then None else ground_at old.others named) ((told named named).1 refl);
+changed-holds : StationsAreTold → {G : Type 0} (sends : Sends G) (bytes : List ℕ) (acted : List Line) (named : StationId) (old new : Sending G) (first : G)
+    → same_station (station_after acted) named ≡ false → Holds sends bytes acted old → sends old.table named [] first
+    → IsChangedTo named first old new → Holds sends bytes (station named ∷ acted) new
+changed-holds told {G = G} sends bytes acted named old new first other h s c =
+    let found = ground_at old.others named in
+    let was = h.others named other in
+    let old_is : same_station old.station named ≡ false = ap (λ p. same_station p named) h.station_is ∙ other in
+    let old_apart : ground_at old.others old.station ≡ None = ap (ground_at old.others) h.station_is ∙ h.apart in record {
+      opened = h.opened ∙ ap Ok (sym c.table_is);
+      station_is = c.station_is;
+      ground = subst (λ x. sends x named (history_of named (broadcast acted)) new.ground) (sym c.table_is)
+          (subst (λ x. sends old.table named (history_of named (broadcast acted)) x) (sym (c.ground old_is))
+          (named-ground sends old.table acted named first found was s));
+      apart = c.apart;
       others = λ p apart.
-          subst (λ x. IsGroundOf sends x (station named ∷ acted) p (ground_at new.others p)) (sym table)
-          (subst (IsGroundOf sends old.table (station named ∷ acted) p) (sym (at p)) (either p apart (cases_Bool (same_station old.station p))));
-      count = (let more = t.count in omega (arith, more, many));
+          subst (λ x. IsGroundOf sends x (station named ∷ acted) p (ground_at new.others p)) (sym c.table_is)
+          (subst (IsGroundOf sends old.table (station named ∷ acted) p) (sym (c.others p apart)) (either p apart (cases_Bool (same_station old.station p))));
+      count = (let more = c.count old_is old_apart in let many = h.count in let all = named-count sends old.table acted named found was in omega (arith, more, many, all));
     }
   where
     now : StationId
@@ -217,7 +242,7 @@ changed-holds told {G = G} sends bytes acted named old taken new ground other h 
     among : (p : StationId) → same_station named p ≡ false → is_among p (stations (station named ∷ acted)) ≡ is_among p (stations acted)
     among p apart = elim (cases_Bool (is_among named (stations acted))) [
       | inl there ↦ ap (λ b. is_among p (if b then stations acted else named ∷ stations acted)) there
-      | inr first ↦ ap (λ b. is_among p (if b then stations acted else named ∷ stations acted)) first
+      | inr new ↦ ap (λ b. is_among p (if b then stations acted else named ∷ stations acted)) new
           ∙ ap (λ b. b || is_among p (stations acted)) (same-back told named p apart)
     ]
 
@@ -226,106 +251,63 @@ changed-holds told {G = G} sends bytes acted named old taken new ground other h 
     kept p (Some ground) apart is = (among p apart ∙ is.0, is.1)
 
     either : (p : StationId) → same_station named p ≡ false → (same_station old.station p ≡ true) ⊎ (same_station old.station p ≡ false)
-        → IsGroundOf sends old.table (station named ∷ acted) p (if same_station old.station p then Some old.ground else ground_at taken.others p)
+        → IsGroundOf sends old.table (station named ∷ acted) p (if same_station old.station p then Some old.ground else ground_at old.others p)
     either p apart (inl same) =
         let at_old : now ≡ p = sym h.station_is ∙ (told old.station p).0 same in
         let mine : IsGroundOf sends old.table acted now (Some old.ground) = (named-among told acted, h.ground) in
-        subst (λ b. IsGroundOf sends old.table (station named ∷ acted) p (if b then Some old.ground else ground_at taken.others p)) (sym same)
+        subst (λ b. IsGroundOf sends old.table (station named ∷ acted) p (if b then Some old.ground else ground_at old.others p)) (sym same)
         (kept p (Some old.ground) apart (subst (λ (x : StationId). IsGroundOf sends old.table acted x (Some old.ground)) at_old mine))
     either p apart (inr differs) =
         let not_now : same_station now p ≡ false = ap (λ x. same_station x p) (sym h.station_is) ∙ differs in
-        let rest : ground_at taken.others p ≡ ground_at old.others p = t.rest p ∙ ap (λ b. if b then None else ground_at old.others p) apart in
-        subst (λ b. IsGroundOf sends old.table (station named ∷ acted) p (if b then Some old.ground else ground_at taken.others p)) (sym differs)
-        (subst (IsGroundOf sends old.table (station named ∷ acted) p) (sym rest) (kept p (ground_at old.others p) apart (h.others p not_now)))
+        subst (λ b. IsGroundOf sends old.table (station named ∷ acted) p (if b then Some old.ground else ground_at old.others p)) (sym differs)
+        (kept p (ground_at old.others p) apart (h.others p not_now))
 
--- a station that is named first, and one that was named before
-pub named-before : {G : Type 0} (sends : Sends G) (table : LifeTable) (acted : List Line) (named : StationId) (ground : G) (found : Option G)
-    → found ≡ Some ground → IsGroundOf sends table acted named found
-    → (station_refusal (stations acted) named ≡ None) × sends table named (history_of named (broadcast acted)) ground × (stations (station named ∷ acted) ≡ stations acted)
-named-before sends table acted named ground None is h = cc
-named-before sends table acted named ground (Some one) is h =
-    let same : one ≡ ground = cc in (
-      ap (λ b. if b || nat_le (length (stations acted)) 16 then None else Some Station) h.0,
-      subst (λ x. sends table named (history_of named (broadcast acted)) x) same h.1,
-      ap (λ b. if b then stations acted else named ∷ stations acted) h.0,
-    )
-
-pub named-first : {G : Type 0} (sends : Sends G) (table : LifeTable) (acted : List Line) (named : StationId) (many : ℕ) (found : Option G)
-    → found ≡ None → many + 1 ≡ length (stations acted) → IsGroundOf sends table acted named found
-    → (station_refusal (stations acted) named ≡ (if nat_lt many 16 then None else Some Station)) × (history_of named (broadcast acted) ≡ [])
-    × (stations (station named ∷ acted) ≡ named ∷ stations acted)
-named-first sends table acted named many None is count h =
-    let test : nat_le (length (stations acted)) 16 ≡ nat_lt many 16 = subst (λ n. nat_le n 16 ≡ nat_lt many 16) count (within many) in (
-      ap (λ b. if b || nat_le (length (stations acted)) 16 then None else Some Station) h.0 ∙ ap (λ b. if b then None else Some Station) test,
-      h.1,
-      ap (λ b. if b then stations acted else named ∷ stations acted) h.0,
-    )
-  where
-    within : (n : ℕ) → nat_le (n + 1) 16 ≡ nat_lt n 16
-    within n = elim (cases_Bool (nat_lt n 16)) [
-      | inl below ↦ (let yes_it_is : nat_le (n + 1) 16 ≡ true = grind (arith, nat_tests) in yes_it_is ∙ sym below)
-      | inr above ↦ (let no_it_is : nat_le (n + 1) 16 ≡ false = grind (arith, nat_tests) in no_it_is ∙ sym above)
-    ]
-named-first sends table acted named many (Some one) is count h = cc
-
--- its ground was kept
-pub taken-before : {G : Type 0} (sends : Sends G) (bytes : List ℕ) (acted : List Line) (named : StationId) (old new : Sending G) (ground : G)
-    → same_station (station_after acted) named ≡ false → Holds sends bytes acted old → ground_at old.others named ≡ Some ground
-    → ((place : StationId) → ground_at new.others place ≡ cond (is_at (station_order.ghosts.cmp named) place) None (ground_at old.others place))
-    → length new.others.entries + 1 ≡ length old.others.entries
-    → (station_refusal (stations acted) named ≡ None) × IsTakenFor sends acted named old new ground
-taken-before sends bytes acted named old new ground other h is at fewer =
-    let b = named-before sends old.table acted named ground (ground_at old.others named) is (h.others named other) in (
-      b.0,
-      record {
-        stands = b.1;
-        rest = λ place. at place ∙ ap (λ t. if t then None else ground_at old.others place) (order-same named place);
-        count = (let many = h.count in let all = ap length b.2 in omega (arith, many, all, fewer));
-      },
-    )
-
--- or it is a new one
-pub taken-first : {G : Type 0} (sends : Sends G) (bytes : List ℕ) (acted : List Line) (named : StationId) (old new : Sending G) (result : Result G Stop)
-    → same_station (station_after acted) named ≡ false → Holds sends bytes acted old → ground_at old.others named ≡ None
-    → ((place : StationId) → ground_at new.others place ≡ cond (is_at (station_order.ghosts.cmp named) place) None (ground_at old.others place))
-    → new.others.entries ≡ old.others.entries
-    → HasTried (if nat_lt (length new.others.entries) 16 then None else Some Station) (sends old.table named []) result
-    → HasTried (station_refusal (stations acted) named) (IsTakenFor sends acted named old new) result
-taken-first {G = G} sends bytes acted named old new result other h is at same tried =
-    let first = named-first sends old.table acted named (length new.others.entries) (ground_at old.others named) is (ap (λ es. length es + 1) same ∙ h.count) (h.others named other) in
-    told result first.0 first.1 first.2 tried
-  where
-    told : (result : Result G Stop) → station_refusal (stations acted) named ≡ (if nat_lt (length new.others.entries) 16 then None else Some Station) → history_of named (broadcast acted) ≡ []
-        → stations (station named ∷ acted) ≡ named ∷ stations acted
-        → HasTried (if nat_lt (length new.others.entries) 16 then None else Some Station) (sends old.table named []) result
-        → HasTried (station_refusal (stations acted) named) (IsTakenFor sends acted named old new) result
-    told (Ok ground) free empty_history more t = (
-      free ∙ t.0,
-      record {
-        stands = subst (λ past. sends old.table named past ground) (sym empty_history) t.1;
-        rest = λ place. at place ∙ ap (λ b. if b then None else ground_at old.others place) (order-same named place);
-        count = (let many = h.count in let all = ap length more in let kept = ap length same in omega (arith, many, all, kept));
-      },
-    )
-    told (Err stop) free empty_history more t = subst (λ r. TellsRefusal r stop) (sym free) t
-
-pub changed-tried : StationsAreTold → {G : Type 0} (sends : Sends G) (bytes : List ℕ) (acted : List Line) (named : StationId) (old taken new : Sending G) (ground : G) (result : Result (Unit {0}) Stop)
+pub changed-tried : StationsAreTold → {G : Type 0} (sends : Sends G) (bytes : List ℕ) (acted : List Line) (named : StationId) (old new : Sending G) (first : G) (result : Result (Unit {0}) Stop)
     → same_station old.station named ≡ false → Holds sends bytes acted old
-    → (station_refusal (stations acted) named ≡ None) × IsTakenFor sends acted named old taken ground
-    → taken.table ≡ old.table → taken.station ≡ old.station → taken.ground ≡ old.ground
-    → ((place : StationId) → ground_at taken.others taken.station ≡ None
-    → OnOk result (ground_at new.others place ≡ (if same_station taken.station place then Some taken.ground else ground_at taken.others place)))
-    → (ground_at taken.others taken.station ≡ None → OnOk result (length new.others.entries ≡ length taken.others.entries + 1))
-    → OnOk result (new.ground ≡ ground) → OnOk result (new.station ≡ named) → new.table ≡ taken.table → IfErr result (λ stop. stop ≡ NoMemory)
+    → HasTried (if is_some (ground_at old.others named) || nat_lt (length old.others.entries) 16 then None else Some Station) (sends old.table named []) (Ok first)
+    → OnOk result (IsChangedTo named first old new) → IfErr result (λ stop. stop ≡ NoMemory)
     → HasTried (station_refusal (stations acted) named) (λ done. Holds sends bytes (station named ∷ acted) new) result
-changed-tried told sends bytes acted named old taken new ground (Err stop) other h t table place kept at many is now same stops =
+changed-tried told sends bytes acted named old new first (Err stop) other h t changed stops =
     subst (TellsRefusal (station_refusal (stations acted) named)) (sym stops) tt
-changed-tried told sends bytes acted named old taken new ground (Ok done) other h t table place kept at many is now same stops =
-    let apart : ground_at taken.others taken.station ≡ None = ap (ground_at taken.others) place ∙ t.1.rest old.station
-    ∙ ap (λ b. if b then None else ground_at old.others old.station) (same-back told old.station named other) ∙ ap (ground_at old.others) h.station_is ∙ h.apart in (
-      t.0,
-      changed-holds told sends bytes acted named old taken new ground (ap (λ p. same_station p named) (sym h.station_is) ∙ other) h t.1 (same ∙ table) now is
-          (λ p. at p apart ∙ ap (λ q. if same_station q p then Some taken.ground else ground_at taken.others p) place
-          ∙ ap (λ x. if same_station old.station p then Some x else ground_at taken.others p) kept)
-          (many apart),
+changed-tried told sends bytes acted named old new first (Ok done) other h t changed stops =
+    let apart : same_station (station_after acted) named ≡ false = ap (λ p. same_station p named) (sym h.station_is) ∙ other in (
+      first-refusal sends old.table acted named (length old.others.entries) (ground_at old.others named) h.count (h.others named apart) ∙ t.0,
+      changed-holds told sends bytes acted named old new first apart h t.1 changed,
     )
+
+-- a station that may not be named, or no memory for its ground
+pub first-stopped : {G : Type 0} (sends : Sends G) (bytes : List ℕ) (acted : List Line) (named : StationId) (s : Sending G) (stop : Stop)
+    → same_station s.station named ≡ false → Holds sends bytes acted s
+    → TellsRefusal (if is_some (ground_at s.others named) || nat_lt (length s.others.entries) 16 then None else Some Station) stop
+    → TellsRefusal (station_refusal (stations acted) named) stop
+first-stopped sends bytes acted named s stop other h t =
+    let apart : same_station (station_after acted) named ≡ false = ap (λ p. same_station p named) (sym h.station_is) ∙ other in
+    subst (λ r. TellsRefusal r stop) (sym (first-refusal sends s.table acted named (length s.others.entries) (ground_at s.others named) h.count (h.others named apart))) t
+
+-- where nothing was changed, and where a ground stands for the same history
+same-holds : {G : Type 0} (sends : Sends G) (bytes : List ℕ) (acted : List Line) (old new : Sending G)
+    → Holds sends bytes acted old → IsSameSending old new → Holds sends bytes acted new
+same-holds sends bytes acted old new h is = record {
+  opened = h.opened ∙ ap Ok (sym is.table_is);
+  station_is = is.station_is ∙ h.station_is;
+  ground = subst (λ t. sends t (station_after acted) (events acted) new.ground) (sym is.table_is)
+      (subst (λ g. sends old.table (station_after acted) (events acted) g) (sym is.ground) h.ground);
+  apart = at (station_after acted) ∙ h.apart;
+  others = λ p apart.
+      subst (λ t. IsGroundOf sends t acted p (ground_at new.others p)) (sym is.table_is)
+      (subst (IsGroundOf sends old.table acted p) (sym (at p)) (h.others p apart));
+  count = ap (λ es. length es + 1) is.others ∙ h.count;
+}
+  where
+    at : (p : StationId) → ground_at new.others p ≡ ground_at old.others p
+    at p = ap (lookup (is_at (station_order.ghosts.cmp p))) is.others
+
+pub same-tried : {G A : Type 0} (sends : Sends G) (bytes : List ℕ) (acted : List Line) (old new : Sending G) (result : Result A Stop)
+    → Holds sends bytes acted old → OnErr result (IsSameSending old new) → OnErr result (Holds sends bytes acted new)
+same-tried sends bytes acted old new (Ok done) h is = tt
+same-tried sends bytes acted old new (Err stop) h is = same-holds sends bytes acted old new h is
+
+pub ground-holds : {G : Type 0} (sends : Sends G) (bytes : List ℕ) (acted : List Line) (s : Sending G) (ground : G)
+    → Holds sends bytes acted s → sends s.table (station_after acted) (events acted) ground → Holds sends bytes acted (record s { ground = ground })
+ground-holds sends bytes acted s ground h stands =
+    record { opened = h.opened; station_is = h.station_is; ground = stands; apart = h.apart; others = h.others; count = h.count }

@@ -1,14 +1,12 @@
 -- What is known of the lines that a link acted on: a broadcast, and hearings of it in time, which are what was received.
-use Rattle.std.proofs.Common.{◌≡◌, ℕ, zero, suc, ◌+◌, ◌<◌, ◌≤◌, ◌⊎◌, nat_lt, Bool, true, false, if◌then◌else◌, All, List, [], ◌∷◌, ◌++◌, length, map, Option, Some, None, option_map, refl, sym, ap, subst, ◌∙◌, append-nil, arith, slice_get, slice_index, inl, inr}
+use Rattle.std.proofs.Common.{◌≡◌, ℕ, ◌+◌, ◌<◌, ◌≤◌, nat_lt, Bool, true, false, if◌then◌else◌, All, List, [], ◌∷◌, length, Option, Some, None, option_map, refl, sym, ap, ◌∙◌, arith, slice_get, slice_index, inl, inr}
 use Rattle.std.specs.Option.{option_or, option_and_then}
 use Rattle.std.specs.List.{cons_option}
 use Rattle.std.proofs.lemmas.Bool.{cases_Bool, and_parts}
 use Rattle.std.proofs.lemmas.Bool.Decides.{nat_tests}
 use Rattle.std.proofs.lemmas.List.{get_or_past}
-use Rattle.list_members.specs.Membership.{IsIn}
 use Rattle.list_members.specs.ListMembers.{got_in}
 use Rattle.list_members.specs.Tests.{none_mapped}
-use Rattle.uplink_frame.specs.declared.station.StationId.{StationId}
 use Rattle.uplink_frame.specs.Station.{FitsStation}
 use Rattle.uplink_weave.specs.Laws.{NearFrameGivesPayload}
 use Rattle.uplink_weave.specs.Functions.{payload_in, lost_block_in}

@@ -1,5 +1,5 @@
 -- A turn, a hearing and a picture of a workload: what was made with one more.
-use Rattle.std.proofs.Common.{◌≡◌, ◌≢◌, ℕ, zero, suc, ◌+◌, ◌-◌, ◌<◌, ◌≤◌, nat_lt, true, false, if◌then◌else◌, Bool, List, [], ◌∷◌, ◌++◌, length, map, fold, Option, Some, None, option_map, is_some, Result, Ok, Err, OnOk, refl, sym, ap, subst, ◌∙◌, arith, rules, tests, slice_get, get_or, ◌%◌, ◌/◌}
+use Rattle.std.proofs.Common.{◌≡◌, ◌≢◌, ℕ, ◌+◌, ◌-◌, ◌<◌, ◌≤◌, nat_lt, true, false, if◌then◌else◌, Bool, List, [], ◌∷◌, ◌++◌, length, Option, Some, None, option_map, Ok, refl, sym, ap, subst, ◌∙◌, arith, rules, tests, slice_get, get_or, ◌%◌, ◌/◌}
 use Rattle.std.specs.Option.{option_or}
 use Rattle.std.specs.List.{cons_option}
 use Rattle.std.proofs.lemmas.List.{length-map}
@@ -29,12 +29,11 @@ use Rattle.workload.specs.declared.step.Step.TheVariants as steps
 use Rattle.workload.specs.Hearings.{frame_with_changes as changed_frame}
 use Rattle.fisb_app.specs.declared.making.Making.{Making}
 use Rattle.fisb_app.specs.declared.counts.Counts.{Counts}
-use Rattle.fisb_app.specs.Past.{at_station, broadcast, events, station_after, receiver_clock, sent_frames, receptions, air_of, air_heard, reception_from, reception_by, received_frame}
-use Rattle.fisb_app.specs.Reading.{own_refusal, station_clock_refusal, turn_refusal, frame_refusal, receiver_refusal, earlier_than, frame_limit}
-use Rattle.fisb_app.specs.declared.party.Party.TheVariants.{Link as LinkParty}
-use Rattle.fisb_app.specs.Stands.{Sends, Hears, sent_view, aired_view}
-use Rattle.fisb_app.specs.Make.{acted_unless, after_step, counts_of, total, updates_by, corrected_by, corrected_bytes, corrected_in, entries_by, last_frame, last_number, wrong_in, wrong_bytes}
-use Rattle.fisb_app.specs.Makes.{Makes, sent_one, aired_one}
+use Rattle.fisb_app.specs.Past.{at_station, broadcast, events, station_after, sent_frames, receptions, air_of, air_heard, reception_from, reception_by, received_frame}
+use Rattle.fisb_app.specs.Reading.{station_clock_refusal, turn_refusal, frame_refusal, receiver_refusal, frame_limit}
+use Rattle.fisb_app.specs.Stands.{Sends, Hears}
+use Rattle.fisb_app.specs.Make.{acted_unless, after_step, total, corrected_by, corrected_bytes, corrected_in, entries_by, last_frame, last_number, wrong_in}
+use Rattle.fisb_app.specs.Makes.{Makes, aired_one}
 use Rattle.fisb_app.proofs.Turning.{frames-more, length-last, aired-alike}
 use Rattle.fisb_app.proofs.Changing.{changes-heard}
 use Rattle.fisb_app.proofs.Stepping.{IsNext, same-counts, acted-step, refused-step}

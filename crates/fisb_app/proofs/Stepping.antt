@@ -1,28 +1,26 @@
 -- A step more of a workload: what stands against its line, and what was made with it.
-use Rattle.std.proofs.Common.{◌≡◌, ◌≢◌, ℕ, zero, suc, ◌+◌, ◌-◌, ◌<◌, true, false, Bool, List, [], ◌∷◌, ◌++◌, length, map, Option, Some, None, option_map, is_some, Result, Ok, Err, OnOk, refl, sym, ap, subst, ◌∙◌, arith, slice_get, append-nil}
+use Rattle.std.proofs.Common.{◌≡◌, ℕ, ◌+◌, true, false, List, ◌∷◌, length, Option, Some, None, option_map, is_some, Result, Ok, Err, OnOk, refl, sym, ap, subst, ◌∙◌, arith, append-nil}
 use Rattle.std.specs.Option.{option_or}
 use Rattle.life_table.specs.LifeTable.{LifeTable}
-use Rattle.segment_core.specs.Store.{last_above}
 use Rattle.ground_core.specs.Update as updates
 use Rattle.ground_core.specs.Update.{Update}
-use Rattle.ground_core.specs.History.{Event, accepted}
+use Rattle.ground_core.specs.History.{accepted}
 use Rattle.ground_core.specs.Sent.{HistoriesGrow}
 use Rattle.ground_core.specs.declared.fault.GiveFault.{GiveFault}
-use Rattle.script_core.specs.Script.{Line, text, radar, blank, turn, hear, show}
+use Rattle.script_core.specs.Script.{Line, text, radar, blank}
 use Rattle.refusal_core.specs.declared.reason.Reason.{Reason}
 use Rattle.refusal_core.specs.declared.reason.Reason.TheVariants.{Clock}
 use Rattle.run_core.specs.declared.stop.Stop.{Stop}
 use Rattle.run_core.specs.declared.stop.Stop.TheVariants.{Refused, NoMemory}
 use Rattle.workload.specs.declared.step.Step.{Step}
 use Rattle.workload.specs.declared.step.Step.TheVariants as steps
-use Rattle.fisb_app.specs.declared.party.Party.TheVariants.{Link as LinkParty}
 use Rattle.fisb_app.specs.declared.making.Making.{Making}
 use Rattle.fisb_app.specs.declared.counts.Counts.{Counts}
 use Rattle.fisb_app.specs.Past.{broadcast, events, station_after, sent_frames, receptions, receiver_clock, receiver_moment}
-use Rattle.fisb_app.specs.Reading.{refusal_of, own_refusal, update_refusal, earlier_than}
+use Rattle.fisb_app.specs.Reading.{update_refusal, earlier_than}
 use Rattle.fisb_app.specs.Stands.{Sends, Hears, HasGiven, HasAnswered, HasTried}
-use Rattle.fisb_app.specs.Make.{acted_unless, after_step, step_line, block_named, counts_of, total, updates_by, corrected_by, entries_by, last_frame}
-use Rattle.fisb_app.specs.Makes.{Makes, IsCounted, with_update, sent_one, aired_one}
+use Rattle.fisb_app.specs.Make.{acted_unless, after_step, block_named, total, updates_by, corrected_by, entries_by, last_frame}
+use Rattle.fisb_app.specs.Makes.{Makes, IsCounted, with_update, aired_one}
 use Rattle.fisb_app.proofs.Giving.{update-answered}
 
 -- what stands against a line of a moment: the clock, and then its own reason

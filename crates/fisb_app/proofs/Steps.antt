@@ -33,14 +33,14 @@ told-text None refusal text stop tells is = tells refusal is
 told-text (Some last) refusal text stop tells is = cc
 
 -- a stop that tells the reason against a line is the answer
-pub tells-acted : (S : Type 0) (told : Result (List ℕ) Reason) (own : Option Reason) (given : List ℕ) (stop : Stop) → told ≡ text_unless given own
-    → TellsRefusal own stop → HasActed told S (Err stop)
-tells-acted S told own given (Refused why) e is = e ∙ ap (text_unless given) is
-tells-acted S told own given NoMemory e is = tt
+pub tells-acted : {G : Type 0} (text : G → List ℕ) (S : Type 0) (told : Result (List ℕ) Reason) (own : Option Reason) (given : List ℕ) (stop : Stop) → told ≡ text_unless given own
+    → TellsRefusal own stop → HasActed text told S (Err stop)
+tells-acted text S told own given (Refused why) e is = e ∙ ap (text_unless given) is
+tells-acted text S told own given NoMemory e is = tt
 
 -- a line that was acted on in its order is one more
-pub in-order-more : {P : Type 0} (holds : List ℕ → List Line → P → Type 0) (bytes : List ℕ) (past : List (List ℕ)) (raw : List ℕ) (line : Line)
-    (old new : InOrder P) (made : P) → line_of raw ≡ Some line → IsInOrder holds bytes past old → holds bytes (line ∷ lines_of past) made
+pub in-order-more : {P V : Type 0} (holds : List ℕ → List Line → P → Type 0) (bytes : List ℕ) (past : List (List ℕ)) (raw : List ℕ) (line : Line)
+    (old new : InOrder P V) (made : P) → line_of raw ≡ Some line → IsInOrder holds bytes past old → holds bytes (line ∷ lines_of past) made
     → new.inner ≡ made → new.clock ≡ option_or (receiver_moment line) old.clock
     → IsInOrder holds bytes (raw ∷ past) new
 in-order-more holds bytes past raw line old new made is s h inner clocked =

@@ -1,6 +1,8 @@
 pub mod Past
 pub mod Reading
 pub mod Output
+pub mod Outcome
+pub mod AirOutcome
 pub mod Damage
 pub mod Origin
 pub mod Work

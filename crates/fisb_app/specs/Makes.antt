@@ -1,5 +1,5 @@
 -- What the steps of a workload have made, against the lines acted on.
-use Rattle.std.specs.Prelude.{◌≡◌, ◌≢◌, ℕ, ◌+◌, List, ◌∷◌, Option, Some, None, option_map}
+use Rattle.std.specs.Prelude.{◌≡◌, ◌≢◌, ℕ, ◌+◌, List, Option, Some, None, option_map}
 use Rattle.std.specs.Prelude.{Result, Ok, Err, OnOk}
 use Rattle.life_table.specs.LifeTable.{LifeTable}
 use Rattle.ground_core.specs.Airing.{Frame}

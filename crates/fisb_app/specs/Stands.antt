@@ -1,5 +1,6 @@
 -- What an actor keeps, against the lines acted on, and what it answers to a line.
 use Rattle.std.specs.Prelude.{◌≡◌, ℕ, ◌+◌, true, false, if◌then◌else◌, List, [], ◌∷◌, length, map}
+use Rattle.std.specs.Prelude.{is_some}
 use Rattle.std.specs.Prelude.{Option, Some, None, Result, Ok, Err, OnOk, OnErr, IfErr, option_map}
 use Rattle.std.specs.Option.{option_or}
 use Rattle.std.specs.BTreeMap.{BTreeMap, get}
@@ -17,7 +18,7 @@ use Rattle.segment_core.specs.Store.{last_above}
 use Rattle.ground_core.specs.Airing.{Frame}
 use Rattle.ground_core.specs.Broadcast.{history_of}
 use Rattle.receiver_core.specs.Reception.{Reception}
-use Rattle.script_core.specs.Script.{Line, station}
+use Rattle.script_core.specs.Script.{Line}
 use Rattle.refusal_core.specs.declared.reason.Reason.{Reason}
 use Rattle.refusal_core.specs.declared.reason.Reason.TheVariants.{Clock}
 use Rattle.run_core.specs.declared.stop.Stop.{Stop}
@@ -87,13 +88,33 @@ pub record Holds {G : Type 0} (sends : Sends G) (bytes : List ℕ) (acted : List
       → IsGroundOf sends s.table acted place (ground_at s.others place)
   pub count : length s.others.entries + 1 ≡ length (stations acted)
 
--- the ground of a station that is named was taken out of the others, or it is its first one
-pub record IsTakenFor {G : Type 0} (sends : Sends G) (acted : List Line) (named : StationId)
-    (old new : Sending G) (ground : G) : Type 0 where
-  pub stands : sends old.table named (history_of named (broadcast acted)) ground
-  pub rest : (place : StationId) → ground_at new.others place
-      ≡ (if same_station named place then None else ground_at old.others place)
-  pub count : length new.others.entries + 2 ≡ length (stations (station named ∷ acted))
+-- the ground that was found, or else this one
+abbrev pub ground_or : {G : Type 0} → G → Option G → G
+ground_or first None = first
+ground_or first (Some ground) = ground
+
+-- another station is named: the ground that was kept for it, or its first one, is in the place of
+-- that of the last station, which is among the others
+pub record IsChangedTo {G : Type 0} (named : StationId) (first : G) (old new : Sending G)
+    : Type 0 where
+  pub table_is : new.table ≡ old.table
+  pub station_is : new.station ≡ named
+  pub ground : same_station old.station named ≡ false
+      → new.ground ≡ ground_or first (ground_at old.others named)
+  pub others : (place : StationId) → same_station named place ≡ false
+      → ground_at new.others place ≡ (if same_station old.station place then Some old.ground
+      else ground_at old.others place)
+  pub apart : ground_at new.others named ≡ None
+  pub count : same_station old.station named ≡ false → ground_at old.others old.station ≡ None
+      → length new.others.entries + (if is_some (ground_at old.others named) then 1 else 0)
+      ≡ length old.others.entries + 1
+
+-- nothing was changed
+pub record IsSameSending {G : Type 0} (old new : Sending G) : Type 0 where
+  pub table_is : new.table ≡ old.table
+  pub station_is : new.station ≡ old.station
+  pub ground : new.ground ≡ old.ground
+  pub others : new.others.entries ≡ old.others.entries
 
 -- a frame by its moment and its bytes on the air
 pub record Aired : Type 0 where
@@ -130,8 +151,8 @@ pub record RelayHolds (bytes : List ℕ) (acted : List Line) (relay : Relay) : T
   pub opened : opening_table bytes ≡ Ok relay.table
 
 -- a command acted on these lines in their order: the clock of its receiver, too, is theirs
-pub record IsInOrder {P : Type 0} (holds : List ℕ → List Line → P → Type 0) (bytes : List ℕ)
-    (past : List (List ℕ)) (s : InOrder P) : Type 0 where
+pub record IsInOrder {P V : Type 0} (holds : List ℕ → List Line → P → Type 0) (bytes : List ℕ)
+    (past : List (List ℕ)) (s : InOrder P V) : Type 0 where
   pub parts : holds bytes (lines_of past) s.inner
   pub clock : s.clock ≡ receiver_clock (lines_of past)
 

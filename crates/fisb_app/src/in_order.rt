@@ -1,5 +1,5 @@
 //! What the commands have in common: lines are acted on in their order.
-ghost use Rattle.std.specs.Prelude.{◌≡◌, ℕ, ◌∷◌, List, [], Option, None, Some, Ok, Result, IfOk};
+ghost use Rattle.std.specs.Prelude.{◌≡◌, ℕ, ◌∷◌, List, [], Option, None, Some, Ok, Result, IfOk, OnErr};
 ghost use Rattle.std.specs.Option.{option_or};
 ghost use Rattle.life_table.specs.LifeTable.{LifeTable as Table};
 ghost use Rattle.run_core.specs.Actor.{HasOpened};
@@ -13,15 +13,19 @@ ghost use Rattle.fisb_app.specs.Stands.{HasTried, IsInOrder};
 ghost use Rattle.fisb_app.specs.Work.{opened_with, opening_table, refusal_written, work_of};
 
 use crate::line_kinds::{receiver_moment, takes};
+use crate::outcome::no_text;
 use crate::party::Party;
 use fisb_time::Moment;
 use fisb_wire::Bytes;
-use run_core::{Actor, Stop};
+use run_core::{Actor, Given, Stop};
 use script_core::{Line, LineFault, Reason, print_refused, read_line};
 use std::alloc::{AllocError, Global};
 
 /// What a command does with lines against which nothing but their content can stand.
 pub(crate) trait LineActor: Drop {
+    /// What its lines give.
+    type Given: Given;
+
     // The command.
     ghost PARTY: { AnyParty };
 
@@ -41,16 +45,18 @@ pub(crate) trait LineActor: Drop {
     fn new(alloc: Global, bytes: &[u8]) -> Result<Self, Stop>
         ensures { HasOpened (opened_with (opening_table bytes.now)) (holds bytes.now []) result };
 
-    /// Acts on a line of the command, and answers the text that it gives.
-    fn act_on(&mut self, alloc: Global, line: &Line) -> Result<Bytes, Stop>
+    /// Acts on a line of the command, and answers what it gives.
+    fn act_on(&mut self, alloc: Global, line: &Line) -> Result<Self::Given, Stop>
         requires { HasRanges 32768 (line_view line.now) }
-        ensures { (bytes : List ℕ) (acted : List ScriptLine)
+        ensures acted { (bytes : List ℕ) (acted : List ScriptLine)
             → party_refusal PARTY (line_view line.now) ≡ None
             → holds bytes acted self.old
             → HasTried (own_refusal PARTY (table self.old) acted (line_view line.now))
-            (λ given. (given ≡ given_text PARTY heard_picture (table self.old) acted
-            (line_view line.now))
-            × holds bytes (line_view line.now ∷ acted) self.new) result };
+            (λ given. (Self.Given.text given ≡ given_text PARTY heard_picture (table self.old)
+            acted (line_view line.now))
+            × holds bytes (line_view line.now ∷ acted) self.new) result }
+        ensures same { (bytes : List ℕ) (acted : List ScriptLine)
+            → holds bytes acted self.old → OnErr result (holds bytes acted self.new) };
 }
 
 /// A command that acts on lines in their order.
@@ -62,6 +68,8 @@ pub(crate) struct InOrder<P: LineActor> {
 }
 
 impl<P: LineActor> Actor for InOrder<P> {
+    type Given = P::Given;
+
     ghost work = { work_of P.PARTY heard_picture };
 
     ghost stands = { IsInOrder P.holds };
@@ -71,7 +79,7 @@ impl<P: LineActor> Actor for InOrder<P> {
         Ok(InOrder { inner, clock: None })
     }
 
-    fn act(&mut self, alloc: Global, line: &[u8]) -> Result<Bytes, Stop> {
+    fn act(&mut self, alloc: Global, line: &[u8]) -> Result<P::Given, Stop> {
         let line = match read_line(alloc, line) {
             Ok(line) => line,
             Err(LineFault::Syntax) => return Err(Stop::Refused(Reason::Syntax)),
@@ -81,9 +89,9 @@ impl<P: LineActor> Actor for InOrder<P> {
             return Err(Stop::Refused(reason));
         }
         match self.inner.act_on(alloc, &line) {
-            Ok(text) => {
+            Ok(given) => {
                 self.advance(&line);
-                Ok(text)
+                Ok(given)
             }
             Err(stop) => Err(stop),
         }
@@ -118,13 +126,6 @@ impl<P: LineActor> InOrder<P> {
             self.clock = Some(moment);
         }
     }
-}
-
-/// What a line gives that writes nothing.
-pub(crate) fn no_text(alloc: Global) -> Bytes
-    ensures { result ≡ [] }
-{
-    Bytes::of(Vec::new(alloc))
 }
 
 /// What a command writes of a line that it refuses.

@@ -1,6 +1,7 @@
 //! The commands.
 #![tactic(auto)]
 
+mod air_outcome;
 mod command;
 mod counts;
 mod ear;
@@ -12,6 +13,7 @@ mod line_kinds;
 mod link;
 mod make;
 mod making;
+mod outcome;
 mod party;
 mod receiver_alone;
 mod relay;

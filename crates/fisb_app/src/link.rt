@@ -1,5 +1,6 @@
 //! The command `link`: a ground, a receiver, and the frames between them.
-ghost use Rattle.std.specs.Prelude.{◌≡◌, ℕ, ◌<◌, ◌∷◌, [], ◌++◌, List, All, OnOk, map, slice_get, true};
+ghost use Rattle.std.specs.Prelude.{◌≡◌, ℕ, ◌<◌, ◌∷◌, [], ◌++◌, List, All, OnErr, map, slice_get};
+ghost use Rattle.std.specs.Prelude.{true, vec_capacity, vec_len};
 ghost use Rattle.std.specs.List.{cons_option};
 ghost use Rattle.life_table.specs.LifeTable.{LifeTable as Table};
 ghost use Rattle.picture_core.specs.Views.{shown_value};
@@ -17,17 +18,17 @@ ghost use Rattle.fisb_app.specs.Stands.{HasTried, IsFound, LinkHolds, aired_view
 
 use crate::ear::Ear;
 use crate::hearing::{receive, show};
-use crate::in_order::{LineActor, no_text};
+use crate::in_order::LineActor;
+use crate::outcome::{Event, Outcome};
 use crate::party::Party;
 use crate::sender::Sender;
 use crate::sending::Sending;
 use crate::sent::SentFrame;
 use fisb_time::Moment;
-use fisb_wire::Bytes;
 use ground_core::AirFrame;
 use run_core::Stop;
-use script_core::{Line, Reason, Wrong, print_sent};
-use std::alloc::{AllocError, Global};
+use script_core::{Line, Reason, Wrong};
+use std::alloc::Global;
 use uplink_frame::StationId;
 
 /// What the lines acted on have made.
@@ -39,6 +40,8 @@ pub(crate) struct Link<G: Sender, E: Ear> {
 }
 
 impl<G: Sender, E: Ear> LineActor for Link<G, E> {
+    type Given = Outcome;
+
     ghost PARTY = { TheLink };
 
     const PARTY: Party = Party::Link;
@@ -61,17 +64,17 @@ impl<G: Sender, E: Ear> LineActor for Link<G, E> {
         })
     }
 
-    fn act_on(&mut self, alloc: Global, line: &Line) -> Result<Bytes, Stop> {
+    fn act_on(&mut self, alloc: Global, line: &Line) -> Result<Outcome, Stop> {
         match line {
-            Line::Nothing | Line::Rx { .. } => Ok(no_text(alloc)),
+            Line::Nothing | Line::Rx { .. } => Ok(Outcome::of(Event::Nothing)),
             Line::Station(station) => self.name_station(alloc, *station),
-            Line::Text { .. } | Line::Radar { .. } | Line::Blank { .. } => self.give(alloc, line),
-            Line::Turn { moment, slot } => self.turn(alloc, *moment, *slot),
+            Line::Text { .. } | Line::Radar { .. } | Line::Blank { .. } => self.give(line),
+            Line::Turn { moment, slot } => self.turn(*moment, *slot),
             Line::Hear {
                 moment,
                 frame,
                 wrong,
-            } => self.hear(alloc, *moment, *frame, wrong),
+            } => self.hear(*moment, *frame, wrong),
             Line::Show { moment } => show(alloc, &self.ear, *moment),
         }
     }
@@ -79,72 +82,79 @@ impl<G: Sender, E: Ear> LineActor for Link<G, E> {
 
 impl<G: Sender, E: Ear> Link<G, E> {
     /// Names the station that the following lines concern.
-    fn name_station(&mut self, alloc: Global, named: StationId) -> Result<Bytes, Stop>
+    fn name_station(&mut self, alloc: Global, named: StationId) -> Result<Outcome, Stop>
         requires { FitsStation named }
-        ensures { (bytes : List ℕ) (acted : List ScriptLine)
+        ensures acted { (bytes : List ℕ) (acted : List ScriptLine)
             → LinkHolds G.stands E.stands bytes acted self.old
             → HasTried (own_refusal Party.Link self.old.sending.table acted (station named))
             (λ given. (given ≡ given_text Party.Link heard_picture self.old.sending.table acted
             (station named))
             × LinkHolds G.stands E.stands bytes (station named ∷ acted) self.new) result }
+        ensures same { (bytes : List ℕ) (acted : List ScriptLine)
+            → LinkHolds G.stands E.stands bytes acted self.old
+            → OnErr result (LinkHolds G.stands E.stands bytes acted self.new) }
     {
         match self.sending.name_station(alloc, named) {
-            Ok(()) => Ok(no_text(alloc)),
+            Ok(()) => Ok(Outcome::of(Event::Nothing)),
             Err(stop) => Err(stop),
         }
     }
 
     /// Gives the update of a line to the ground.
-    fn give(&mut self, alloc: Global, line: &Line) -> Result<Bytes, Stop>
+    fn give(&mut self, line: &Line) -> Result<Outcome, Stop>
         requires ranges { HasRanges 32768 (line_view line.now) }
         requires update { is_update (line_view line.now) ≡ true }
-        ensures { (bytes : List ℕ) (acted : List ScriptLine)
+        ensures acted { (bytes : List ℕ) (acted : List ScriptLine)
             → LinkHolds G.stands E.stands bytes acted self.old
             → HasTried (own_refusal Party.Link self.old.sending.table acted (line_view line.now))
             (λ given. (given ≡ given_text Party.Link heard_picture self.old.sending.table acted
             (line_view line.now))
             × LinkHolds G.stands E.stands bytes (line_view line.now ∷ acted) self.new) result }
+        ensures same { (bytes : List ℕ) (acted : List ScriptLine)
+            → LinkHolds G.stands E.stands bytes acted self.old
+            → OnErr result (LinkHolds G.stands E.stands bytes acted self.new) }
     {
         match self.sending.give(line) {
-            Ok(()) => Ok(no_text(alloc)),
+            Ok(()) => Ok(Outcome::of(Event::Nothing)),
             Err(stop) => Err(stop),
         }
     }
 
-    /// Fills a frame, keeps it, and answers its text.
-    fn turn(&mut self, alloc: Global, moment: Moment, slot: u8) -> Result<Bytes, Stop>
+    /// Fills a frame and keeps it, where there is room for it.
+    fn turn(&mut self, moment: Moment, slot: u8) -> Result<Outcome, Stop>
         requires { slot < 32 }
-        ensures { (bytes : List ℕ) (acted : List ScriptLine)
+        ensures acted { (bytes : List ℕ) (acted : List ScriptLine)
             → LinkHolds G.stands E.stands bytes acted self.old
             → HasTried (own_refusal Party.Link self.old.sending.table acted (turn moment slot))
             (λ given. (given ≡ given_text Party.Link heard_picture self.old.sending.table acted
             (turn moment slot))
             × LinkHolds G.stands E.stands bytes (turn moment slot ∷ acted) self.new) result }
+        ensures same { (bytes : List ℕ) (acted : List ScriptLine)
+            → LinkHolds G.stands E.stands bytes acted self.old
+            → OnErr result (LinkHolds G.stands E.stands bytes acted self.new) }
     {
+        let Ok(()) = self.sent.reserve(1) else {
+            return Err(Stop::NoMemory);
+        };
         let index = self.sent.len();
         let frame = match self.sending.turn(index, moment, slot) {
             Ok(frame) => frame,
             Err(reason) => return Err(Stop::Refused(reason)),
         };
-        let Ok(()) = keep(&mut self.sent, &frame) else {
-            return Err(Stop::NoMemory);
-        };
-        match print_sent(alloc, index as u32, &frame, false) {
-            Ok(text) => Ok(text),
-            Err(AllocError) => Err(Stop::NoMemory),
-        }
+        keep(&mut self.sent, &frame);
+        Ok(Outcome::of(Event::Sent {
+            index: index as u32,
+            moment: frame.moment,
+            slot: frame.slot,
+            bodies: frame.bodies,
+            used: frame.used,
+        }))
     }
 
     /// Hears a frame that was sent, with the wrong bytes in it.
-    fn hear(
-        &mut self,
-        alloc: Global,
-        moment: Moment,
-        frame: u32,
-        wrong: &Wrong,
-    ) -> Result<Bytes, Stop>
+    fn hear(&mut self, moment: Moment, frame: u32, wrong: &Wrong) -> Result<Outcome, Stop>
         requires { All (λ one. (one.0 < frame_bytes) × (one.1 < 256)) wrong.now }
-        ensures { (bytes : List ℕ) (acted : List ScriptLine)
+        ensures acted { (bytes : List ℕ) (acted : List ScriptLine)
             → LinkHolds G.stands E.stands bytes acted self.old
             → HasTried
             (own_refusal Party.Link self.old.sending.table acted (hear moment frame wrong.now))
@@ -152,13 +162,16 @@ impl<G: Sender, E: Ear> Link<G, E> {
             (hear moment frame wrong.now))
             × LinkHolds G.stands E.stands bytes (hear moment frame wrong.now ∷ acted) self.new)
             result }
+        ensures same { (bytes : List ℕ) (acted : List ScriptLine)
+            → LinkHolds G.stands E.stands bytes acted self.old
+            → OnErr result (LinkHolds G.stands E.stands bytes acted self.new) }
     {
         let mut air = match self.find(moment, frame) {
             Ok(air) => air,
             Err(reason) => return Err(Stop::Refused(reason)),
         };
         put_wrong(&mut air, wrong.all());
-        receive(alloc, &mut self.ear, moment, &air)
+        receive(&mut self.ear, moment, &air)
     }
 
     /// The bytes on the air of a frame that was sent, in time.
@@ -179,16 +192,16 @@ impl<G: Sender, E: Ear> Link<G, E> {
     }
 }
 
-/// Keeps a frame that was sent.
-fn keep(sent: &mut Vec<SentFrame>, frame: &AirFrame) -> Result<(), AllocError>
-    ensures { OnOk result (map sent_view sent.new.items ≡ map sent_view sent.old.items
-        ++ record { moment = frame.now.moment; air = frame.now.air } ∷ []) }
+/// Keeps a frame that was sent, for which there is room.
+fn keep(sent: &mut Vec<SentFrame>, frame: &AirFrame)
+    requires { vec_len sent.old < vec_capacity sent.old }
+    ensures { map sent_view sent.new.items ≡ map sent_view sent.old.items
+        ++ record { moment = frame.now.moment; air = frame.now.air } ∷ [] }
 {
-    sent.push(SentFrame {
+    sent.push_reserved(SentFrame {
         moment: frame.moment,
         air: frame.air,
-    })?;
-    Ok(())
+    });
 }
 
 /// Puts the wrong bytes of a frame in their places.

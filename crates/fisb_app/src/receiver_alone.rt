@@ -6,10 +6,10 @@ ghost use Rattle.fisb_app.specs.Stands.{EarHolds};
 
 use crate::ear::Ear;
 use crate::hearing::{receive, show};
-use crate::in_order::{LineActor, no_text};
+use crate::in_order::LineActor;
+use crate::outcome::{Event, Outcome};
 use crate::party::Party;
 use crate::sending::read_table;
-use fisb_wire::Bytes;
 use life_table::LifeTable;
 use run_core::Stop;
 use script_core::Line;
@@ -24,6 +24,8 @@ pub(crate) struct ReceiverAlone<E: Ear> {
 }
 
 impl<E: Ear> LineActor for ReceiverAlone<E> {
+    type Given = Outcome;
+
     ghost PARTY = { TheReceive };
 
     const PARTY: Party = Party::Receive;
@@ -45,7 +47,7 @@ impl<E: Ear> LineActor for ReceiverAlone<E> {
         })
     }
 
-    fn act_on(&mut self, alloc: Global, line: &Line) -> Result<Bytes, Stop> {
+    fn act_on(&mut self, alloc: Global, line: &Line) -> Result<Outcome, Stop> {
         match line {
             Line::Nothing
             | Line::Station(_)
@@ -53,8 +55,8 @@ impl<E: Ear> LineActor for ReceiverAlone<E> {
             | Line::Radar { .. }
             | Line::Blank { .. }
             | Line::Turn { .. }
-            | Line::Hear { .. } => Ok(no_text(alloc)),
-            Line::Rx { moment, air } => receive(alloc, &mut self.ear, *moment, air),
+            | Line::Hear { .. } => Ok(Outcome::of(Event::Nothing)),
+            Line::Rx { moment, air } => receive(&mut self.ear, *moment, air),
             Line::Show { moment } => show(alloc, &self.ear, *moment),
         }
     }

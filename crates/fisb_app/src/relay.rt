@@ -6,7 +6,9 @@ ghost use Rattle.fisb_app.specs.declared.party.Party.TheVariants.{Gdl as TheGdl}
 ghost use Rattle.fisb_app.specs.Output.{display_bytes};
 ghost use Rattle.fisb_app.specs.Stands.{RelayHolds};
 
-use crate::in_order::{LineActor, no_text};
+use crate::air_outcome::{AirEvent, AirOutcome};
+use crate::in_order::LineActor;
+use crate::outcome::no_text;
 use crate::party::Party;
 use crate::sending::read_table;
 use arrayvec::ArrayVec;
@@ -28,6 +30,8 @@ pub(crate) struct Relay {
 }
 
 impl LineActor for Relay {
+    type Given = AirOutcome;
+
     ghost PARTY = { TheGdl };
 
     const PARTY: Party = Party::Gdl;
@@ -43,7 +47,7 @@ impl LineActor for Relay {
         Ok(Relay { table })
     }
 
-    fn act_on(&mut self, alloc: Global, line: &Line) -> Result<Bytes, Stop> {
+    fn act_on(&mut self, _alloc: Global, line: &Line) -> Result<AirOutcome, Stop> {
         match line {
             Line::Nothing
             | Line::Station(_)
@@ -52,17 +56,14 @@ impl LineActor for Relay {
             | Line::Blank { .. }
             | Line::Turn { .. }
             | Line::Hear { .. }
-            | Line::Show { .. } => Ok(no_text(alloc)),
-            Line::Rx { air, .. } => match display_message(alloc, air) {
-                Ok(bytes) => Ok(bytes),
-                Err(AllocError) => Err(Stop::NoMemory),
-            },
+            | Line::Show { .. } => Ok(AirOutcome::of(AirEvent::Nothing)),
+            Line::Rx { air, .. } => Ok(AirOutcome::of(AirEvent::Relayed { air: *air })),
         }
     }
 }
 
 /// The framed message of the payload of a frame, and nothing where it has none.
-fn display_message(alloc: Global, air: &[u8; 552]) -> Result<Bytes, AllocError>
+pub(crate) fn display_message(alloc: Global, air: &[u8; 552]) -> Result<Bytes, AllocError>
     ensures { IfOk result (λ bytes. bytes ≡ display_bytes (payload_in air.now)) }
 {
     let mut payload = [0; 432];

@@ -58,6 +58,12 @@ pub(crate) trait Sender: Drop {
         ensures { HasGiven stands self.old self.new moment
             (blanks_update version product scale south numbers.now) result };
 
+    /// The moment of the last accepted call, where the given one is below it.
+    fn kept_above(&self, moment: Moment) -> Option<Moment>
+        ensures { (table : Table) (station : Place) (history : List Event)
+            → stands table station history self.now
+            → result ≡ last_above (history_clock history) moment };
+
     /// Fills the frame of a slot.
     fn fill(&mut self, moment: Moment, slot: u8) -> Result<AirFrame, FillFault>
         requires { slot < 32 }
@@ -108,6 +114,10 @@ impl Sender for Ground {
         numbers: &[u32],
     ) -> Result<(), GiveFault> {
         Ground::give_blanks(self, moment, version, product, scale, south, numbers)
+    }
+
+    fn kept_above(&self, moment: Moment) -> Option<Moment> {
+        Ground::kept_above(self, moment)
     }
 
     fn fill(&mut self, moment: Moment, slot: u8) -> Result<AirFrame, FillFault> {

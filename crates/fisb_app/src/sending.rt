@@ -1,6 +1,6 @@
 //! What both commands do: naming a station, giving updates and filling frames.
-ghost use Rattle.std.specs.Prelude.{◌≡◌, ℕ, ◌<◌, ◌+◌, ◌∷◌, List, [], None, Some, false, true, IfErr, IfOk, OnOk};
-ghost use Rattle.std.specs.Prelude.{if◌then◌else◌, length, nat_lt};
+ghost use Rattle.std.specs.Prelude.{◌≡◌, ℕ, ◌<◌, ◌≤◌, ◌+◌, ◌∷◌, List, [], None, Some, true};
+ghost use Rattle.std.specs.Prelude.{IfErr, IfOk, OnErr, OnOk, ◌||◌, if◌then◌else◌, is_some, length, nat_lt};
 ghost use Rattle.uplink_frame.specs.declared.station.StationId.{StationId as Place};
 ghost use Rattle.uplink_frame.specs.Station.{FitsStation, same_station};
 ghost use Rattle.ground_core.specs.Airing.{frame_after};
@@ -9,9 +9,10 @@ ghost use Rattle.run_core.specs.Actor.{HasOpened};
 ghost use Rattle.script_core.specs.LineView.{line_view, HasRanges};
 ghost use Rattle.script_core.specs.Script.{Line as ScriptLine, station, turn};
 ghost use Rattle.fisb_app.specs.declared.party.Party.{Party as AnyParty};
-ghost use Rattle.fisb_app.specs.Past.{events, station_after, stations};
-ghost use Rattle.fisb_app.specs.Reading.{is_update, own_refusal, station_refusal, turn_refusal};
-ghost use Rattle.fisb_app.specs.Stands.{HasRead, HasTried, Holds, IsTakenFor, ground_at};
+ghost use Rattle.fisb_app.specs.Past.{events, station_after};
+ghost use Rattle.fisb_app.specs.Reading.{is_update, own_refusal, turn_refusal};
+ghost use Rattle.fisb_app.specs.Stands.{HasRead, HasTried, Holds, IsChangedTo, IsSameSending};
+ghost use Rattle.fisb_app.specs.Stands.{ground_at, ground_or};
 ghost use Rattle.fisb_app.specs.Work.{opened_with, opening_table};
 
 use crate::sender::Sender;
@@ -75,45 +76,30 @@ impl<G: Sender> Sending<G> {
             → Holds G.stands bytes acted self.old
             → HasTried (own_refusal party self.old.table acted (station named))
             (λ done. Holds G.stands bytes (station named ∷ acted) self.new) result }
+        ensures same { (bytes : List ℕ) (acted : List ScriptLine)
+            → Holds G.stands bytes acted self.old
+            → OnErr result (Holds G.stands bytes acted self.new) }
         ensures table { self.new.table ≡ self.old.table }
     {
         stations_are_told();
         if named == self.station {
             return Ok(());
         }
-        match self.take_ground(alloc, named) {
-            Ok(ground) => self.change_to(named, ground),
+        match self.first_ground(alloc, named) {
+            Ok(first) => self.change_to(named, first),
             Err(stop) => Err(stop),
         }
     }
 
-    /// The ground of another station than that which was named last: the one that is kept for it,
-    /// or its first one.
-    fn take_ground(&mut self, alloc: Global, named: StationId) -> Result<G, Stop>
-        requires { FitsStation named }
-        ensures taken { (bytes : List ℕ) (acted : List ScriptLine)
-            → Holds G.stands bytes acted self.old
-            → same_station (station_after acted) named ≡ false
-            → HasTried (station_refusal (stations acted) named)
-            (IsTakenFor G.stands acted named self.old self.new) result }
-        ensures table { self.new.table ≡ self.old.table }
-        ensures of_station { self.new.station ≡ self.old.station }
-        ensures ground { self.new.ground ≡ self.old.ground }
-    {
-        stations_are_told();
-        match self.others.remove(&named) {
-            Some(ground) => Ok(ground),
-            None => self.first_ground(alloc, named),
-        }
-    }
-
-    /// A ground for a station that is named for the first time.
+    /// A ground for another station than that which was named last, that was given nothing. It is
+    /// made also where one is kept for that station, and then only holds a place while grounds move.
     fn first_ground(&self, alloc: Global, named: StationId) -> Result<G, Stop>
         requires { FitsStation named }
-        ensures { HasTried (if nat_lt (length self.now.others.entries) 16 then None
-            else Some Reason.Station) (G.stands self.now.table named []) result }
+        ensures { HasTried (if is_some (ground_at self.now.others named)
+            || nat_lt (length self.now.others.entries) 16 then None else Some Reason.Station)
+            (G.stands self.now.table named []) result }
     {
-        if self.others.len() >= STATION_LIMIT {
+        if !self.others.contains_key(&named) && self.others.len() >= STATION_LIMIT {
             return Err(Stop::Refused(Reason::Station));
         }
         match self.table.copy(alloc) {
@@ -122,27 +108,64 @@ impl<G: Sender> Sending<G> {
         }
     }
 
-    /// Puts the ground of the station that is named in the place of that of the last one, which
-    /// goes to the others.
-    fn change_to(&mut self, named: StationId, ground: G) -> Result<(), Stop>
-        ensures others { (place : Place) → ground_at self.old.others self.old.station ≡ None
-            → OnOk result (ground_at self.new.others place
+    /// Goes on with another station than that which was named last: with the ground that is kept
+    /// for it, or with its first one.
+    fn change_to(&mut self, named: StationId, first: G) -> Result<(), Stop>
+        ensures changed { OnOk result (IsChangedTo named first self.old self.new) }
+        ensures stops { IfErr result (λ stop. stop ≡ Stop.NoMemory) }
+        ensures same { OnErr result (IsSameSending self.old self.new) }
+    {
+        // The ground of the last station is put away first: only that may run out of memory.
+        match self.put_away(first) {
+            Ok(()) => {
+                self.take_back(named);
+                Ok(())
+            }
+            Err(stop) => Err(stop),
+        }
+    }
+
+    /// Puts a ground in the place of that of the last station, which goes to the others.
+    fn put_away(&mut self, first: G) -> Result<(), Stop>
+        ensures others { (place : Place) → OnOk result (ground_at self.new.others place
             ≡ (if same_station self.old.station place then Some self.old.ground
             else ground_at self.old.others place)) }
         ensures count { ground_at self.old.others self.old.station ≡ None
             → OnOk result (length self.new.others.entries
             ≡ length self.old.others.entries + 1) }
-        ensures ground { OnOk result (self.new.ground ≡ ground) }
-        ensures of_station { OnOk result (self.new.station ≡ named) }
+        ensures ground { OnOk result (self.new.ground ≡ first) }
+        ensures of_station { self.new.station ≡ self.old.station }
         ensures table { self.new.table ≡ self.old.table }
         ensures stops { IfErr result (λ stop. stop ≡ Stop.NoMemory) }
+        ensures same { OnErr result (IsSameSending self.old self.new) }
     {
-        let before = mem::replace(&mut self.ground, ground);
-        let Ok(_) = self.others.insert(self.station, before) else {
-            return Err(Stop::NoMemory);
-        };
+        let before = mem::replace(&mut self.ground, first);
+        match self.others.insert(self.station, before) {
+            Ok(_) => Ok(()),
+            Err(refused) => {
+                let (_, before) = refused.value;
+                self.ground = before;
+                Err(Stop::NoMemory)
+            }
+        }
+    }
+
+    /// Names a station, and takes the ground that is kept for it, if one is.
+    fn take_back(&mut self, named: StationId)
+        ensures others { (place : Place) → ground_at self.new.others place
+            ≡ (if same_station named place then None else ground_at self.old.others place) }
+        ensures count { length self.new.others.entries
+            + (if is_some (ground_at self.old.others named) then 1 else 0)
+            ≡ length self.old.others.entries }
+        ensures ground { self.new.ground ≡ ground_or self.old.ground
+            (ground_at self.old.others named) }
+        ensures of_station { self.new.station ≡ named }
+        ensures table { self.new.table ≡ self.old.table }
+    {
+        if let Some(ground) = self.others.remove(&named) {
+            self.ground = ground;
+        }
         self.station = named;
-        Ok(())
     }
 
     /// Gives the update of a line to the ground.
@@ -153,6 +176,9 @@ impl<G: Sender> Sending<G> {
             → Holds G.stands bytes acted self.old
             → HasTried (own_refusal party self.old.table acted (line_view line.now))
             (λ done. Holds G.stands bytes (line_view line.now ∷ acted) self.new) result }
+        ensures same { (bytes : List ℕ) (acted : List ScriptLine)
+            → Holds G.stands bytes acted self.old
+            → OnErr result (Holds G.stands bytes acted self.new) }
         ensures table { self.new.table ≡ self.old.table }
     {
         histories_grow();
@@ -205,16 +231,30 @@ impl<G: Sender> Sending<G> {
             → Holds G.stands bytes acted self.old
             → IfErr result (λ why. turn_refusal count acted moment ≡ Some why) }
         ensures room { OnOk result (count < 65536) }
+        ensures same { OnErr result (self.new ≡ self.old) }
         ensures table { self.new.table ≡ self.old.table }
     {
         histories_grow();
-        // A refused line is the last one: that the ground has filled a frame for it tells nothing.
+        if count >= FRAME_LIMIT {
+            return Err(self.reason_when_full(moment));
+        }
         match self.ground.fill(moment, slot) {
-            Ok(_) if count >= FRAME_LIMIT => Err(Reason::Frames),
             Ok(frame) => Ok(frame),
             Err(fault) => Err(Reason::Clock {
                 kept: kept_of(fault),
             }),
+        }
+    }
+
+    /// The first reason against a frame after the last one.
+    fn reason_when_full(&self, moment: Moment) -> Reason
+        ensures { (bytes : List ℕ) (acted : List ScriptLine) (count : ℕ) → 65536 ≤ count
+            → Holds G.stands bytes acted self.now
+            → turn_refusal count acted moment ≡ Some result }
+    {
+        match self.ground.kept_above(moment) {
+            Some(kept) => Reason::Clock { kept },
+            None => Reason::Frames,
         }
     }
 }

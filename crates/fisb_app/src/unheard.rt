@@ -6,29 +6,22 @@ ghost use Rattle.receiver_core.specs.Reception.{Reception};
 ghost use Rattle.refusal_core.specs.declared.reason.Reason.TheVariants.{Clock};
 ghost use Rattle.fisb_app.specs.Stands.{HasUnheard, TellsRefusal};
 
+use crate::outcome::{Event, Outcome};
 use fisb_time::Moment;
-use fisb_wire::Bytes;
 use receiver_core::{HearFault, ShowFault};
 use run_core::Stop;
-use script_core::{Reason, print_lost, print_noapp};
-use std::alloc::{AllocError, Global};
+use script_core::Reason;
 
-/// The text of a frame that is not heard, or why the line is not acted on.
-pub(crate) fn print_unheard(alloc: Global, moment: Moment, fault: HearFault) -> Result<Bytes, Stop>
+/// What is told of a frame that is not heard, or why the line is not acted on.
+pub(crate) fn answer_unheard(moment: Moment, fault: HearFault) -> Result<Outcome, Stop>
     ensures { (table : Table) (past : List Reception) (air : List ℕ)
         → IsHearFault (refusal_of_air past moment air) fault
         → HasUnheard table past moment air result }
 {
     match fault {
         HearFault::Clock { kept } => Err(Stop::Refused(Reason::Clock { kept })),
-        HearFault::Lost { block } => match print_lost(alloc, moment, block) {
-            Ok(text) => Ok(text),
-            Err(AllocError) => Err(Stop::NoMemory),
-        },
-        HearFault::NoApplication => match print_noapp(alloc, moment) {
-            Ok(text) => Ok(text),
-            Err(AllocError) => Err(Stop::NoMemory),
-        },
+        HearFault::Lost { block } => Ok(Outcome::of(Event::Lost { moment, block })),
+        HearFault::NoApplication => Ok(Outcome::of(Event::NoApplication { moment })),
         HearFault::NoMemory => Err(Stop::NoMemory),
     }
 }

@@ -286,7 +286,15 @@ impl Ground {
         })
     }
 
-    /// The moment of the last accepted call, where the given one is below it.
+    /// The moment of the last accepted call, where the given one is below it: at that moment every call is refused.
+    pub fn kept_above(&self, moment: Moment) -> Option<Moment>
+        ensures { (table : Table) (station : Place) (history : List Event)
+            → StandsFor table station self.now history
+            → result ≡ last_above (history_clock history) moment }
+    {
+        self.last_above(moment)
+    }
+
     fn last_above(&self, moment: Moment) -> Option<Moment>
         ensures last { result ≡ last_above self.now.clock moment }
         ensures in_range { IsMoment moment }

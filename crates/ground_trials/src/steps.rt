@@ -197,7 +197,8 @@ pub(crate) fn next_frame(ground: &mut Ground, moment: u64) -> Result<AirFrame, F
 pub(crate) fn is_refused_below(ground: &mut Ground, moment: u64, last: u64) -> Result<bool, Fail> {
     let moment = moment_of(moment)?;
     let kept = moment_of(last)?;
-    Ok(ground.fill(moment, 0).err() == Some(FillFault::Clock { kept }))
+    let told = ground.kept_above(moment) == Some(kept);
+    Ok(told && ground.fill(moment, 0).err() == Some(FillFault::Clock { kept }))
 }
 
 pub(crate) fn is_given(

@@ -10,8 +10,9 @@ HasOpened opened stands (Ok actor) = (opened ≡ None) × stands actor
 HasOpened opened stands (Err (Refused why)) = opened ≡ Some why
 HasOpened opened stands (Err NoMemory) = Unit {0}
 
--- a line was acted on, and gave this text; or it was refused
-abbrev pub HasActed : Result (List ℕ) Reason → Type 0 → Result (List ℕ) Stop → Type 0
-HasActed told stands (Ok text) = (told ≡ Ok text) × stands
-HasActed told stands (Err (Refused why)) = told ≡ Err why
-HasActed told stands (Err NoMemory) = Unit {0}
+-- a line was acted on, and what it gave has the text that is told; or it was refused
+abbrev pub HasActed : {G : Type 0} → (G → List ℕ) → Result (List ℕ) Reason → Type 0
+    → Result G Stop → Type 0
+HasActed text told stands (Ok given) = (told ≡ Ok (text given)) × stands
+HasActed text told stands (Err (Refused why)) = told ≡ Err why
+HasActed text told stands (Err NoMemory) = Unit {0}

@@ -5,7 +5,7 @@ ghost use Rattle.run_core.specs.Acted.{reading};
 ghost use Rattle.run_core.specs.Acting.{HasStoppedOn, HasActedOn};
 ghost use Rattle.run_core.specs.Run.{sink_end};
 
-use crate::actor::Actor;
+use crate::actor::{Actor, Given};
 use crate::output::write_all;
 use crate::status::Status;
 use crate::stop::Stop;
@@ -36,12 +36,15 @@ pub(crate) fn act_on_line<A: Actor, K: Sink>(
     if line.len() > LINE_LIMIT {
         return Err(refuse::<A, K>(alloc, number, Reason::LineLong, sink));
     }
-    let text = match actor.act(alloc, line) {
-        Ok(text) => text,
+    let given = match actor.act(alloc, line) {
+        Ok(given) => given,
         Err(Stop::Refused(reason)) => {
             return Err(refuse::<A, K>(alloc, number, reason, sink));
         }
         Err(Stop::NoMemory) => return Err(Status::NoMemory),
+    };
+    let Ok(text) = given.print(alloc) else {
+        return Err(Status::NoMemory);
     };
     match write_all(sink, text.all()) {
         Ok(()) => Ok(()),

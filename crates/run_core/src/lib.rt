@@ -14,7 +14,7 @@ mod status;
 mod stop;
 mod top;
 
-pub use actor::Actor;
+pub use actor::{Actor, Given};
 pub use output::write_all;
 pub use status::Status;
 pub use stop::Stop;

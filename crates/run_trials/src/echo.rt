@@ -4,8 +4,22 @@ ghost use Rattle.run_trials.specs.Echo.{echo_text, echo_work};
 
 use fisb_wire::Bytes;
 use refusal_core::{Reason, print_refused};
-use run_core::{Actor, Stop};
+use run_core::{Actor, Given, Stop};
 use std::alloc::{AllocError, Global};
+
+/// What a line gave.
+#[derive(Drop)]
+pub struct Echoed {
+    text: Bytes,
+}
+
+impl Given for Echoed {
+    ghost text = { λ echoed. echoed.text };
+
+    fn print(&self, alloc: Global) -> Result<Bytes, AllocError> {
+        Ok(Bytes::of(Vec::from_slice(alloc, self.text.all())?))
+    }
+}
 
 /// Gives back each line that begins with a plus sign, gives nothing for an empty line and for one
 /// that begins with `#`, and refuses every other.
@@ -13,6 +27,8 @@ use std::alloc::{AllocError, Global};
 pub struct Echo;
 
 impl Actor for Echo {
+    type Given = Echoed;
+
     ghost work = { echo_work };
 
     ghost stands = { λ table past echo. Unit {0} };
@@ -21,9 +37,9 @@ impl Actor for Echo {
         Ok(Echo)
     }
 
-    fn act(&mut self, alloc: Global, line: &[u8]) -> Result<Bytes, Stop> {
+    fn act(&mut self, alloc: Global, line: &[u8]) -> Result<Echoed, Stop> {
         match echo_line(alloc, line)? {
-            Some(text) => Ok(text),
+            Some(text) => Ok(Echoed { text }),
             None => Err(Stop::Refused(Reason::Syntax)),
         }
     }

@@ -5,7 +5,7 @@ mod complete;
 mod echo;
 
 pub use complete::run_in_memory;
-pub use echo::Echo;
+pub use echo::{Echo, Echoed};
 
 #[cfg(test)]
 mod tests;

@@ -8,7 +8,7 @@ returns-then-line-gt-LINE_LIMIT-clause-acted g c = λ table past stands.
 
 pub returns-in-Err-Refused-clause-acted : goal.returns-in-Err-Refused-clause-acted
 returns-in-Err-Refused-clause-acted g c = λ table past stands.
-    let acted = c.in-Err-Refused.ensures table past stands in
+    let acted = c.in-Err-Refused.ensures.acted table past stands in
     let told = rw c.in-Err-Refused.field-0-is at acted in
     c.refuse-in-Err-Refused.ensures.refused _
     (short-reading (g.A.Actor.work.told table) past c.args.line.now c.if-line-gt-LINE_LIMIT.false ∙ told)

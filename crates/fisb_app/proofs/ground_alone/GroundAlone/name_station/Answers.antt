@@ -4,16 +4,16 @@ use Rattle.fisb_app.specs.declared.party.Party.TheVariants.{Ground as GroundPart
 use Rattle.fisb_app.proofs.Keeping.{alone-kept}
 use Rattle.fisb_app.proofs.ground_alone.GroundAlone.name_station.Goals as goal
 
-pub returns-in-Ok : goal.returns-in-Ok
-returns-in-Ok g c = λ bytes acted h.
+pub returns-in-Ok-clause-acted : goal.returns-in-Ok-clause-acted
+returns-in-Ok-clause-acted g c = λ bytes acted h.
     let named = c.in-Ok.ensures.named GroundParty bytes acted h.holds in (
       named.0,
       (
-        c.no_text.ensures,
+        c.of.ensures,
         alone-kept g.G.Sender.stands bytes acted (station c.args.named) c.args.self.now _ named.1
             c.in-Ok.ensures.table refl (λ t. refl) h,
       ),
     )
 
-pub returns-in-Err : goal.returns-in-Err
-returns-in-Err g c = λ bytes acted h. c.in-Err.ensures.named GroundParty bytes acted h.holds
+pub returns-in-Err-clause-acted : goal.returns-in-Err-clause-acted
+returns-in-Err-clause-acted g c = λ bytes acted h. c.in-Err.ensures.named GroundParty bytes acted h.holds

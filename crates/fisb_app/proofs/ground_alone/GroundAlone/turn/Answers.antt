@@ -8,8 +8,8 @@ use Rattle.fisb_app.specs.Output.{sent_frame}
 use Rattle.fisb_app.proofs.Turning.{frames-more, length-last, line-alike}
 use Rattle.fisb_app.proofs.ground_alone.GroundAlone.turn.Goals as goal
 
-pub returns-in-Ok-print_sent : goal.returns-in-Ok-print_sent
-returns-in-Ok-print_sent g c = λ bytes acted h.
+pub returns-clause-acted : goal.returns-clause-acted
+returns-clause-acted g c = λ bytes acted h.
     let table = c.args.self.now.sending.table in
     let index = h.sent in
     let on = c.in-Ok.ensures.frame bytes acted h.holds in
@@ -18,7 +18,7 @@ returns-in-Ok-print_sent g c = λ bytes acted h.
     let more = frames-more table acted c.args.moment c.args.slot in (
       ap (λ i. turn_refusal i acted c.args.moment) (sym index) ∙ c.in-Ok.ensures.in_time bytes acted h.holds,
       (
-        c.in-Ok-print_sent.ensures ∙ line-alike c.args.self.now.sent true sent c.in-Ok.frame on
+        c.of.ensures ∙ line-alike c.args.self.now.sent true sent c.in-Ok.frame on
             ∙ ap (λ i. sent_line i (sent_frame sent) true) index,
         record {
           holds = c.in-Ok.ensures.filled bytes acted h.holds;

@@ -1,10 +1,10 @@
 use Rattle.fisb_app.proofs.link.LinkLineActor.act_on.Goals as goal
 
-pub returns-in-Turn : goal.returns-in-Turn
-returns-in-Turn g c = rw c.in-Turn.is (λ bytes acted here h. c.turn.ensures bytes acted h)
+pub returns-in-Turn-clause-acted : goal.returns-in-Turn-clause-acted
+returns-in-Turn-clause-acted g c = rw c.in-Turn.is (λ bytes acted here h. c.turn.ensures.acted bytes acted h)
 
-pub returns-in-Hear : goal.returns-in-Hear
-returns-in-Hear g c = rw c.in-Hear.is (λ bytes acted here h. c.hear.ensures bytes acted h)
+pub returns-in-Hear-clause-acted : goal.returns-in-Hear-clause-acted
+returns-in-Hear-clause-acted g c = rw c.in-Hear.is (λ bytes acted here h. c.hear.ensures.acted bytes acted h)
 
-pub returns-in-Text : goal.returns-in-Text
-returns-in-Text g c = λ bytes acted here h. c.give.ensures bytes acted h
+pub returns-in-Text-clause-acted : goal.returns-in-Text-clause-acted
+returns-in-Text-clause-acted g c = λ bytes acted here h. c.give.ensures.acted bytes acted h

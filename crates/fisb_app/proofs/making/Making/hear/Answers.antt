@@ -1,4 +1,4 @@
-use Rattle.std.proofs.Common.{◌≡◌, ◌≢◌, ◌+◌, ◌∷◌, None, Some, ap, sym, refl, subst, fold, length, arith, ◌∙◌}
+use Rattle.std.proofs.Common.{◌≡◌, ◌≢◌, ◌+◌, None, Some, ap, sym, refl, subst, fold, arith, ◌∙◌}
 use Rattle.std.specs.Option.{option_or}
 use Rattle.receiver_core.specs.Hearing.{IsHearFault, refusal_of_air}
 use Rattle.workload.specs.Hearings.{frame_with_changes as changed_frame}

@@ -1,4 +1,4 @@
-use Rattle.std.proofs.Common.{◌≡◌, ◌≤◌, ◌<◌, None, Some, sym, ap, subst, ◌∙◌, length, arith}
+use Rattle.std.proofs.Common.{◌≤◌, ◌<◌, None, Some, sym, ap, subst, length, arith}
 use Rattle.ground_core.specs.Told.{kept_told}
 use Rattle.workload.specs.declared.step.Step.TheVariants.{Turn}
 use Rattle.fisb_app.specs.declared.counts.Counts.{Counts}
