@@ -1,6 +1,7 @@
 use fisb_time::TimeForm;
 use life_table::{LifeTable, RowFault, TableFault};
 use std::alloc::{AllocError, Global};
+use std::process::Abort;
 use std::test::Fail;
 
 const METAR: &str = "type = \"METAR\"\nwords = 2\nlife = 7200\nform = 0\n";
@@ -46,29 +47,46 @@ fn lives_of_reports_end_within_a_day(rt: HostRuntime) -> Result<(), Fail> {
     Ok(())
 }
 
+/// The late time and the longest lives of the default table.
+fn check_default_products(rt: &impl Abort, table: &LifeTable) {
+    assert_eq!(rt; table.late(), 600);
+    assert_eq!(rt; table.longest(413), Some(86_400));
+    assert_eq!(rt; table.longest(63), Some(1_200));
+    assert_eq!(rt; table.longest(64), Some(2_700));
+    assert_eq!(rt; table.longest(65), None);
+}
+
+/// Its rows of reports.
+fn check_default_reports(rt: &impl Abort, table: &LifeTable) -> Result<(), Fail> {
+    let speci = table.text_row("SPECI").ok_or("no SPECI")?;
+    assert_eq!(rt; speci.kind, "METAR");
+    assert_eq!(rt; speci.words, 2);
+    assert_eq!(rt; speci.life, 7_200);
+    assert_eq!(rt; speci.form, TimeForm::Minute);
+    let pirep = table.text_row("PIREP").ok_or("no PIREP")?;
+    assert_eq!(rt; pirep.words, 3);
+    assert!(rt; table.text_row("NOTAM").is_none());
+    assert!(rt; table.text_row("").is_none());
+    Ok(())
+}
+
+/// Its rows of radar.
+fn check_default_radar(rt: &impl Abort, table: &LifeTable) -> Result<(), Fail> {
+    let composite = table.radar_row(64).ok_or("no radar")?;
+    assert_eq!(rt; composite.life, 2_700);
+    assert_eq!(rt; composite.form, TimeForm::Minute);
+    assert!(rt; table.radar_row(413).is_none());
+    Ok(())
+}
+
 #[test]
 fn default_table_and_its_copy_agree(rt: HostRuntime) -> Result<(), Fail> {
     let table = LifeTable::default_table(rt.alloc())?;
     let copy = table.copy(rt.alloc())?;
     for table in [&table, &copy] {
-        assert_eq!(rt; table.late(), 600);
-        assert_eq!(rt; table.longest(413), Some(86_400));
-        assert_eq!(rt; table.longest(63), Some(1_200));
-        assert_eq!(rt; table.longest(64), Some(2_700));
-        assert_eq!(rt; table.longest(65), None);
-        let speci = table.text_row("SPECI").ok_or("no SPECI")?;
-        assert_eq!(rt; speci.kind, "METAR");
-        assert_eq!(rt; speci.words, 2);
-        assert_eq!(rt; speci.life, 7_200);
-        assert_eq!(rt; speci.form, TimeForm::Minute);
-        let pirep = table.text_row("PIREP").ok_or("no PIREP")?;
-        assert_eq!(rt; pirep.words, 3);
-        assert!(rt; table.text_row("NOTAM").is_none());
-        assert!(rt; table.text_row("").is_none());
-        let composite = table.radar_row(64).ok_or("no radar")?;
-        assert_eq!(rt; composite.life, 2_700);
-        assert_eq!(rt; composite.form, TimeForm::Minute);
-        assert!(rt; table.radar_row(413).is_none());
+        check_default_products(&rt, table);
+        check_default_reports(&rt, table)?;
+        check_default_radar(&rt, table)?;
     }
     Ok(())
 }
@@ -135,10 +153,24 @@ fn odd_documents_are_tables_or_have_a_fault(rt: HostRuntime) {
     assert_eq!(rt; no_text.err(), not_toml);
 }
 
+/// A document of rows by these names: a product's number names a row of radar.
+fn mixed_document(alloc: Global, names: &[&str]) -> Result<String, AllocError> {
+    let mut text = String::from_str(alloc, "version = 1\nlate = 600\n")?;
+    for name in names {
+        let row = if name.starts_with("6") {
+            format!(in alloc; "[[radar]]\nproduct = {name}\nlife = 1\nform = 0\n")?
+        } else {
+            format!(in alloc; "[[text]]\ntype = \"{name}\"\nwords = 2\nlife = 1\nform = 0\n")?
+        };
+        text.push_str(row.as_str())?;
+    }
+    Ok(text)
+}
+
 #[test]
 fn mixed_rows_are_counted_within_their_key(rt: HostRuntime) -> Result<(), Fail> {
     let alloc = rt.alloc();
-    for (rows, wrong) in [
+    for (names, wrong) in [
         (["METAR", "63", "SPECI", "64"], None),
         (["63", "METAR", "64", "SPECI"], None),
         (["METAR", "63", "metar", "64"], bad_row(2, RowFault::Word)),
@@ -150,15 +182,7 @@ fn mixed_rows_are_counted_within_their_key(rt: HostRuntime) -> Result<(), Fail> 
         (["METAR", "63", "SPECI", "63"], bad_row(4, RowFault::Twice)),
         (["65", "metar", "65", "METAR"], bad_row(1, RowFault::Word)),
     ] {
-        let mut text = String::from_str(alloc, "version = 1\nlate = 600\n")?;
-        for name in rows {
-            let row = if name.starts_with("6") {
-                format!(in alloc; "[[radar]]\nproduct = {name}\nlife = 1\nform = 0\n")?
-            } else {
-                format!(in alloc; "[[text]]\ntype = \"{name}\"\nwords = 2\nlife = 1\nform = 0\n")?
-            };
-            text.push_str(row.as_str())?;
-        }
+        let text = mixed_document(alloc, &names)?;
         assert_eq!(rt; fault(alloc, text.as_str()), wrong, "{text}");
     }
     Ok(())
