@@ -3,7 +3,7 @@ use dlac_text::plain;
 use fisb_time::Moment;
 use life_table::LifeTable;
 use picture_core::{Entry, Shown};
-use receiver_core::{HearFault, Heard, Receiver, ShowFault, Unread, UnreadReason};
+use receiver_core::{HearFault, Heard, Receiver, ShowFault, UnreadReason};
 use std::alloc::Global;
 use std::test::Fail;
 use uplink_frame::read_header;
@@ -18,12 +18,6 @@ const SITE_3: &str = "000000000000a030";
 
 /// The header with application data that are not valid.
 const NOT_VALID: &str = "0000000000008000";
-
-/// A header with a valid position, in slot 5.
-const OTHER_SLOT: &str = "000000000001a530";
-
-/// A frame of type 2, and one of product 8.
-const OTHERS: &str = "0202aabbccdd0200002058d0";
 
 /// A frame with the report `METAR KSEA` of 22:13.
 pub(crate) const METAR_KSEA: &str = "0680067458d03455014a02d3141000";
@@ -107,7 +101,7 @@ pub(crate) fn hear_bytes(
     Ok(receiver.hear_payload(moment, &payload)?)
 }
 
-fn hear_digits(
+pub(crate) fn hear_digits(
     alloc: Global,
     receiver: &mut Receiver,
     seconds: u64,
@@ -302,37 +296,6 @@ fn nothing_is_heard_without_valid_application_data(rt: HostRuntime) -> Result<()
     Ok(())
 }
 
-/// Whether these parts are one of a frame of type 2 and one of product 8, of four bytes each.
-fn are_of_another_type_and_product(parts: &[Unread]) -> bool {
-    match parts {
-        [first, second] => {
-            first.reason == UnreadReason::Kind
-                && first.kind == 2
-                && first.product == 0
-                && first.length == 4
-                && second.reason == UnreadReason::Product
-                && second.kind == 0
-                && second.product == 8
-                && second.length == 4
-        }
-        _ => false,
-    }
-}
-
-/// Whether frames of another type and product, after a header of another slot, are passed on.
-fn are_others_passed_on(alloc: Global, receiver: &mut Receiver) -> Result<bool, Fail> {
-    let answer = hear_digits(alloc, receiver, NOW, OTHER_SLOT, OTHERS)?;
-    Ok(are_of_another_type_and_product(answer.unread.all()))
-}
-
-#[test]
-fn frames_of_other_types_and_products_are_passed_on(rt: HostRuntime) -> Result<(), Fail> {
-    let mut receiver = new_receiver(rt.alloc())?;
-    assert!(rt; are_others_passed_on(rt.alloc(), &mut receiver)?);
-    assert_eq!(rt; entries_at(&receiver, rt.alloc(), NOW)?, 0);
-    Ok(())
-}
-
 /// Whether an entry is this report of this version.
 pub(crate) fn is_report(
     alloc: Global,
@@ -479,45 +442,5 @@ fn a_frame_of_zeros_has_no_application_data(rt: HostRuntime) -> Result<(), Fail>
     let mut receiver = new_receiver(rt.alloc())?;
     let answer = receiver.hear(moment_of(NOW)?, &[0; 552]);
     assert!(rt; answer.err() == Some(HearFault::NoApplication));
-    Ok(())
-}
-
-/// Whether this part of a frame of another type, of two bytes, is passed on.
-fn is_of_type(part: &Unread, kind: u8) -> bool {
-    part.reason == UnreadReason::Kind && part.kind == kind && part.product == 0 && part.length == 2
-}
-
-/// Whether these are ten parts, of the types 1, 2 and so on.
-fn are_ten_types_in_order(parts: &[Unread]) -> bool {
-    let mut kind = 1u8;
-    for part in parts {
-        if !is_of_type(part, kind) {
-            return false;
-        }
-        kind = kind.wrapping_add(1);
-    }
-    parts.len() == 10
-}
-
-/// Ten frames of the types 1, 2 and so on, of two bytes each.
-fn ten_frames(alloc: Global) -> Result<Vec<u8>, Fail> {
-    let mut data = Vec::new(alloc);
-    for kind in 1..11 {
-        data.extend_from_slice(&[0x01, kind, 0x00, 0x00])?;
-    }
-    Ok(data)
-}
-
-/// Whether they are passed on in their order.
-fn are_ten_passed_on(receiver: &mut Receiver, frames: &[u8]) -> Result<bool, Fail> {
-    let answer = hear_bytes(receiver, NOW, frames)?;
-    Ok(answer.unread.len() == 10 && are_ten_types_in_order(answer.unread.all()))
-}
-
-#[test]
-fn ten_unread_frames_are_passed_on_in_their_order(rt: HostRuntime) -> Result<(), Fail> {
-    let mut receiver = new_receiver(rt.alloc())?;
-    let frames = ten_frames(rt.alloc())?;
-    assert!(rt; are_ten_passed_on(&mut receiver, frames.as_slice())?);
     Ok(())
 }
