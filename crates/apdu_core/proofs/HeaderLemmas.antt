@@ -13,20 +13,20 @@ use Rattle.apdu_core.proofs.FieldLemmas.{total_width, AreWithin, AreAt}
 abbrev pub fields_with : ℕ → Apdu → List Field
 fields_with fill a = header_fields a ++ record { width = fill_width a; number = fill } ∷ []
 
-whole_of : (product fill : ℕ) (form : TimeForm) (time : TimeFields) (s : Option Seg) (payload : List ℕ)
+spelled_whole : (product fill : ℕ) (form : TimeForm) (time : TimeFields) (s : Option Seg) (payload : List ℕ)
     → total_width (fields_with fill (record { product = product; form = form; time = time; segmentation = s; payload = payload })) ≡ 8 * header_length form (is_some s)
-whole_of product fill Minute time None payload = refl
-whole_of product fill Minute time (Some s) payload = refl
-whole_of product fill Second time None payload = refl
-whole_of product fill Second time (Some s) payload = refl
-whole_of product fill DayMinute time None payload = refl
-whole_of product fill DayMinute time (Some s) payload = refl
-whole_of product fill DaySecond time None payload = refl
-whole_of product fill DaySecond time (Some s) payload = refl
+spelled_whole product fill Minute time None payload = refl
+spelled_whole product fill Minute time (Some s) payload = refl
+spelled_whole product fill Second time None payload = refl
+spelled_whole product fill Second time (Some s) payload = refl
+spelled_whole product fill DayMinute time None payload = refl
+spelled_whole product fill DayMinute time (Some s) payload = refl
+spelled_whole product fill DaySecond time None payload = refl
+spelled_whole product fill DaySecond time (Some s) payload = refl
 
 -- a header with its fill has whole bytes
 pub whole : (fill : ℕ) (a : Apdu) → total_width (fields_with fill a) ≡ 8 * header_length a.form (is_some a.segmentation)
-whole fill a = whole_of a.product fill a.form a.time a.segmentation a.payload
+whole fill a = spelled_whole a.product fill a.form a.time a.segmentation a.payload
 
 same_time : (t : TimeFields) (month day hours minutes seconds : ℕ) → t.month ≡ month → t.day ≡ day → t.hours ≡ hours → t.minutes ≡ minutes → t.seconds ≡ seconds
     → t ≡ record { month = month; day = day; hours = hours; minutes = minutes; seconds = seconds }

@@ -117,7 +117,7 @@ segmentation_in form header = let place = 17 + time_width form in
 abbrev pub is_bad : Seg → Bool
 is_bad s = (s.count == 0) || (s.number == 0) || nat_lt s.count s.number
 
--- the APDU of a header of the length that its form asks for, and of the bytes behind it
+-- the APDU of a header of the length that its form asks for, and of the bytes after it
 abbrev pub apdu_of_header : TimeForm → Bool → List ℕ → List ℕ → Result Apdu ApduFault
 apdu_of_header form is_segmented header payload =
     if is_segmented && is_bad (segmentation_in form header) then Err BadSegment

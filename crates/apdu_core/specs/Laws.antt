@@ -2,7 +2,7 @@
 use Rattle.std.specs.Prelude.{◌≡◌, ℕ, ◌+◌, ◌≤◌, List, length, is_some, Bool, Ok}
 use Rattle.fisb_time.specs.declared.form.TimeForm.{TimeForm}
 use Rattle.fisb_time.specs.Moment.{IsMoment}
-use Rattle.fisb_time.specs.TimeFields.{shown}
+use Rattle.fisb_time.specs.TimeFields.{shown_fields}
 use Rattle.apdu_core.specs.Apdu.{Apdu, apdu_bytes, apdu_of, header_length}
 use Rattle.apdu_core.specs.Spelling.{AreBytes, FitsApdu, FitsTime, IsReadingOf}
 
@@ -22,4 +22,4 @@ SpellingIsReading = (body : List ℕ) → AreBytes body → IsReadingOf body (ap
 
 -- the fields of a moment fit in each form
 abbrev pub ShownFits : Type 0
-ShownFits = (form : TimeForm) (moment : ℕ) → IsMoment moment → FitsTime form (shown form moment)
+ShownFits = (form : TimeForm) (moment : ℕ) → IsMoment moment → FitsTime form (shown_fields form moment)

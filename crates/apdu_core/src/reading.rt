@@ -63,7 +63,7 @@ fn form_of(number: u16) -> TimeForm
     }
 }
 
-/// The APDU of a header whose flags are 0, and of the bytes behind it.
+/// The APDU of a header whose flags are 0, and of the bytes after it.
 fn apdu_of_header<'a>(
     form: TimeForm,
     is_segmented: bool,

@@ -24,6 +24,6 @@ pub struct Apdu<'a> {
     pub time: TimeFields,
     /// Which segment the payload is, where the header says so.
     pub seg: Option<Seg>,
-    /// The bytes behind the header.
+    /// The bytes after the header.
     pub payload: &'a [u8],
 }

@@ -53,7 +53,7 @@ fn form_number(form: TimeForm) -> u8
     }
 }
 
-/// Puts the fields of a time behind a number.
+/// Puts the fields of a time after a number.
 fn with_time(number: u128, form: TimeForm, time: &TimeFields) -> u128
     requires small { number < 2 ^ 17 }
     requires fits { FitsTime form time.now }
@@ -73,7 +73,7 @@ fn with_time(number: u128, form: TimeForm, time: &TimeFields) -> u128
     }
 }
 
-/// Puts the fields of a segment, where there is one, behind a number.
+/// Puts the fields of a segment, where there is one, after a number.
 fn with_segment(number: u128, seg: Option<Seg>) -> u128
     requires small { number < 2 ^ 43 }
     requires fits { FitsSegmentation seg }

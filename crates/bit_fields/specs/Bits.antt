@@ -15,7 +15,7 @@ pub record Field : Type 0 where
   pub width : ℕ
   pub number : ℕ
 
--- the fields side by side, as one number, behind the bits that stand already
+-- the fields side by side, as one number, after the bits that stand already
 abbrev pub as_number : ℕ → List Field → ℕ
 as_number bits [] = bits
 as_number bits (field ∷ more) = as_number (bits * 2 ^ field.width + field.number) more

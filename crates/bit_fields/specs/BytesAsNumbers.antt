@@ -8,7 +8,7 @@ use Rattle.bit_fields.specs.Bits.{AreBytes, number_of}
 abbrev pub IsByte : ℕ → Type 0
 IsByte byte = byte < 256
 
--- the number of some bytes behind a number
+-- the number of some bytes after a number
 abbrev pub behind : ℕ → List ℕ → ℕ
 behind start bytes = fold (λ number byte. 256 * number + byte) start bytes
 

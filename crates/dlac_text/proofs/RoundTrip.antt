@@ -5,7 +5,7 @@ use Rattle.std.proofs.lemmas.List.{length-map}
 use Rattle.std.proofs.lemmas.List.Elements.{All-from_recursion}
 use Rattle.std.specs.List.{AllByRecursion}
 use Rattle.dlac_text.specs.Alphabet.{is_in_alphabet, IsDlac, code_of, character_of}
-use Rattle.dlac_text.specs.SixBits.{packed, six_bit_groups}
+use Rattle.dlac_text.specs.SixBits.{packed_bytes, six_bit_groups}
 use Rattle.dlac_text.specs.Payload.{text_payload}
 use Rattle.dlac_text.specs.Reports.{reports_of, has_characters}
 use Rattle.dlac_text.proofs.Cuts.{IsDlac-tail}
@@ -27,7 +27,7 @@ fourth_back : (c d : ℕ) → d < 64 → (c % 4 * 64 + d) % 64 ≡ d
 fourth_back c d h = omega arith
 
 -- the groups of packed codes are the codes, and a code 0 where three codes fill three bytes
-pub groups_of_packed : (codes : List ℕ) → AllByRecursion IsSixBits codes → (six_bit_groups (packed codes) ≡ codes) ⊎ (six_bit_groups (packed codes) ≡ codes ++ 0 ∷ [])
+pub groups_of_packed : (codes : List ℕ) → AllByRecursion IsSixBits codes → (six_bit_groups (packed_bytes codes) ≡ codes) ⊎ (six_bit_groups (packed_bytes codes) ≡ codes ++ 0 ∷ [])
 groups_of_packed [] h = inl refl
 groups_of_packed (a ∷ []) h = let first : a * 4 / 4 ≡ a = omega arith in inl (ap (λ x. x ∷ []) first)
 groups_of_packed (a ∷ b ∷ []) h =
@@ -44,7 +44,7 @@ groups_of_packed (a ∷ b ∷ c ∷ d ∷ more) h =
     let b_fits : b < 64 = h.1.0 in
     let c_fits : c < 64 = h.1.1.0 in
     let d_fits : d < 64 = h.1.1.1.0 in
-    let front : six_bit_groups (packed (a ∷ b ∷ c ∷ d ∷ more)) ≡ a ∷ b ∷ c ∷ d ∷ six_bit_groups (packed more) =
+    let front : six_bit_groups (packed_bytes (a ∷ b ∷ c ∷ d ∷ more)) ≡ a ∷ b ∷ c ∷ d ∷ six_bit_groups (packed_bytes more) =
     rw (first_back a b b_fits, second_back a b c b_fits c_fits, third_back b c d c_fits d_fits, fourth_back c d d_fits) refl in
     elim (groups_of_packed more h.1.1.1.1) [ inl e ↦ inl (front ∙ ap (λ ys. a ∷ b ∷ c ∷ d ∷ ys) e) | inr e ↦ inr (front ∙ ap (λ ys. a ∷ b ∷ c ∷ d ∷ ys) e) ]
 
@@ -96,7 +96,7 @@ pub reports_of-text_payload : (text : List ℕ) → IsDlac text → reports_of (
 unfolding reports_of text_payload
 reports_of-text_payload text h =
     let codes = map code_of text ++ 0 ∷ [] in
-    sym (from_start (six_bit_groups (packed codes))) ∙ alone text (six_bit_groups (packed codes)) h (groups_of_packed codes (codes_fit text h))
+    sym (from_start (six_bit_groups (packed_bytes codes))) ∙ alone text (six_bit_groups (packed_bytes codes)) h (groups_of_packed codes (codes_fit text h))
 
 pub filter-some : (text : List ℕ) → 0 < length text → filter has_characters (text ∷ []) ≡ text ∷ []
 filter-some [] h = absurd (omega arith)
@@ -104,25 +104,25 @@ filter-some (c ∷ text) h =
     let some : eqb (suc (length text)) 0 ≡ false = grind (arith, nat_tests) in
     rw some refl
 
-pub length-packed : (codes : List ℕ) → length (packed codes) ≡ (6 * length codes + 7) / 8
-length-packed [] = refl
-length-packed (a ∷ []) = refl
-length-packed (a ∷ b ∷ []) = refl
-length-packed (a ∷ b ∷ c ∷ []) = refl
-length-packed (a ∷ b ∷ c ∷ d ∷ more) =
-    let rest = length-packed more in
+pub length-packed_bytes : (codes : List ℕ) → length (packed_bytes codes) ≡ (6 * length codes + 7) / 8
+length-packed_bytes [] = refl
+length-packed_bytes (a ∷ []) = refl
+length-packed_bytes (a ∷ b ∷ []) = refl
+length-packed_bytes (a ∷ b ∷ c ∷ []) = refl
+length-packed_bytes (a ∷ b ∷ c ∷ d ∷ more) =
+    let rest = length-packed_bytes more in
     omega arith
 
 pub length-text_payload : (text : List ℕ) → length (text_payload text) ≡ (6 * (length text + 1) + 7) / 8
 unfolding text_payload
 length-text_payload text =
     let codes : length (map code_of text ++ 0 ∷ []) ≡ length text + 1 = simp (length-append, length-map) in
-    length-packed (map code_of text ++ 0 ∷ []) ∙ ap (λ n. (6 * n + 7) / 8) codes
+    length-packed_bytes (map code_of text ++ 0 ∷ []) ∙ ap (λ n. (6 * n + 7) / 8) codes
 
 abbrev pub IsByte : ℕ → Type 0
 IsByte byte = byte < 256
 
-pub packed_fits : (codes : List ℕ) → AllByRecursion IsSixBits codes → AllByRecursion IsByte (packed codes)
+pub packed_fits : (codes : List ℕ) → AllByRecursion IsSixBits codes → AllByRecursion IsByte (packed_bytes codes)
 packed_fits [] h = tt
 packed_fits (a ∷ []) h =
     let a_fits : a < 64 = h.0 in
@@ -147,4 +147,4 @@ pub text_payload-bytes : (text : List ℕ) → IsDlac text → All IsByte (text_
 unfolding text_payload
 text_payload-bytes text h =
     let codes = map code_of text ++ 0 ∷ [] in
-    All-from_recursion IsByte (packed codes) (packed_fits codes (codes_fit text h))
+    All-from_recursion IsByte (packed_bytes codes) (packed_fits codes (codes_fit text h))

@@ -7,9 +7,9 @@ use Rattle.std.proofs.lemmas.List.Elements.{recursion_from_All, All-from_recursi
 use Rattle.std.specs.List.{AllByRecursion}
 use Rattle.bit_fields.specs.Bits.{number_of, field_at}
 use Rattle.bit_fields.specs.BytesAsNumbers.{behind, behind_is, number_of-fits}
-use Rattle.dlac_text.specs.SixBits.{packed, six_bit_groups}
+use Rattle.dlac_text.specs.SixBits.{packed_bytes, six_bit_groups}
 use Rattle.dlac_text.specs.SixBitFields.{AreFields, AreRead, AreWritten}
-use Rattle.dlac_text.proofs.RoundTrip.{IsByte, groups_of_packed, length-packed, packed_fits}
+use Rattle.dlac_text.proofs.RoundTrip.{IsByte, groups_of_packed, length-packed_bytes, packed_fits}
 use Rattle.dlac_text.proofs.SixBitsLemmas.{IsSixBits}
 
 fits : (xs : List ℕ) → AllByRecursion IsByte xs → number_of xs < 2 ^ (8 * length xs)
@@ -130,27 +130,27 @@ first_codes codes groups (inr e) k low =
     (rw e (omega arith), sym (ap (λ (xs : List ℕ). get_or xs k 0) e ∙ get_or_append_left codes (0 ∷ []) 0 k low))
 
 packed_fields :
-    (codes : List ℕ) → AllByRecursion IsSixBits codes → AreFields (packed codes) codes
+    (codes : List ℕ) → AllByRecursion IsSixBits codes → AreFields (packed_bytes codes) codes
 packed_fields codes h k low =
-    let first = first_codes codes (six_bit_groups (packed codes)) (groups_of_packed codes h) k low in
-    first.1 ∙ fields_are (packed codes) (packed_fits codes h) k first.0
+    let first = first_codes codes (six_bit_groups (packed_bytes codes)) (groups_of_packed codes h) k low in
+    first.1 ∙ fields_are (packed_bytes codes) (packed_fits codes h) k first.0
 
 -- zeros fill the last byte
 filled :
     (codes : List ℕ) → AllByRecursion IsSixBits codes →
-    number_of (packed codes) % 2 ^ (8 * length (packed codes) - 6 * length codes) ≡ 0
+    number_of (packed_bytes codes) % 2 ^ (8 * length (packed_bytes codes) - 6 * length codes) ≡ 0
 filled [] h = refl
 filled (a ∷ []) h = omega arith
 filled (a ∷ b ∷ []) h = omega arith
 filled (a ∷ b ∷ c ∷ []) h = omega arith
 filled (a ∷ b ∷ c ∷ d ∷ more) h =
-    let bytes = packed more in
+    let bytes = packed_bytes more in
     let n = three (a * 4 + b / 16) (b % 16 * 16 + c / 4) (c % 4 * 64 + d) in
-    let size = length-packed more in
+    let size = length-packed_bytes more in
     let e = 8 * length bytes - 6 * length more in
-    let place : 8 * length (packed (a ∷ b ∷ c ∷ d ∷ more)) - 6 * length (a ∷ b ∷ c ∷ d ∷ more) ≡ e = omega arith in
+    let place : 8 * length (packed_bytes (a ∷ b ∷ c ∷ d ∷ more)) - 6 * length (a ∷ b ∷ c ∷ d ∷ more) ≡ e = omega arith in
     let whole : 8 * length bytes ≡ 6 * length more + e = omega arith in
-    ap (λ (s : ℕ). number_of (packed (a ∷ b ∷ c ∷ d ∷ more)) % 2 ^ s) place
+    ap (λ (s : ℕ). number_of (packed_bytes (a ∷ b ∷ c ∷ d ∷ more)) % 2 ^ s) place
     ∙ ap (λ (x : ℕ). x % 2 ^ e) (number_of-three (a * 4 + b / 16) (b % 16 * 16 + c / 4) (c % 4 * 64 + d) bytes)
     ∙ ap (λ (s : ℕ). (n * 2 ^ s + number_of bytes) % 2 ^ e) whole
     ∙ rest_in_back n (6 * length more) e (number_of bytes)
@@ -159,12 +159,12 @@ filled (a ∷ b ∷ c ∷ d ∷ more) h =
 pub groups_are_read : (bytes : List ℕ) → All IsByte bytes → AreRead bytes (six_bit_groups bytes)
 groups_are_read bytes h = record { fields = fields_are bytes (recursion_from_All IsByte bytes h); size = size_is bytes }
 
-pub packed_are_written : (codes : List ℕ) → All IsSixBits codes → AreWritten codes (packed codes)
+pub packed_are_written : (codes : List ℕ) → All IsSixBits codes → AreWritten codes (packed_bytes codes)
 packed_are_written codes h =
     let each = recursion_from_All IsSixBits codes h in
     record {
-      are_bytes = All-from_recursion IsByte (packed codes) (packed_fits codes each);
+      are_bytes = All-from_recursion IsByte (packed_bytes codes) (packed_fits codes each);
       fields = packed_fields codes each;
-      size = length-packed codes;
+      size = length-packed_bytes codes;
       filled = filled codes each;
     }

@@ -17,20 +17,20 @@ plain_text [] = []
 plain_text (character ∷ more) = plain_character character ++ plain_text more
 
 -- a text with a front put before it, where there is one
-abbrev pub prefixed : List ℕ → Option (List ℕ) → Option (List ℕ)
-prefixed front None = None
-prefixed front (Some text) = Some (front ++ text)
+abbrev pub prefixed_text : List ℕ → Option (List ℕ) → Option (List ℕ)
+prefixed_text front None = None
+prefixed_text front (Some text) = Some (front ++ text)
 
--- what a character behind a backslash stands for, before the rest
-abbrev pub unescaped : ℕ → Option (List ℕ) → Option (List ℕ)
-unescaped character rest =
-    if character == 110 then prefixed (10 ∷ []) rest
-    else if character == 122 then prefixed (26 ∷ []) rest else None
+-- what a character after a backslash stands for, before the rest
+abbrev pub unescaped_text : ℕ → Option (List ℕ) → Option (List ℕ)
+unescaped_text character rest =
+    if character == 110 then prefixed_text (10 ∷ []) rest
+    else if character == 122 then prefixed_text (26 ∷ []) rest else None
 
 -- the text that a plain text shows; None where a backslash is not followed by n or z
-abbrev pub unplained : List ℕ → Option (List ℕ)
-unplained [] = Some []
-unplained (character ∷ []) = if character == 92 then None else Some (character ∷ [])
-unplained (character ∷ next ∷ more) =
-    if character == 92 then unescaped next (unplained more)
-    else prefixed (character ∷ []) (unplained (next ∷ more))
+abbrev pub text_of_plain : List ℕ → Option (List ℕ)
+text_of_plain [] = Some []
+text_of_plain (character ∷ []) = if character == 92 then None else Some (character ∷ [])
+text_of_plain (character ∷ next ∷ more) =
+    if character == 92 then unescaped_text next (text_of_plain more)
+    else prefixed_text (character ∷ []) (text_of_plain (next ∷ more))

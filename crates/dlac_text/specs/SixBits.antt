@@ -3,13 +3,13 @@
 use Rattle.std.specs.Prelude.{ℕ, ◌+◌, ◌*◌, ◌/◌, ◌%◌, List, [], ◌∷◌}
 
 -- the bytes of some codes; zero bits fill the last byte
-abbrev pub packed : List ℕ → List ℕ
-packed [] = []
-packed (a ∷ []) = (a * 4) ∷ []
-packed (a ∷ b ∷ []) = (a * 4 + b / 16) ∷ (b % 16 * 16) ∷ []
-packed (a ∷ b ∷ c ∷ []) = (a * 4 + b / 16) ∷ (b % 16 * 16 + c / 4) ∷ (c % 4 * 64) ∷ []
-packed (a ∷ b ∷ c ∷ d ∷ more) =
-    (a * 4 + b / 16) ∷ (b % 16 * 16 + c / 4) ∷ (c % 4 * 64 + d) ∷ packed more
+abbrev pub packed_bytes : List ℕ → List ℕ
+packed_bytes [] = []
+packed_bytes (a ∷ []) = (a * 4) ∷ []
+packed_bytes (a ∷ b ∷ []) = (a * 4 + b / 16) ∷ (b % 16 * 16) ∷ []
+packed_bytes (a ∷ b ∷ c ∷ []) = (a * 4 + b / 16) ∷ (b % 16 * 16 + c / 4) ∷ (c % 4 * 64) ∷ []
+packed_bytes (a ∷ b ∷ c ∷ d ∷ more) =
+    (a * 4 + b / 16) ∷ (b % 16 * 16 + c / 4) ∷ (c % 4 * 64 + d) ∷ packed_bytes more
 
 -- the six-bit groups of some bytes; a rest of two or four bits is left out
 abbrev pub six_bit_groups : List ℕ → List ℕ

@@ -11,7 +11,7 @@ const MOST_FIRST_ROOM: usize = 64;
 
 /// The reports of a payload, in their order: the texts between the codes that end a report, the empty ones left out.
 ///
-/// Any bytes are read: bits behind the last whole six, and a TAB that is the last code, stand for nothing.
+/// Any bytes are read: bits after the last whole six, and a TAB that is the last code, stand for nothing.
 ///
 /// # Errors
 ///

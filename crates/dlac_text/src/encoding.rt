@@ -4,7 +4,7 @@ ghost use Rattle.std.specs.Prelude.{Some, map, [], ◌∷◌, ◌++◌};
 ghost use Rattle.std.specs.Str.{chars};
 ghost use Rattle.dlac_text.specs.Alphabet.{IsDlac, code_of};
 ghost use Rattle.dlac_text.specs.Payload.{text_payload};
-ghost use Rattle.dlac_text.specs.SixBits.{packed};
+ghost use Rattle.dlac_text.specs.SixBits.{packed_bytes};
 ghost use Rattle.dlac_text.specs.Refusal.{first_bad, longest_text, IsSendable, text_refusal};
 ghost use Rattle.dlac_text.specs.Refusal.{told_of_text};
 
@@ -63,7 +63,7 @@ fn first_bad(text: &str) -> Option<usize>
         .position(|character| !is_in_alphabet(character))
 }
 
-/// The bytes of the codes of some characters of the alphabet and the code 0 behind them.
+/// The bytes of the codes of some characters of the alphabet and the code 0 after them.
 fn payload_bytes(alloc: Global, characters: &[u8]) -> Result<Vec<u8>, AllocError>
     requires { IsDlac characters.now }
     ensures { IfOk result (λ bytes. bytes.items ≡ text_payload characters.now) }
@@ -84,12 +84,12 @@ fn payload_bytes(alloc: Global, characters: &[u8]) -> Result<Vec<u8>, AllocError
     Ok(bytes)
 }
 
-/// Puts the bytes of at most three characters and of the code 0 behind them at the end.
+/// Puts the bytes of at most three characters and of the code 0 after them at the end.
 fn push_last_group(bytes: &mut Vec<u8>, characters: &[u8]) -> Result<(), AllocError>
     requires alphabet { IsDlac characters.now }
     requires few { length characters.now < 4 }
     ensures { IfOk result
-        (λ _. bytes.new.items ≡ bytes.old.items ++ packed (map code_of characters.now ++ 0 ∷ [])) }
+        (λ _. bytes.new.items ≡ bytes.old.items ++ packed_bytes (map code_of characters.now ++ 0 ∷ [])) }
 {
     match characters {
         [first, second, third] => {

@@ -5,10 +5,10 @@ ghost use Rattle.std.specs.Str.{chars, IsUtf8};
 ghost use Rattle.dlac_text.specs.Alphabet.{IsDlac};
 ghost use Rattle.dlac_text.specs.Payload.{text_payload};
 ghost use Rattle.dlac_text.specs.Pieces.{IsCutInOneWay};
-ghost use Rattle.dlac_text.specs.Plain.{plain_text, unplained};
+ghost use Rattle.dlac_text.specs.Plain.{plain_text, text_of_plain};
 ghost use Rattle.dlac_text.specs.Refusal.{IsSendable, text_refusal};
 ghost use Rattle.bit_fields.specs.Bits.{AreBytes};
-ghost use Rattle.dlac_text.specs.SixBits.{packed, six_bit_groups};
+ghost use Rattle.dlac_text.specs.SixBits.{packed_bytes, six_bit_groups};
 ghost use Rattle.dlac_text.specs.SixBitFields.{AreRead, AreWritten};
 ghost use Rattle.dlac_text.specs.Reports.{reports_of, HasReportsOfItsPieces};
 
@@ -24,7 +24,7 @@ pub fn codes_are_pieces()
 pub fn codes_are_fields()
     ensures read { (bytes : List ℕ) → AreBytes bytes → AreRead bytes (six_bit_groups bytes) }
     ensures written { (codes : List ℕ) → All (λ code. code < 64) codes →
-        AreWritten codes (packed codes) }
+        AreWritten codes (packed_bytes codes) }
 {}
 
 /// Reading undoes writing: the reports of the payload of a text are that text alone.
@@ -42,12 +42,12 @@ pub fn payload_size()
 
 /// Reading a plain text undoes showing a report as one.
 pub fn plain_text_reads_back()
-    ensures { (text : List ℕ) → IsDlac text → unplained (plain_text text) ≡ Some text }
+    ensures { (text : List ℕ) → IsDlac text → text_of_plain (plain_text text) ≡ Some text }
 {}
 
 /// What a plain text shows is UTF-8, as the plain text is.
 pub fn shown_texts()
-    ensures { (text shown : List ℕ) → IsUtf8 text → unplained text ≡ Some shown → IsUtf8 shown }
+    ensures { (text shown : List ℕ) → IsUtf8 text → text_of_plain text ≡ Some shown → IsUtf8 shown }
 {}
 
 /// A text that is not refused can be sent.

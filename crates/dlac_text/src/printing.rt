@@ -3,7 +3,7 @@ ghost use Rattle.std.specs.Prelude.{◌≡◌, ◌<◌, [], ◌∷◌, ◌++◌,
 ghost use Rattle.std.specs.Prelude.{None, option_map};
 ghost use Rattle.std.specs.String.{string_bytes};
 ghost use Rattle.std.specs.List.{list_all};
-ghost use Rattle.dlac_text.specs.Plain.{is_itself, plain_character, plain_text, unplained, prefixed};
+ghost use Rattle.dlac_text.specs.Plain.{is_itself, plain_character, plain_text, text_of_plain, prefixed_text};
 
 use crate::report_text::Report;
 use std::alloc::{AllocError, Global};
@@ -54,13 +54,13 @@ fn push_plain(text: &mut String, character: u8) -> Result<(), AllocError>
 
 /// The text that a plain text shows, or `None` exactly where a backslash isn't followed by `n` or `z`.
 pub fn unplain(alloc: Global, text: &str) -> Result<Option<String>, AllocError>
-    ensures { IfOk result (λ shown. option_map string_bytes shown ≡ unplained text.now) }
+    ensures { IfOk result (λ shown. option_map string_bytes shown ≡ text_of_plain text.now) }
 {
     let mut shown = String::new(alloc);
     let mut rest = text;
     while let Some((before, after)) = rest.split_once('\\') {
         shown.push_str(before)?;
-        let Some((character, more)) = unescaped(after) else {
+        let Some((character, more)) = read_escape(after) else {
             return Ok(None);
         };
         shown.push(character)?;
@@ -70,11 +70,11 @@ pub fn unplain(alloc: Global, text: &str) -> Result<Option<String>, AllocError>
     Ok(Some(shown))
 }
 
-/// What the text behind a backslash begins with, and what follows that.
-fn unescaped(after: &str) -> Option<(char, &str)>
+/// What the text after a backslash begins with, and what follows that.
+fn read_escape(after: &str) -> Option<(char, &str)>
     ensures shown { MatchOption result
-        (unplained (92 ∷ after.now) ≡ None)
-        (λ x. unplained (92 ∷ after.now) ≡ prefixed (x.0 ∷ []) (unplained x.1.now)) }
+        (text_of_plain (92 ∷ after.now) ≡ None)
+        (λ x. text_of_plain (92 ∷ after.now) ≡ prefixed_text (x.0 ∷ []) (text_of_plain x.1.now)) }
     ensures ascii { IfSome result (λ x. x.0 < 128) }
     ensures shorter { IfSome result (λ x. length x.1.now < length after.now) }
 {

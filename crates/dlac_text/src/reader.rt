@@ -139,7 +139,7 @@ impl Reader {
         Ok(())
     }
 
-    /// Puts the text behind the reports, unless it is empty, and begins an empty one.
+    /// Puts the text after the reports, unless it is empty, and begins an empty one.
     fn end_report(&mut self) -> Result<(), AllocError>
         ensures { OnOk result (self.new ≡ record self.old {
           reports = self.old.reports ++ filter has_characters (self.old.text ∷ []);

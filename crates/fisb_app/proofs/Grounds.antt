@@ -1,6 +1,7 @@
 -- The grounds of several stations: what an event of one leaves of the others, and what naming a station leaves of all.
 use Rattle.std.proofs.Common.{◌≡◌, ℕ, ◌+◌, ◌<◌, ◌≤◌, ◌||◌, ◌&&◌, ◌==◌, nat_lt, nat_le, ◌⊎◌, Bool, true, false, cond, if◌then◌else◌, List, [], ◌∷◌, length, Option, Some, None, Result, Ok, Err, OnOk, IfErr, refl, sym, ap, subst, ◌∙◌, arith, inl, inr}
 use Rattle.std.specs.Bool.{beq}
+use Rattle.std.specs.Cmp.{tied_then}
 use Rattle.std.specs.List.{list_any}
 use Rattle.std.specs.Ordering.{nat_cmp, bool_cmp, ordering_then, is_eq}
 use Rattle.std.specs.declared.cmp.Ordering.{Ordering}
@@ -12,6 +13,7 @@ use Rattle.list_members.specs.Tests.{tied_numbers}
 use Rattle.uplink_frame.specs.declared.station.StationId.{StationId}
 use Rattle.uplink_frame.specs.contracts.station.StationIdOrd.TheImpl as station_order
 use Rattle.uplink_frame.specs.Station.{no_station, same_flag, same_station}
+use Rattle.uplink_frame.specs.Ties.{tied_flags}
 use Rattle.uplink_frame.specs.Laws.{StationsAreTold}
 use Rattle.life_table.specs.LifeTable.{LifeTable}
 use Rattle.radar_core.specs.declared.key.BlockKey.{BlockKey}
@@ -30,17 +32,6 @@ use Rattle.fisb_app.specs.Reading.{station_refusal}
 use Rattle.fisb_app.specs.Stands.{Sends, HasTried, Holds, IsGroundOf, IsTakenFor, TellsRefusal, ground_at}
 
 -- stations are told apart by the order of the map
-then_equal : (a b : Ordering) → is_eq (ordering_then a b) ≡ (is_eq a && is_eq b)
-then_equal Less b = refl
-then_equal Equal b = refl
-then_equal Greater b = refl
-
-flag_tied : (a b : Bool) → is_eq (bool_cmp a b) ≡ same_flag a b
-flag_tied true true = refl
-flag_tied true false = refl
-flag_tied false true = refl
-flag_tied false false = refl
-
 flag_equal : (a b : Bool) → beq a b ≡ same_flag a b
 flag_equal true true = refl
 flag_equal true false = refl
@@ -54,12 +45,12 @@ regrouped false q r s = refl
 
 pub order-same : (a b : StationId) → is_at (station_order.ghosts.cmp a) b ≡ same_station a b
 order-same a b =
-    then_equal (nat_cmp a.lat b.lat) _
-    ∙ ap (λ x. is_eq (nat_cmp a.lat b.lat) && x) (then_equal (nat_cmp a.lon b.lon) _)
-    ∙ ap (λ x. is_eq (nat_cmp a.lat b.lat) && (is_eq (nat_cmp a.lon b.lon) && x)) (then_equal (bool_cmp a.position_valid b.position_valid) _)
+    sym (tied_then (nat_cmp a.lat b.lat) _)
+    ∙ ap (λ x. is_eq (nat_cmp a.lat b.lat) && x) (sym (tied_then (nat_cmp a.lon b.lon) _))
+    ∙ ap (λ x. is_eq (nat_cmp a.lat b.lat) && (is_eq (nat_cmp a.lon b.lon) && x)) (sym (tied_then (bool_cmp a.position_valid b.position_valid) _))
     ∙ ap (λ x. x && (is_eq (nat_cmp a.lon b.lon) && (is_eq (bool_cmp a.position_valid b.position_valid) && is_eq (nat_cmp a.site b.site)))) (sym (tied_numbers a.lat b.lat))
     ∙ ap (λ x. (a.lat == b.lat) && (x && (is_eq (bool_cmp a.position_valid b.position_valid) && is_eq (nat_cmp a.site b.site)))) (sym (tied_numbers a.lon b.lon))
-    ∙ ap (λ x. (a.lat == b.lat) && ((a.lon == b.lon) && (x && is_eq (nat_cmp a.site b.site)))) (flag_tied a.position_valid b.position_valid)
+    ∙ ap (λ x. (a.lat == b.lat) && ((a.lon == b.lon) && (x && is_eq (nat_cmp a.site b.site)))) (sym (tied_flags a.position_valid b.position_valid))
     ∙ ap (λ x. (a.lat == b.lat) && ((a.lon == b.lon) && (same_flag a.position_valid b.position_valid && x))) (sym (tied_numbers a.site b.site))
     ∙ regrouped (a.lat == b.lat) (a.lon == b.lon) (same_flag a.position_valid b.position_valid) (a.site == b.site)
 
@@ -67,9 +58,6 @@ pub equal-same : (a b : StationId) → ((a.lat == b.lat) && ((a.lon == b.lon) &&
 equal-same a b =
     ap (λ x. (a.lat == b.lat) && ((a.lon == b.lon) && (x && (a.site == b.site)))) (flag_equal a.position_valid b.position_valid)
     ∙ regrouped (a.lat == b.lat) (a.lon == b.lon) (same_flag a.position_valid b.position_valid) (a.site == b.site)
-
-pub same-itself : StationsAreTold → (a : StationId) → same_station a a ≡ true
-same-itself told a = (told a a).1 refl
 
 pub same-back : StationsAreTold → (a b : StationId) → same_station a b ≡ false → same_station b a ≡ false
 same-back told a b other = elim (cases_Bool (same_station b a)) [
@@ -82,7 +70,7 @@ pub named-among : StationsAreTold → (acted : List Line) → is_among (station_
 named-among told [] = refl
 named-among told (station named ∷ past) = elim (cases_Bool (is_among named (stations past))) [
   | inl there ↦ rw there there
-  | inr new ↦ rw (new, same-itself told named) refl
+  | inr new ↦ rw (new, (told named named).1 refl) refl
 ]
 named-among told (empty ∷ past) = named-among told past
 named-among told (text moment version chars ∷ past) = named-among told past
@@ -215,7 +203,7 @@ changed-holds told {G = G} sends bytes acted named old taken new ground other h 
       ground = subst (λ x. sends x named (history_of named (broadcast acted)) new.ground) (sym table)
           (subst (λ x. sends old.table named (history_of named (broadcast acted)) x) (sym is) t.stands);
       apart = at named ∙ ap (λ b. if b then Some old.ground else ground_at taken.others named) old_is ∙ t.rest named
-          ∙ ap (λ b. if b then None else ground_at old.others named) (same-itself told named);
+          ∙ ap (λ b. if b then None else ground_at old.others named) ((told named named).1 refl);
       others = λ p apart.
           subst (λ x. IsGroundOf sends x (station named ∷ acted) p (ground_at new.others p)) (sym table)
           (subst (IsGroundOf sends old.table (station named ∷ acted) p) (sym (at p)) (either p apart (cases_Bool (same_station old.station p))));

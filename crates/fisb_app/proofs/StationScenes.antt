@@ -10,59 +10,59 @@ use Rattle.fisb_app.specs.declared.party.Party.TheVariants.{Link}
 use Rattle.fisb_app.specs.Past.{at_station, broadcast, events, stations}
 use Rattle.fisb_app.specs.Reading.{refusal_of, station_refusal}
 
-abbrev numbered : ℕ → StationId
-numbered site = record { lat = 1; lon = 1; position_valid = true; site = site }
+abbrev station_at : ℕ → StationId
+station_at site = record { lat = 1; lon = 1; position_valid = true; site = site }
 
 -- two stations turn, and the first one is named again
-abbrev acted : List Line
-acted = station (numbered 1) ∷ turn 1700000001 0 ∷ station (numbered 2) ∷ turn 1700000101 0 ∷ station (numbered 1) ∷ []
+abbrev own_lines : List Line
+own_lines = station (station_at 1) ∷ turn 1700000001 0 ∷ station (station_at 2) ∷ turn 1700000101 0 ∷ station (station_at 1) ∷ []
 
-pub each-event : broadcast acted ≡ at_station (numbered 2) (fill 1700000001 0) ∷ at_station (numbered 1) (fill 1700000101 0) ∷ []
+pub each-event : broadcast own_lines ≡ at_station (station_at 2) (fill 1700000001 0) ∷ at_station (station_at 1) (fill 1700000101 0) ∷ []
 each-event = refl
 
-pub own-events : events acted ≡ fill 1700000101 0 ∷ []
+pub own-events : events own_lines ≡ fill 1700000101 0 ∷ []
 own-events = refl
 
-pub three-stations : stations acted ≡ numbered 2 ∷ numbered 1 ∷ no_station ∷ []
+pub three-stations : stations own_lines ≡ station_at 2 ∷ station_at 1 ∷ no_station ∷ []
 three-stations = refl
 
 -- a moment falls from one station to another, and at neither
-pub falls-between : refusal_of Link default_table (turn 1700000101 0 ∷ station (numbered 1) ∷ station (numbered 2) ∷ []) (turn 1700000102 0) ≡ None
+pub falls-between : refusal_of Link default_table (turn 1700000101 0 ∷ station (station_at 1) ∷ station (station_at 2) ∷ []) (turn 1700000102 0) ≡ None
 unfolding default_table
 falls-between = refl
 
-pub falls-from_one : refusal_of Link default_table (station (numbered 2) ∷ turn 1700000101 0 ∷ station (numbered 1) ∷ []) (turn 1700000001 0) ≡ None
+pub falls-from_one : refusal_of Link default_table (station (station_at 2) ∷ turn 1700000101 0 ∷ station (station_at 1) ∷ []) (turn 1700000001 0) ≡ None
 unfolding default_table
 falls-from_one = refl
 
-pub not-at_first : refusal_of Link default_table acted (turn 1700000100 0) ≡ Some (Clock 1700000101)
+pub not-at_first : refusal_of Link default_table own_lines (turn 1700000100 0) ≡ Some (Clock 1700000101)
 unfolding default_table
 not-at_first = refl
 
 -- a picture and a turn have clocks of their own
-pub after-picture : refusal_of Link default_table (show 1700000200 ∷ acted) (turn 1700000101 0) ≡ None
+pub after-picture : refusal_of Link default_table (show 1700000200 ∷ own_lines) (turn 1700000101 0) ≡ None
 unfolding default_table
 after-picture = refl
 
-pub not-before_picture : refusal_of Link default_table (show 1700000200 ∷ acted) (show 1700000199) ≡ Some (Clock 1700000200)
+pub not-before_picture : refusal_of Link default_table (show 1700000200 ∷ own_lines) (show 1700000199) ≡ Some (Clock 1700000200)
 unfolding default_table
 not-before_picture = refl
 
 -- a frame is heard from its moment on, to ten minutes later
-pub heard-early : refusal_of Link default_table acted (hear 1700000100 0 []) ≡ Some Early
+pub heard-early : refusal_of Link default_table own_lines (hear 1700000100 0 []) ≡ Some Early
 unfolding default_table
 heard-early = refl
 
-pub heard-late : refusal_of Link default_table acted (hear 1700000702 0 []) ≡ Some Late
+pub heard-late : refusal_of Link default_table own_lines (hear 1700000702 0 []) ≡ Some Late
 unfolding default_table
 heard-late = refl
 
 -- sixteen stations are named
 abbrev sixteen : List StationId
-sixteen = map numbered (0 ∷ 1 ∷ 2 ∷ 3 ∷ 4 ∷ 5 ∷ 6 ∷ 7 ∷ 8 ∷ 9 ∷ 10 ∷ 11 ∷ 12 ∷ 13 ∷ 14 ∷ 15 ∷ [])
+sixteen = map station_at (0 ∷ 1 ∷ 2 ∷ 3 ∷ 4 ∷ 5 ∷ 6 ∷ 7 ∷ 8 ∷ 9 ∷ 10 ∷ 11 ∷ 12 ∷ 13 ∷ 14 ∷ 15 ∷ [])
 
-pub named-again : station_refusal (stations (map station sixteen)) (numbered 7) ≡ None
+pub named-again : station_refusal (stations (map station sixteen)) (station_at 7) ≡ None
 named-again = refl
 
-pub one-more : station_refusal (stations (map station sixteen)) (numbered 16) ≡ Some Station
+pub one-more : station_refusal (stations (map station sixteen)) (station_at 16) ≡ Some Station
 one-more = refl

@@ -3,8 +3,9 @@ use Rattle.std.proofs.Common.{◌≡◌, ◌≢◌, ℕ, zero, suc, ◌+◌, ◌
 use Rattle.std.specs.Option.{option_or}
 use Rattle.std.specs.List.{cons_option}
 use Rattle.std.proofs.lemmas.List.{length-map}
-use Rattle.uplink_weave.specs.Functions.{part, woven, payload_in, counts_in}
-use Rattle.rs_code.specs.Functions.{encoded}
+use Rattle.list_members.specs.Tests.{zero_more}
+use Rattle.uplink_weave.specs.Functions.{part, woven_frame, payload_in, counts_in}
+use Rattle.rs_code.specs.Functions.{encoded_word}
 use Rattle.std.proofs.lemmas.List.FromFn.{length-map-range_with_len}
 use Rattle.list_members.specs.Tests.{or_none}
 use Rattle.ground_core.specs.Sent.{HistoriesGrow}
@@ -98,15 +99,12 @@ turn-made grow sends hears table acted moment slot old ground frame h s on =
       clock = h.clock;
       last = ap Some (aired-alike sent frame on) ∙ ap aired_one (sym (last-more (sent_frames table acted) sent)) ∙ ap (λ frames. aired_one (last_frame frames)) (sym more);
       counts = same-counts _ _
-          (ap (λ (c : Counts). c.updates) h.counts ∙ zero-more _)
+          (ap (λ (c : Counts). c.updates) h.counts ∙ zero_more _)
           (ap (λ (c : Counts). c.turns + 1) h.counts ∙ sym (length-last (sent_frames table acted) sent) ∙ ap length (sym more))
           (ap (λ (c : Counts). c.heard) h.counts)
-          (ap (λ (c : Counts). c.corrected) h.counts ∙ zero-more _)
-          (ap (λ (c : Counts). c.entries) h.counts ∙ zero-more _);
+          (ap (λ (c : Counts). c.corrected) h.counts ∙ zero_more _)
+          (ap (λ (c : Counts). c.entries) h.counts ∙ zero_more _);
     }
-  where
-    zero-more : (sum : ℕ) → sum ≡ sum + 0
-    zero-more sum = omega arith
 
 -- a picture more
 pub show-made : {G E : Type 0} (sends : Sends G) (hears : Hears E) (table : LifeTable) (acted : List Line) (moment : ℕ) (old : Making G E) (entries : List ShownEntry) (sum : ℕ)
@@ -121,21 +119,18 @@ show-made sends hears table acted moment old entries sum h shown is =
       clock = refl;
       last = h.last;
       counts = same-counts _ _
-          (ap (λ (c : Counts). c.updates) h.counts ∙ zero-more _)
+          (ap (λ (c : Counts). c.updates) h.counts ∙ zero_more _)
           (ap (λ (c : Counts). c.turns) h.counts)
           (ap (λ (c : Counts). c.heard) h.counts)
-          (ap (λ (c : Counts). c.corrected) h.counts ∙ zero-more _)
+          (ap (λ (c : Counts). c.corrected) h.counts ∙ zero_more _)
           (is ∙ ap (λ (c : Counts). c.entries + length entries) h.counts ∙ ap (λ n. total entries_by table acted + n) many);
     }
-  where
-    zero-more : (sum : ℕ) → sum ≡ sum + 0
-    zero-more sum = omega arith
 
 -- a frame on the air has 552 bytes
 pub length-aired : (frame : Frame) → length (air_of frame) ≡ 552
-unfolding woven
+unfolding woven_frame
 length-aired frame =
-    length-map-range_with_len (λ (place : ℕ). get_or (encoded 92 20 120 (part (place % 6) (frame_payload frame))) (place / 6) 0) 0 552
+    length-map-range_with_len (λ (place : ℕ). get_or (encoded_word 92 20 120 (part (place % 6) (frame_payload frame))) (place / 6) 0) 0 552
 
 -- what is heard of the frame that was sent last, with its changes
 heard-air : (changes : List (ℕ × ℕ)) (found : Option Frame) (frame : Frame) → found ≡ Some frame → length (air_of frame) ≡ 552
@@ -166,16 +161,13 @@ heard-made sends hears table acted moment changes old ear frame air one count su
       clock = refl;
       last = h.last;
       counts = same-counts _ _
-          (ap (λ (c : Counts). c.updates) h.counts ∙ zero-more _)
+          (ap (λ (c : Counts). c.updates) h.counts ∙ zero_more _)
           (ap (λ (c : Counts). c.turns) h.counts)
           (counted ∙ ap (λ r. length (cons_option r past)) (sym received))
           (summed ∙ ap (λ (c : Counts). c.corrected + corrected_bytes one air) h.counts ∙ ap (λ n. total corrected_by table acted + n)
           (ap (λ r. corrected_bytes r air) (sym is) ∙ ap (λ bytes. corrected_bytes (reception_from past moment bytes) bytes) (sym same) ∙ ap (corrected_in past moment wrong) (sym found)))
-          (ap (λ (c : Counts). c.entries) h.counts ∙ zero-more _);
+          (ap (λ (c : Counts). c.entries) h.counts ∙ zero_more _);
     }
-  where
-    zero-more : (sum : ℕ) → sum ≡ sum + 0
-    zero-more sum = omega arith
 
 -- what is known of a frame that was received
 pub record IsReceived (stands : List Reception → Type 0) (past : List Reception) (moment : ℕ) (air corrected : List ℕ) : Type 0 where

@@ -6,6 +6,7 @@ use Rattle.std.specs.Io.KnownBytes.{Appends}
 use Rattle.fisb_wire.specs.Faults.{Rose}
 use Rattle.uplink_weave.specs.Functions.{counts_in}
 use Rattle.life_table.specs.LifeTable.{LifeTable, default_table}
+use Rattle.life_table.specs.Products.{regional_radar}
 use Rattle.radar_core.specs.declared.key.BlockKey.{BlockKey}
 use Rattle.ground_core.specs.Airing.{Frame}
 use Rattle.receiver_core.specs.Reception.{Reception, received_picture}
@@ -40,15 +41,15 @@ last_number sent = length sent - 1
 abbrev pub last_frame : List Frame → Option Frame
 last_frame sent = slice_get sent (last_number sent)
 
--- a block of product 63, scale 0, north
+-- a block of regional radar, scale 0, north
 abbrev pub block_named : ℕ → BlockKey
-block_named number = record { product = 63; scale = 0; south = false; number = number }
+block_named number = record { product = regional_radar; scale = 0; south = false; number = number }
 
 -- the line that a step is, where these frames were sent before it
 abbrev pub step_line : List Frame → Step → Line
 step_line sent (steps.Text moment chars) = text moment moment chars
 step_line sent (steps.Block moment number cells) = radar moment moment (block_named number) cells
-step_line sent (steps.Blanks moment numbers) = blank moment moment 63 0 false numbers
+step_line sent (steps.Blanks moment numbers) = blank moment moment regional_radar 0 false numbers
 step_line sent (steps.Turn moment slot) = turn moment slot
 step_line sent (steps.Hear moment changes) =
     hear moment (last_number sent) (wrong_in changes (last_frame sent))

@@ -11,7 +11,7 @@ use Rattle.ground_core.specs.declared.air_frame.AirFrame.{AirFrame}
 use Rattle.receiver_core.specs.Reception.{Reception, received_picture}
 use Rattle.receiver_core.specs.UnreadParts.{unread_parts}
 use Rattle.receiver_core.specs.Hearing.{HearRefusal, clock, lost, no_application, refusal_of_air}
-use Rattle.gdl90_core.specs.Framing.{framed}
+use Rattle.gdl90_core.specs.Framing.{framed_message}
 use Rattle.fisb_link.specs.LinkPicture.{link_picture}
 use Rattle.script_core.specs.Script.{Line, turn, hear, rx, show}
 use Rattle.script_core.specs.Printed.{sent_line, heard_lines, lost_line, noapp_line, picture_text}
@@ -86,7 +86,7 @@ uplink_bytes payload = 7 ∷ 0xFF ∷ 0xFF ∷ 0xFF ∷ payload
 
 abbrev pub display_bytes : Option (List ℕ) → List ℕ
 display_bytes None = []
-display_bytes (Some payload) = framed (uplink_bytes payload)
+display_bytes (Some payload) = framed_message (uplink_bytes payload)
 
 -- what a frame gives: a message for displays, or what a receiver says of it
 abbrev pub rx_text : Party → LifeTable → List Reception → ℕ → List ℕ → List ℕ

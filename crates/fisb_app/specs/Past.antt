@@ -4,7 +4,7 @@ use Rattle.std.specs.Prelude.{ℕ, ◌==◌, Bool, if◌then◌else◌, List, []
 use Rattle.std.specs.Prelude.{option_map, slice_get, slice_index}
 use Rattle.std.specs.List.{cons_option, filter_map, list_any, range_with_len}
 use Rattle.std.specs.Option.{option_or}
-use Rattle.uplink_weave.specs.Functions.{woven, payload_in}
+use Rattle.uplink_weave.specs.Functions.{woven_frame, payload_in}
 use Rattle.uplink_frame.specs.declared.station.StationId.{StationId}
 use Rattle.uplink_frame.specs.Station.{no_station, same_station}
 use Rattle.life_table.specs.LifeTable.{LifeTable}
@@ -70,7 +70,7 @@ abbrev pub sent_frames : LifeTable → List Line → List Frame
 sent_frames table acted = frames table (broadcast acted)
 
 abbrev pub air_of : Frame → List ℕ
-air_of frame = woven (frame_payload frame)
+air_of frame = woven_frame (frame_payload frame)
 
 -- a frame as it is heard, where each of these places has a wrong byte: at every other place the
 -- byte that was sent

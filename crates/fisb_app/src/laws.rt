@@ -10,7 +10,7 @@ use life_table::tables_keep_rules;
 use script_core::ranges_of_lines;
 use uplink_weave::near_frame_gives_payload;
 
-/// What a link promises is what it does: whatever bytes it reads, the pictures by the bytes that
+/// What a link promises is what it does, whatever bytes it reads. The pictures by the bytes that
 /// were heard are those that are told by what was given, sent and heard alone, as long as no block
 /// of a frame was heard with more than ten wrong bytes.
 pub fn promises_are_kept()

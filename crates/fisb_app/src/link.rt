@@ -6,6 +6,7 @@ ghost use Rattle.picture_core.specs.Views.{shown_value};
 ghost use Rattle.receiver_core.specs.Reception.{Reception, received_picture};
 ghost use Rattle.ground_core.specs.Airing.{Frame};
 ghost use Rattle.uplink_frame.specs.Station.{FitsStation};
+ghost use Rattle.uplink_weave.specs.Woven.{frame_bytes};
 ghost use Rattle.script_core.specs.LineView.{line_view, HasRanges};
 ghost use Rattle.script_core.specs.Script.{Line as ScriptLine, hear, station, turn};
 ghost use Rattle.fisb_app.specs.Output.{given_text, heard_picture, heard_text};
@@ -142,7 +143,7 @@ impl<G: Sender, E: Ear> Link<G, E> {
         frame: u32,
         wrong: &Wrong,
     ) -> Result<Bytes, Stop>
-        requires { All (λ one. (one.0 < 552) × (one.1 < 256)) wrong.now }
+        requires { All (λ one. (one.0 < frame_bytes) × (one.1 < 256)) wrong.now }
         ensures { (bytes : List ℕ) (acted : List ScriptLine)
             → LinkHolds G.stands E.stands bytes acted self.old
             → HasTried
@@ -192,7 +193,7 @@ fn keep(sent: &mut Vec<SentFrame>, frame: &AirFrame) -> Result<(), AllocError>
 
 /// Puts the wrong bytes of a frame in their places.
 fn put_wrong(air: &mut [u8; 552], wrong: &[(u16, u8)])
-    requires { All (λ one. (one.0 < 552) × (one.1 < 256)) wrong.now }
+    requires { All (λ one. (one.0 < frame_bytes) × (one.1 < 256)) wrong.now }
     ensures { air.new ≡ air_heard wrong.now air.old }
 {
     for (place, byte) in wrong {

@@ -1,6 +1,7 @@
 //! What the steps of a workload make: a ground, a receiver, and the frame between them.
 ghost use Rattle.std.specs.Prelude.{◌≡◌, ◌+◌, ◌<◌, Option, Some, [], IfOk, All, fold, is_some, length};
 ghost use Rattle.life_table.specs.LifeTable.{default_table};
+ghost use Rattle.uplink_weave.specs.Woven.{frame_bytes};
 ghost use Rattle.ground_core.specs.Airing.{Frame};
 ghost use Rattle.workload.specs.Step.{FitsStep};
 ghost use Rattle.workload.specs.declared.step.Step.TheVariants.{Text, Block, Blanks, Turn, Hear, Show};
@@ -15,7 +16,7 @@ use crate::sent::SentFrame;
 use crate::stopping::answer;
 use fisb_time::Moment;
 use ground_core::histories_grow;
-use life_table::LifeTable;
+use life_table::{LifeTable, REGIONAL_RADAR};
 use radar_core::{BlockKey, Cells};
 use receiver_core::{HearFault, ShowFault};
 use run_core::Stop;
@@ -25,9 +26,6 @@ use workload::{Changes, Step};
 
 /// The most frames of a run, as a count of turns.
 const FRAME_LIMIT: u64 = sending::FRAME_LIMIT as u64;
-
-/// The product of the blocks of a workload.
-const PRODUCT: u16 = 63;
 
 /// What the steps acted on have made.
 #[derive(Drop)]
@@ -106,7 +104,7 @@ impl<G: Sender, E: Ear> Making<G, E> {
     {
         histories_grow();
         let key = BlockKey {
-            product: PRODUCT,
+            product: REGIONAL_RADAR,
             scale: 0,
             south: false,
             number,
@@ -121,7 +119,7 @@ impl<G: Sender, E: Ear> Making<G, E> {
         histories_grow();
         let given = answer(
             self.ground
-                .give_blanks(moment, moment, PRODUCT, 0, false, numbers),
+                .give_blanks(moment, moment, REGIONAL_RADAR, 0, false, numbers),
         );
         self.count_update(given)
     }
@@ -163,7 +161,7 @@ impl<G: Sender, E: Ear> Making<G, E> {
 
     /// Hears the frame that was sent last, with its changes in it.
     fn hear(&mut self, moment: Moment, changes: &Changes) -> Result<(), AllocError>
-        requires { All (λ change. change.0 < 552) changes.now }
+        requires { All (λ change. change.0 < frame_bytes) changes.now }
         ensures { HasTaken G.stands E.stands self.old self.new (Hear moment changes.now) result }
     {
         if self.is_early(moment) {

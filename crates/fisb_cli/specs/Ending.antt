@@ -11,7 +11,7 @@ abbrev pub number_without_words : ErrorKind → ℕ
 number_without_words OutOfMemory = code_of NoMemory
 number_without_words _ = 1
 
--- the words behind the program's name
+-- the words after the program's name
 abbrev pub words_of : {X : Type 0} → List X → List X
 words_of arguments = drop 1 arguments
 

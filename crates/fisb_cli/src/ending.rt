@@ -93,7 +93,7 @@ pub fn run_args<S: Source, K: Sink>(
     }
 }
 
-/// The words of the command line behind the program's name.
+/// The words of the command line after the program's name.
 fn words(alloc: Global, args: Args) -> Result<Vec<String>, AllocError>
     ensures { IfOk result (λ words. words.items ≡ words_of (into_iter_items args)) }
 {

@@ -5,8 +5,8 @@ use Rattle.std.specs.Bool.{Decides}
 use Rattle.fisb_time.specs.declared.form.TimeForm.{TimeForm}
 use Rattle.fisb_time.specs.Moment.{IsMoment}
 use Rattle.fisb_time.specs.TimeForm.{shows}
-use Rattle.fisb_time.specs.TimeFields.{shown}
-use Rattle.fisb_time.specs.Naming.{named, window}
+use Rattle.fisb_time.specs.TimeFields.{shown_fields}
+use Rattle.fisb_time.specs.Naming.{named_moment, window}
 use Rattle.life_table.specs.LifeTable.{LifeTable}
 use Rattle.life_table.specs.Rules.{IsTable}
 use Rattle.apdu_core.specs.Laws.{ReadsBack, ShownFits}
@@ -28,7 +28,7 @@ use Rattle.ground_core.specs.Sent.{IsFrame, ItemsAreOfStations, SegmentsAreOfIte
 abbrev pub TimeRoundTrip : Type 0
 TimeRoundTrip = (form : TimeForm) (moment received : ℕ) → IsMoment moment → IsMoment received
     → IsTrue (shows form moment) → moment ≤ received + 60 → received + 60 < moment + window form
-    → named form (shown form moment) received ≡ Some moment
+    → named_moment form (shown_fields form moment) received ≡ Some moment
 
 -- of pictures
 pub record PictureLayers : Type 0 where

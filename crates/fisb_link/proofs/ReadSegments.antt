@@ -4,8 +4,8 @@ use Rattle.std.proofs.Common.{◌≡◌, ℕ, ◌+◌, ◌<◌, ◌≤◌, Bool,
 use Rattle.std.specs.Result.{result_ok}
 use Rattle.std.proofs.lemmas.Bool.{cases_Bool, cond-true, cond-false, or_cases, eqb-true, le-ltb}
 use Rattle.fisb_time.specs.Moment.{IsMoment}
-use Rattle.fisb_time.specs.TimeFields.{shown}
-use Rattle.fisb_time.specs.Naming.{named, window}
+use Rattle.fisb_time.specs.TimeFields.{shown_fields}
+use Rattle.fisb_time.specs.Naming.{named_moment, window}
 use Rattle.fisb_time.specs.declared.form.TimeForm.{TimeForm}
 use Rattle.fisb_time.specs.declared.form.TimeForm.TheVariants.{Minute, Second, DayMinute, DaySecond}
 use Rattle.life_table.specs.Products.{regional_radar, conus_radar, text_product, is_read_product}
@@ -117,13 +117,13 @@ in_window Second late life version sent received few within lives soon = omega a
 in_window DayMinute late life version sent received few within lives soon = omega arith
 in_window DaySecond late life version sent received few within lives soon = omega arith
 
-named-segment : Layers → (table : LifeTable) (all : List Item) (frame : Frame) (received : ℕ)
+named_moment-segment : Layers → (table : LifeTable) (all : List Item) (frame : Frame) (received : ℕ)
     (s : Segment) → IsTable table
     → AreAll table all → IsAired all frame s → IsMoment received → frame.moment ≤ received
     → received ≤ frame.moment + table.late
-    → named s.item.weather.form (shown s.item.weather.form s.item.weather.version) received
+    → named_moment s.item.weather.form (shown_fields s.item.weather.form s.item.weather.version) received
     ≡ Some s.item.weather.version
-named-segment layers table all frame received s is_table are aired range after soon =
+named_moment-segment layers table all frame received s is_table are aired range after soon =
     let w = s.item.weather in
     let sound = are.sound s.item aired.item_in in
     let ahead = aired.not_ahead in
@@ -171,10 +171,10 @@ arrival-read table all sent frame s received setting aired range after soon =
     sound.product
     ∙ ap (arrival_with_row station received apdu) listed.has_row
     ∙ cond-false (is_large apdu.segmentation) (Err Files)
-    (arrival_with_version station received apdu life (named w.form apdu.time received))
+    (arrival_with_version station received apdu life (named_moment w.form apdu.time received))
     (not-large cut (seg_of_item s.item s.number) sound.few_segments)
     ∙ ap (arrival_with_version station received apdu life)
-    (named-segment layers table all frame received s setting.is_table are aired range after
+    (named_moment-segment layers table all frame received s setting.is_table are aired range after
     soon) in
     subst (λ (from : StationId). result_ok (arrival_in table from received (fisb_frame (body_of s)))
     ≡ cond (is_fresh table received s) (Some (arrival_of (joint s))) None)

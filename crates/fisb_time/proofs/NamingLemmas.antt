@@ -6,8 +6,8 @@ use Rattle.fisb_time.specs.declared.form.TimeForm.{TimeForm}
 use Rattle.fisb_time.specs.declared.form.TimeFields.{TimeFields}
 use Rattle.fisb_time.specs.Moment.{IsMoment, is_moment}
 use Rattle.fisb_time.specs.TimeForm.{shows}
-use Rattle.fisb_time.specs.TimeFields.{shown, same_fields}
-use Rattle.fisb_time.specs.Naming.{IsCandidate, Names, has_fields, greatest_below, named}
+use Rattle.fisb_time.specs.TimeFields.{shown_fields, same_fields}
+use Rattle.fisb_time.specs.Naming.{IsCandidate, Names, has_fields, greatest_below, named_moment}
 
 same_fields-true : (f g : TimeFields) → same_fields f g ≡ true → f ≡ g
 same_fields-true f g h = grind (arith, nat_tests)
@@ -18,21 +18,21 @@ same_fields-refl f g h = grind (arith, nat_tests)
 -- what the test says
 has_fields-true :
     (form : TimeForm) (fields : TimeFields) (m : ℕ) → has_fields form fields m ≡ true →
-    IsMoment m × IsTrue (shows form m) × (shown form m ≡ fields)
+    IsMoment m × IsTrue (shows form m) × (shown_fields form m ≡ fields)
 unfolding has_fields
 has_fields-true form fields m h =
     let range : is_moment m ≡ true = grind arith in
     let showable : shows form m ≡ true = grind arith in
-    let same : same_fields (shown form m) fields ≡ true = grind arith in
-    (grind (arith, nat_tests), showable, same_fields-true (shown form m) fields same)
+    let same : same_fields (shown_fields form m) fields ≡ true = grind arith in
+    (grind (arith, nat_tests), showable, same_fields-true (shown_fields form m) fields same)
 
 has_fields-of :
     (form : TimeForm) (fields : TimeFields) (m : ℕ) → IsMoment m → IsTrue (shows form m) →
-    shown form m ≡ fields → has_fields form fields m ≡ true
+    shown_fields form m ≡ fields → has_fields form fields m ≡ true
 unfolding has_fields
 has_fields-of form fields m range showable same =
     let in_range : is_moment m ≡ true = grind (arith, nat_tests) in
-    let equal : same_fields (shown form m) fields ≡ true = same_fields-refl (shown form m) fields same in
+    let equal : same_fields (shown_fields form m) fields ≡ true = same_fields-refl (shown_fields form m) fields same in
     rw (in_range, showable, equal)
 
 -- what is found below a bound is the greatest number that passes
@@ -61,11 +61,11 @@ greatest_below-none (suc n) test none =
     ]
 
 -- the greatest candidate is the one that is found
-pub named-of :
+pub named_moment-of :
     (form : TimeForm) (fields : TimeFields) (received m : ℕ) → Names form fields received m →
-    named form fields received ≡ Some m
-unfolding named
-named-of form fields received m h =
+    named_moment form fields received ≡ Some m
+unfolding named_moment
+named_moment-of form fields received m h =
     let own = h.candidate in
     greatest_below-of (received + 61) (has_fields form fields) m
     (has_fields-of form fields m own.in_range own.showable own.same)
@@ -75,11 +75,11 @@ named-of form fields received m h =
     h.greatest k (record { in_range = has.0; not_ahead = omega arith; showable = has.1; same = has.2 }))
 
 -- with no candidate, none is found
-pub named-none :
+pub named_moment-none :
     (form : TimeForm) (fields : TimeFields) (received : ℕ) →
-    ((m : ℕ) → ¬ IsCandidate form fields received m) → named form fields received ≡ None
-unfolding named
-named-none form fields received none =
+    ((m : ℕ) → ¬ IsCandidate form fields received m) → named_moment form fields received ≡ None
+unfolding named_moment
+named_moment-none form fields received none =
     greatest_below-none (received + 61) (has_fields form fields)
     (λ k under t.
     let has = has_fields-true form fields k t in
@@ -110,9 +110,9 @@ greatest_below-some (suc n) test m found =
 
 -- what is found is the greatest candidate
 pub Names-of :
-    (form : TimeForm) (fields : TimeFields) (received m : ℕ) → named form fields received ≡ Some m →
+    (form : TimeForm) (fields : TimeFields) (received m : ℕ) → named_moment form fields received ≡ Some m →
     Names form fields received m
-unfolding named
+unfolding named_moment
 Names-of form fields received m found =
     let it = greatest_below-some (received + 61) (has_fields form fields) m found in
     let has = has_fields-true form fields m it.0 in
@@ -124,13 +124,13 @@ Names-of form fields received m found =
     }
 
 -- what is named is found, and so is that nothing is
-pub named-by :
+pub named_moment-by :
     (form : TimeForm) (fields : TimeFields) (received : ℕ) (answer : Option ℕ) →
     IfSome answer (Names form fields received) →
     (IsNone answer → (m : ℕ) → ¬ IsCandidate form fields received m) →
-    answer ≡ named form fields received
-named-by form fields received (Some m) names none = sym (named-of form fields received m names)
-named-by form fields received None names none = sym (named-none form fields received (none refl))
+    answer ≡ named_moment form fields received
+named_moment-by form fields received (Some m) names none = sym (named_moment-of form fields received m names)
+named_moment-by form fields received None names none = sym (named_moment-none form fields received (none refl))
 
 -- where there is no candidate nothing is named
 pub none-by :

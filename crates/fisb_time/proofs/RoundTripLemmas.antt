@@ -11,14 +11,14 @@ use Rattle.fisb_time.specs.declared.form.TimeForm.TheVariants.{Minute, Second, D
 use Rattle.fisb_time.specs.Moment.{IsMoment}
 use Rattle.fisb_time.specs.CivilDate.{date_of}
 use Rattle.fisb_time.specs.TimeForm.{shows}
-use Rattle.fisb_time.specs.TimeFields.{shown}
+use Rattle.fisb_time.specs.TimeFields.{shown_fields}
 use Rattle.fisb_time.specs.Naming.{Names, window}
 use Rattle.fisb_time.proofs.DateLemmas.{date_of-is, count_of_number, count-lt}
 
 -- moments that a form shows alike lie at one second of a day
 same_second :
     (form : TimeForm) (m n : ℕ) → IsTrue (shows form m) → IsTrue (shows form n) →
-    shown form m ≡ shown form n → m % 86400 ≡ n % 86400
+    shown_fields form m ≡ shown_fields form n → m % 86400 ≡ n % 86400
 same_second Minute m n whole_m whole_n same =
     let a = eqb-true (m % 60) 0 whole_m in
     let b = eqb-true (n % 60) 0 whole_n in
@@ -80,7 +80,7 @@ same_date_close m n range_m range_n month day second close =
 -- a moment that is shown alike is not later, where it is closer than the form's window
 not_later :
     (form : TimeForm) (m n : ℕ) → IsMoment m → IsMoment n → IsTrue (shows form m) →
-    IsTrue (shows form n) → shown form m ≡ shown form n → m < n + window form → m ≤ n
+    IsTrue (shows form n) → shown_fields form m ≡ shown_fields form n → m < n + window form → m ≤ n
 not_later Minute m n range_m range_n whole_m whole_n same close =
     omega (arith, same_second Minute m n whole_m whole_n same)
 not_later Second m n range_m range_n whole_m whole_n same close =
@@ -92,11 +92,11 @@ not_later DaySecond m n range_m range_n whole_m whole_n same close =
     same_date_close m n range_m range_n (ap (λ f. f.month) same) (ap (λ f. f.day) same)
     (same_second DaySecond m n whole_m whole_n same) close
 
-pub Names-shown :
+pub Names-shown_fields :
     (form : TimeForm) (moment received : ℕ) → IsMoment moment → IsTrue (shows form moment) →
     moment ≤ received + 60 → received + 60 < moment + window form →
-    Names form (shown form moment) received moment
-Names-shown form moment received range showable late early =
+    Names form (shown_fields form moment) received moment
+Names-shown_fields form moment received range showable late early =
     record {
       candidate = record { in_range = range; not_ahead = late; showable = showable; same = refl };
       greatest = λ other h.

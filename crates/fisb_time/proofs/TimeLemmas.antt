@@ -7,7 +7,7 @@ use Rattle.fisb_time.specs.declared.form.TimeForm.TheVariants.{Minute, Second, D
 use Rattle.fisb_time.specs.declared.form.TimeFields.{TimeFields}
 use Rattle.fisb_time.specs.Moment.{IsMoment}
 use Rattle.fisb_time.specs.CivilDate.{IsMonthAndDay, date_of}
-use Rattle.fisb_time.specs.TimeFields.{shown, IsTimeIn}
+use Rattle.fisb_time.specs.TimeFields.{shown_fields, IsTimeIn}
 use Rattle.fisb_time.specs.Naming.{IsCandidate}
 use Rattle.fisb_time.proofs.DateLemmas.{date_of-is}
 
@@ -23,7 +23,7 @@ month_and_day m range =
       day_in = (civil.2.0, omega (arith, longest (date_of m).year (date_of m).month));
     }
 
-shown_time : (form : TimeForm) (m : ℕ) → IsMoment m → IsTimeIn form (shown form m)
+shown_time : (form : TimeForm) (m : ℕ) → IsMoment m → IsTimeIn form (shown_fields form m)
 shown_time Minute m range =
     record { hours = omega arith; minutes = omega arith; seconds = refl; date = (refl, refl) }
 shown_time Second m range =

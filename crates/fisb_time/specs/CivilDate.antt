@@ -1,6 +1,7 @@
 -- The date on which a moment lies, in the Gregorian calendar.
 use Rattle.std.specs.Prelude.{◌≡◌, ℕ, zero, suc, ◌+◌, ◌-◌, ◌/◌, nat_lt, if◌then◌else◌, pos}
 use Rattle.std.specs.Int.{IsInRange}
+use Rattle.fisb_time.specs.Moment.{day_seconds}
 use Rattle.jiff_core.specs.Calendar.{IsCivilDate, days_from_civil, days_in_month, days_in_year}
 
 -- a year, a month from 1 to 12 and a day from 1
@@ -13,7 +14,7 @@ pub record CivilDate : Type 0 where
 -- the full days of the moment
 pub record IsDateOf (moment : ℕ) (date : CivilDate) : Type 0 where
   pub civil : IsCivilDate (pos date.year) date.month date.day
-  pub number : days_from_civil (pos date.year) date.month date.day ≡ pos (moment / 86400)
+  pub number : days_from_civil (pos date.year) date.month date.day ≡ pos (moment / day_seconds)
 
 -- the month has this day, if only in a leap year, as 2000
 pub record IsMonthAndDay (month day : ℕ) : Type 0 where
@@ -40,4 +41,4 @@ walk_years (suc years) year days =
 
 -- the date of a moment of the century: day 10957 is 2000-01-01
 unfoldable pub date_of : ℕ → CivilDate
-date_of moment = walk_years 99 2000 (moment / 86400 - 10957)
+date_of moment = walk_years 99 2000 (moment / day_seconds - 10957)

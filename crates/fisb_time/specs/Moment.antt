@@ -10,6 +10,10 @@ first_moment = 946684800
 abbrev pub last_moment : ℕ
 last_moment = 4102444799
 
+-- the seconds of a day
+abbrev pub day_seconds : ℕ
+day_seconds = 86400
+
 -- the number of seconds is a moment of the century
 abbrev pub IsMoment : ℕ → Type 0
 IsMoment m = (first_moment ≤ m) × (m ≤ last_moment)

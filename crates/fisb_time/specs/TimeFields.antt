@@ -18,29 +18,29 @@ abbrev pub second_of_minute : ℕ → ℕ
 second_of_minute m = m % 60
 
 -- the fields of a moment in a form that shows it; a field that the form lacks is 0
-abbrev pub shown : TimeForm → ℕ → TimeFields
-shown Minute m = record {
+abbrev pub shown_fields : TimeForm → ℕ → TimeFields
+shown_fields Minute m = record {
   month = 0;
   day = 0;
   hours = hour_of_day m;
   minutes = minute_of_hour m;
   seconds = 0;
 }
-shown Second m = record {
+shown_fields Second m = record {
   month = 0;
   day = 0;
   hours = hour_of_day m;
   minutes = minute_of_hour m;
   seconds = second_of_minute m;
 }
-shown DayMinute m = record {
+shown_fields DayMinute m = record {
   month = (date_of m).month;
   day = (date_of m).day;
   hours = hour_of_day m;
   minutes = minute_of_hour m;
   seconds = 0;
 }
-shown DaySecond m = record {
+shown_fields DaySecond m = record {
   month = (date_of m).month;
   day = (date_of m).day;
   hours = hour_of_day m;

@@ -1,7 +1,7 @@
 //! The forms of the time field, and the fields that each shows of a moment.
 ghost use Rattle.std.specs.Prelude.{◌≡◌, IsTrue};
 ghost use Rattle.fisb_time.specs.TimeForm.{shows};
-ghost use Rattle.fisb_time.specs.TimeFields.{shown};
+ghost use Rattle.fisb_time.specs.TimeFields.{shown_fields};
 
 use crate::calendar::date_at;
 use crate::moment::Moment;
@@ -48,7 +48,7 @@ pub fn shows(form: TimeForm, moment: Moment) -> bool
 /// The fields of a moment, in a form that shows it.
 pub fn fields_of(form: TimeForm, moment: Moment) -> TimeFields
     requires showable { IsTrue (shows form moment) }
-    ensures { result ≡ shown form moment }
+    ensures { result ≡ shown_fields form moment }
 {
     let (month, day) = month_and_day(form, moment);
     let second_of_day = moment.seconds() % 86_400;
@@ -63,8 +63,8 @@ pub fn fields_of(form: TimeForm, moment: Moment) -> TimeFields
 
 /// The month and the day of a moment in the form, 0 where the form has no date.
 fn month_and_day(form: TimeForm, moment: Moment) -> (u8, u8)
-    ensures month { result.0 ≡ (shown form moment).month }
-    ensures day { result.1 ≡ (shown form moment).day }
+    ensures month { result.0 ≡ (shown_fields form moment).month }
+    ensures day { result.1 ≡ (shown_fields form moment).day }
 {
     match form {
         TimeForm::Minute | TimeForm::Second => (0, 0),

@@ -1,9 +1,9 @@
 //! Which moment a received time names.
 ghost use Rattle.std.specs.Prelude.{◌≡◌, ℕ, ◌+◌, ◌*◌, ◌%◌, ◌<◌, ◌≤◌, ◌↔◌, min, IsTrue, IsSome, IsNone, IfSome};
-ghost use Rattle.fisb_time.specs.Moment.{IsMoment, last_moment};
+ghost use Rattle.fisb_time.specs.Moment.{IsMoment, day_seconds, last_moment};
 ghost use Rattle.fisb_time.specs.CivilDate.{IsMonthAndDay, date_of};
 ghost use Rattle.fisb_time.specs.TimeFields.{IsSecondIn, IsDateIn, IsTimeIn};
-ghost use Rattle.fisb_time.specs.Naming.{IsCandidate, Names, named};
+ghost use Rattle.fisb_time.specs.Naming.{IsCandidate, Names, named_moment};
 
 use crate::calendar::{day_number, is_month_and_day, year_at, years_between};
 use crate::form::{TimeFields, TimeForm};
@@ -19,7 +19,7 @@ pub fn resolve(form: TimeForm, fields: &TimeFields, received: Moment) -> Option<
     ensures names { IfSome result (Names form fields.now received) }
     ensures none { IsNone result ↔ ((m : ℕ) → ¬ IsCandidate form fields.now received m) }
     ensures found { (m : ℕ) → IsCandidate form fields.now received m → IsSome result }
-    ensures value { result ≡ named form fields.now received }
+    ensures value { result ≡ named_moment form fields.now received }
 {
     if !is_time(form, fields) {
         return None;
@@ -80,9 +80,9 @@ fn latest_with(form: TimeForm, fields: &TimeFields, received: Moment) -> u64
 /// nor after the last moment.
 fn latest_at(second_of_day: u64, received: Moment) -> u64
     requires { second_of_day < DAY }
-    ensures at { result % 86400 ≡ second_of_day }
+    ensures at { result % day_seconds ≡ second_of_day }
     ensures not_ahead { result ≤ min (received + 60) last_moment }
-    ensures latest { min (received + 60) last_moment < result + 86400 }
+    ensures latest { min (received + 60) last_moment < result + day_seconds }
 {
     let latest = latest_second(received);
     let candidate = latest / DAY * DAY + second_of_day;
@@ -98,11 +98,11 @@ fn latest_at(second_of_day: u64, received: Moment) -> u64
 fn latest_on(month: u8, day: u8, second_of_day: u64, received: Moment) -> u64
     requires second { second_of_day < DAY }
     requires date { IsMonthAndDay month day }
-    ensures at { result % 86400 ≡ second_of_day }
+    ensures at { result % day_seconds ≡ second_of_day }
     ensures on { IsMoment result → ((date_of result).month ≡ month) × ((date_of result).day ≡ day) }
     ensures not_ahead { result ≤ min (received + 60) last_moment }
     ensures latest { (m : ℕ) → IsMoment m → m ≤ min (received + 60) last_moment →
-        (date_of m).month ≡ month → (date_of m).day ≡ day → m % 86400 ≡ second_of_day → m ≤ result }
+        (date_of m).month ≡ month → (date_of m).day ≡ day → m % day_seconds ≡ second_of_day → m ≤ result }
 {
     let latest = latest_second(received);
     let step = years_between(month, day);

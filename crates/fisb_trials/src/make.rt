@@ -27,7 +27,7 @@ fn number(word: &[u8]) -> u64 {
     value
 }
 
-// The number behind a name in a summary.
+// The number after a name in a summary.
 fn number_behind(summary: &[u8], name: &[u8]) -> Option<u64> {
     let mut is_next = false;
     for word in summary.split(|byte| *byte == b' ') {

@@ -65,7 +65,7 @@ pub struct StdSink<W> {
 }
 
 impl<W> StdSink<W> {
-    /// A sink into the writer, behind the bytes that it holds.
+    /// A sink into the writer, after the bytes that it holds.
     pub fn new(inner: W) -> StdSink<W>
         ensures inner { writer_of result ≡ inner }
         ensures faults { failed_writes result ≡ 0 }

@@ -11,7 +11,7 @@ use Rattle.std.proofs.lemmas.List.Elements.{All-head, All-tail, All-drop}
 use Rattle.bit_fields.specs.Bits.{AreBytes}
 use Rattle.gdl90_core.specs.declared.pieces.Damage.TheVariants.{BadEscape, Short, TooLong, BadFcs}
 use Rattle.gdl90_core.specs.CheckSequence.{remainder}
-use Rattle.gdl90_core.specs.Framing.{escaped_bytes, with_fcs, framed}
+use Rattle.gdl90_core.specs.Framing.{escaped_bytes, with_fcs, framed_message}
 use Rattle.gdl90_core.specs.Stream.{pieces_of}
 use Rattle.gdl90_core.specs.Reading.{Reading, message, damaged, BytesSay, HasBadEscape, Says, SayInOrder}
 use Rattle.gdl90_core.specs.Laws.{OneReading, FitsFrame, MessagesReadBack}
@@ -190,23 +190,23 @@ body_form (byte ∷ text) fits =
     (0x7D, 0x5E ∷ rest, refl) (0x7D, 0x5D ∷ rest, refl) (λ flag plain. (byte, rest, refl))
 
 -- a flag more says nothing
-again_flag : (texts : List (List ℕ)) → pieces_of (0x7E ∷ flat_map framed texts) ≡ pieces_of (flat_map framed texts)
+again_flag : (texts : List (List ℕ)) → pieces_of (0x7E ∷ flat_map framed_message texts) ≡ pieces_of (flat_map framed_message texts)
 again_flag [] = refl
 again_flag (text ∷ texts) = refl
 
-pieces_of-framed : (texts : List (List ℕ)) → All FitsFrame texts → pieces_of (flat_map framed texts) ≡ map body texts
+pieces_of-framed_message : (texts : List (List ℕ)) → All FitsFrame texts → pieces_of (flat_map framed_message texts) ≡ map body texts
 unfolding body
-pieces_of-framed [] fits = refl
-pieces_of-framed (text ∷ texts) fits =
+pieces_of-framed_message [] fits = refl
+pieces_of-framed_message (text ∷ texts) fits =
     let form = body_form text (All-head FitsFrame text texts fits) in
     let P : List ℕ → Type 0 = λ xs. NoFlag xs in
     let none : NoFlag (form.0 ∷ form.1) = subst P form.2 (escaped_bytes-NoFlag (with_fcs text)) in
-    let others : List ℕ = flat_map framed texts in
+    let others : List ℕ = flat_map framed_message texts in
     ap (λ (xs : List ℕ). pieces_of (0x7E ∷ xs)) (append_assoc (body text) (0x7E ∷ []) others)
     ∙ ap (λ (xs : List ℕ). pieces_of (0x7E ∷ xs ++ 0x7E ∷ others)) form.2
     ∙ pieces_of-piece form.0 form.1 others none
     ∙ ap₂ (λ (xs : List ℕ) (ps : List (List ℕ)). xs ∷ ps) (sym form.2)
-    (again_flag texts ∙ pieces_of-framed texts (All-tail FitsFrame text texts fits))
+    (again_flag texts ∙ pieces_of-framed_message texts (All-tail FitsFrame text texts fits))
 
 says_itself : (text : List ℕ) → FitsFrame text → Says (body text) (message text)
 unfolding body
@@ -231,8 +231,8 @@ say_themselves (text ∷ texts) fits =
 pub messages_read_back : MessagesReadBack
 messages_read_back texts readings fits =
     let P : List (List ℕ) → Type 0 = λ pieces. SayInOrder pieces readings in
-    let Q : List Reading → Type 0 = λ others. SayInOrder (pieces_of (flat_map framed texts)) others in
+    let Q : List Reading → Type 0 = λ others. SayInOrder (pieces_of (flat_map framed_message texts)) others in
     let R : List (List ℕ) → Type 0 = λ pieces. SayInOrder pieces (map message texts) in (
-      (λ say. only_themselves texts readings fits (subst P (pieces_of-framed texts fits) say)),
-      (λ e. subst Q (sym e) (subst R (sym (pieces_of-framed texts fits)) (say_themselves texts fits))),
+      (λ say. only_themselves texts readings fits (subst P (pieces_of-framed_message texts fits) say)),
+      (λ e. subst Q (sym e) (subst R (sym (pieces_of-framed_message texts fits)) (say_themselves texts fits))),
     )

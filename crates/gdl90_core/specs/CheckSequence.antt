@@ -15,7 +15,7 @@ pub record IsRest (number rest : ℕ) : Type 0 where
   pub times : ℕ
   pub whole : number ≡ bit_xor (multiple times) rest
 
--- the remainder of a message: the bits of its bytes are one polynomial, with no zeros behind them
+-- the remainder of a message: the bits of its bytes are one polynomial, with no zeros after them
 abbrev pub IsRemainder : List ℕ → ℕ → Type 0
 IsRemainder message rest = IsRest (number_of message) rest
 

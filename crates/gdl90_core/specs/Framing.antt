@@ -16,5 +16,5 @@ abbrev pub with_fcs : List ℕ → List ℕ
 with_fcs message = message ++ (remainder message % 256) ∷ (remainder message / 256) ∷ []
 
 -- the message as it is sent
-abbrev pub framed : List ℕ → List ℕ
-framed message = 0x7E ∷ escaped_bytes (with_fcs message) ++ 0x7E ∷ []
+abbrev pub framed_message : List ℕ → List ℕ
+framed_message message = 0x7E ∷ escaped_bytes (with_fcs message) ++ 0x7E ∷ []

@@ -4,7 +4,7 @@ use Rattle.std.specs.List.{flat_map}
 use Rattle.std.specs.Option.{option_map, option_to_list}
 use Rattle.bit_fields.specs.Bits.{AreBytes}
 use Rattle.gdl90_core.specs.CheckSequence.{IsRemainder, remainder}
-use Rattle.gdl90_core.specs.Framing.{framed}
+use Rattle.gdl90_core.specs.Framing.{framed_message}
 use Rattle.gdl90_core.specs.Stream.{pieces_of, ended_piece}
 use Rattle.gdl90_core.specs.Reading.{Reading, message, reading_of, Says, SayInOrder}
 use Rattle.gdl90_core.specs.StandsFor.{Answers}
@@ -43,4 +43,4 @@ pub record FitsFrame (text : List ℕ) : Type 0 where
 -- framed messages, one after another, say these messages, and nothing else
 abbrev pub MessagesReadBack : Type 0
 MessagesReadBack = (texts : List (List ℕ)) (readings : List Reading) → All FitsFrame texts
-    → SayInOrder (pieces_of (flat_map framed texts)) readings ↔ (readings ≡ map message texts)
+    → SayInOrder (pieces_of (flat_map framed_message texts)) readings ↔ (readings ≡ map message texts)

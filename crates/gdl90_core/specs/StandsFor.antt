@@ -23,11 +23,11 @@ pub record KeepsAll (kept : PieceBytes) (bytes : List ℕ) : Type 0 where
 abbrev pub Keeps : PieceBytes → List ℕ → Type 0
 Keeps kept bytes = MatchBool kept.too_long (1024 < length bytes) (KeepsAll kept bytes)
 
--- the piece behind the last flag is these bytes, escaped, and what is put behind them
+-- the piece after the last flag is these bytes, escaped, and what is put after them
 abbrev pub IsRead : PieceBytes → Option (List ℕ) → List ℕ → Type 0
 IsRead kept piece behind = (bytes : List ℕ) × (piece ≡ Some (escaped_bytes bytes ++ behind)) × Keeps kept bytes
 
--- what is kept at a stage of the piece behind the last flag
+-- what is kept at a stage of the piece after the last flag
 abbrev pub IsAt : Stage → PieceBytes → Option (List ℕ) → Type 0
 IsAt Outside kept piece = piece ≡ None
 IsAt Start kept piece = piece ≡ Some []
@@ -41,7 +41,7 @@ IsAt Broken kept piece =
 abbrev pub StandsFor : Deframer → List ℕ → Type 0
 StandsFor deframer stream = IsAt deframer.stage deframer.kept (behind_flag stream)
 
--- the new deframer stands for each stream that the old one stands for, and the byte behind it
+-- the new deframer stands for each stream that the old one stands for, and the byte after it
 abbrev pub GoesOn : Deframer → ℕ → Deframer → Type 0
 GoesOn old byte new = (stream : List ℕ) → StandsFor old stream → StandsFor new (stream ++ byte ∷ [])
 
@@ -51,7 +51,7 @@ PieceAnswers ended answer = MatchOption answer
     (ended ≡ None)
     (λ framed. (piece : List ℕ) × (ended ≡ Some piece) × Says piece (reading_of framed))
 
--- the answer at this byte behind the stream: what the piece says that it ends, and nothing where it ends none
+-- the answer at this byte after the stream: what the piece says that it ends, and nothing where it ends none
 abbrev pub Answers : List ℕ → ℕ → Option Framed → Type 0
 Answers stream byte answer = PieceAnswers (ended_piece stream byte) answer
 

@@ -7,7 +7,7 @@ abbrev pub before_flag : List ℕ → Option (List ℕ)
 before_flag [] = None
 before_flag (byte ∷ more) = if byte == 0x7E then Some [] else option_map (λ piece. byte ∷ piece) (before_flag more)
 
--- the bytes behind the last flag, where there is a flag
+-- the bytes after the last flag, where there is a flag
 abbrev pub behind_flag : List ℕ → Option (List ℕ)
 behind_flag [] = None
 behind_flag (byte ∷ more) = option_or (behind_flag more) (if byte == 0x7E then Some more else None)
@@ -24,6 +24,6 @@ pieces_of [] = []
 pieces_of (byte ∷ more) =
     (if byte == 0x7E then option_to_list (if_not_empty (before_flag more)) else []) ++ pieces_of more
 
--- the piece, not empty, that this byte ends behind the stream
+-- the piece, not empty, that this byte ends after the stream
 abbrev pub ended_piece : List ℕ → ℕ → Option (List ℕ)
 ended_piece stream byte = if byte == 0x7E then if_not_empty (behind_flag stream) else None

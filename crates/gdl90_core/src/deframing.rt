@@ -87,7 +87,7 @@ impl Deframer {
         }
     }
 
-    /// Takes a byte behind whole bytes of a piece.
+    /// Takes a byte after whole bytes of a piece.
     fn take_unescaped(&mut self, byte: u8)
         requires { byte ≢ 0x7E }
         ensures { (bytes : List ℕ) → Keeps self.old.kept bytes
@@ -101,7 +101,7 @@ impl Deframer {
         }
     }
 
-    /// Takes the byte behind a control-escape.
+    /// Takes the byte after a control-escape.
     fn take_escaped(&mut self, byte: u8)
         ensures { (bytes : List ℕ) → Keeps self.old.kept bytes
             → IsAt self.new.stage self.new.kept (Some (escaped_bytes bytes ++ 0x7D ∷ byte ∷ [])) }

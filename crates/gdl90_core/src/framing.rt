@@ -1,7 +1,7 @@
 //! A message between two flags.
 ghost use Rattle.std.specs.Prelude.{◌≡◌, ◌+◌, ◌<◌, ◌≤◌, ◌++◌, length};
 ghost use Rattle.arrayvec.specs.ArrayVec.{array_vec_len};
-ghost use Rattle.gdl90_core.specs.Framing.{escaped_byte, framed};
+ghost use Rattle.gdl90_core.specs.Framing.{escaped_byte, framed_message};
 
 use crate::fcs;
 use arrayvec::ArrayVec;
@@ -10,16 +10,16 @@ use arrayvec::ArrayVec;
 pub(crate) const FLAG: u8 = 0x7e;
 /// The byte that stands before a byte whose bit 5 is turned.
 pub(crate) const ESCAPE: u8 = 0x7d;
-/// The flag behind the control-escape.
+/// The flag after the control-escape.
 pub(crate) const ESCAPED_FLAG: u8 = 0x5e;
-/// The control-escape behind itself.
+/// The control-escape after itself.
 pub(crate) const ESCAPED_ESCAPE: u8 = 0x5d;
 
 /// Writes the message as it is sent, in place of what `out` held.
 pub fn frame_message(message: &[u8], out: &mut ArrayVec<u8, 2052>)
     requires not_empty { 0 < length message.now }
     requires fits { length message.now ≤ 1022 }
-    ensures { out.new.items ≡ framed message.now }
+    ensures { out.new.items ≡ framed_message message.now }
 {
     let check = fcs(message);
     out.clear();

@@ -18,7 +18,7 @@ use Rattle.ground_core.specs.declared.numbered_key.NumberedKey.{NumberedKey}
 use Rattle.ground_core.specs.contracts.numbered_key.NumberedKeyOrd.TheImpl as numbered
 use Rattle.ground_core.specs.declared.newest.Given.{Given}
 use Rattle.ground_core.proofs.KeyLemmas.{KeyLaws, text_key_is}
-use Rattle.ground_core.proofs.MapKeys.{eq_then}
+use Rattle.std.specs.Cmp.{tied_then}
 
 -- the key of the map that has another report's key
 abbrev pub with_key : NumberedKey → TextKey → NumberedKey
@@ -30,7 +30,7 @@ same_number a b e = grind (arith, nat_tests)
 pub key_at : KeyLaws → (a : NumberedKey) (k : TextKey) → is_at (numbered.ghosts.cmp a) (with_key a k) ≡ same_text_key (report_key a) k
 key_at keys a k =
     let first : Bool = is_eq (nat_cmp a.number (place_number k.place)) in
-    eq_then (nat_cmp a.number (place_number k.place)) _ ∙ ap (λ x. first && x) (keys.agrees (text_report (report_key a)) (text_report k))
+    sym (tied_then (nat_cmp a.number (place_number k.place)) _) ∙ ap (λ x. first && x) (keys.agrees (text_report (report_key a)) (text_report k))
     ∙ (elim (cases_Bool (same_text_key (report_key a) k)) [
       | inl t ↦ (
           let same : report_key a ≡ k = text_key_is keys (report_key a) k t in

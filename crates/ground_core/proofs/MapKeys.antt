@@ -1,5 +1,6 @@
 -- Keys of maps are compared by what they are.
 use Rattle.std.proofs.Common.{◌≡◌, ℕ, ◌+◌, ◌<◌, ◌≤◌, true, false, ◌&&◌, ◌==◌, nat_lt, nat_le, cond, if◌then◌else◌, List, [], ◌∷◌, length, Option, Some, None, IsSome, unwrap_or, refl, sym, ap, subst, ◌∙◌, inl, inr, arith}
+use Rattle.std.specs.Cmp.{tied_then}
 use Rattle.std.specs.Ordering.{nat_cmp, ordering_then, is_eq, is_gt}
 use Rattle.std.specs.declared.cmp.Ordering.{Ordering}
 use Rattle.std.specs.declared.cmp.Ordering.TheVariants.{Less, Equal, Greater}
@@ -7,17 +8,12 @@ use Rattle.std.specs.BTreeMap.{BTreeMap, is_at, get, IsLowerBound}
 use Rattle.std.specs.Map.{lookup}
 use Rattle.std.proofs.lemmas.Bool.{cases_Bool, lt-ltb, le-ltb, leb-true, leb-false}
 use Rattle.std.proofs.lemmas.Bool.Decides.{nat_tests}
-use Rattle.list_members.specs.Tests.{tied_numbers}
+use Rattle.list_members.specs.Tests.{tied_numbers, zero_more}
 use Rattle.ground_core.specs.Views.{count_at}
 use Rattle.ground_core.specs.declared.files.Files.{Files}
 
-pub eq_then : (a b : Ordering) → is_eq (ordering_then a b) ≡ (is_eq a && is_eq b)
-eq_then Less b = refl
-eq_then Equal b = refl
-eq_then Greater b = refl
-
 pub pair_at : (a b c d : ℕ) → is_eq (ordering_then (nat_cmp a c) (nat_cmp b d)) ≡ ((a == c) && (b == d))
-pair_at a b c d = eq_then (nat_cmp a c) (nat_cmp b d) ∙ ap (λ x. x && is_eq (nat_cmp b d)) (sym (tied_numbers a c)) ∙ ap (λ x. (a == c) && x) (sym (tied_numbers b d))
+pair_at a b c d = sym (tied_then (nat_cmp a c) (nat_cmp b d)) ∙ ap (λ x. x && is_eq (nat_cmp b d)) (sym (tied_numbers a c)) ∙ ap (λ x. (a == c) && x) (sym (tied_numbers b d))
 
 abbrev pub pair_cmp : (ℕ × ℕ) → (ℕ × ℕ) → Ordering
 pair_cmp x y = ordering_then (nat_cmp x.0 y.0) (nat_cmp x.1 y.1)
@@ -36,9 +32,7 @@ put_count a b v p count old new g e =
           let here : old v p ≡ Some count = subst (λ x. old x p ≡ Some count) both.0 (subst (λ y. old a y ≡ Some count) both.1 g) in
           rw t (ap (λ o. unwrap_or o 0 + 1) (sym here)))
       | inr f ↦ rw f (zero_more (unwrap_or (old v p) 0))
-    ]) where
-      zero_more : (n : ℕ) → n ≡ n + 0
-      zero_more n = omega arith
+    ])
 
 pub reserve_count : (a b v p : ℕ) (old : ℕ → ℕ → Option ℕ) (new : Option ℕ) → old a b ≡ None
     → new ≡ cond (is_at (pair_cmp (a, b)) (v, p)) (Some 0) (old v p)

@@ -5,6 +5,7 @@ use Rattle.std.proofs.lemmas.Bool.{true≢false}
 use Rattle.std.proofs.lemmas.List.{map-append, append_assoc}
 use Rattle.std.proofs.lemmas.List.Elements.{filter-append}
 use Rattle.list_members.specs.Ranges.{map_same, list_any_same}
+use Rattle.list_members.specs.Tests.{zero_more}
 use Rattle.fisb_time.specs.declared.form.TimeForm.{TimeForm}
 use Rattle.life_table.specs.LifeTable.{LifeTable, greatest_life}
 use Rattle.uplink_frame.specs.declared.station.StationId.{StationId}
@@ -98,9 +99,7 @@ is_sent table station moment before w serial count item g h s e i =
 
 one_more : (b : Bool) (xs : List Item) (item : Item) → length (xs ++ cond b (item ∷ []) []) ≡ length xs + (if b then 1 else 0)
 one_more true xs item = length-append xs (item ∷ [])
-one_more false xs item = ap length (append-nil xs) ∙ zero_more (length xs) where
-  zero_more : (n : ℕ) → n ≡ n + 0
-  zero_more n = omega arith
+one_more false xs item = ap length (append-nil xs) ∙ zero_more (length xs)
 
 pub filed_more : (version product : ℕ) (all : List Item) (item : Item)
     → length (filed_items version product (all ++ item ∷ [])) ≡ length (filed_items version product all) + (if is_filed version product item then 1 else 0)
@@ -237,7 +236,5 @@ whole_counts version product (item ∷ items) before h =
     let none : is_counted version product item ≡ false =
     not_counted (of_file.is_segmented item.form item.payload) (item.version == version) (item.product == product) h.0.whole
     in
-    let same : before + (if is_counted version product item then 1 else 0) ≡ before = ap (λ b. before + (if b then 1 else 0)) none ∙ no_more before in
-    whole_counts version product items before h.1 ∙ ap (count_put version product items) (sym same) where
-      no_more : (n : ℕ) → n + 0 ≡ n
-      no_more n = omega arith
+    let same : before + (if is_counted version product item then 1 else 0) ≡ before = ap (λ b. before + (if b then 1 else 0)) none ∙ sym (zero_more before) in
+    whole_counts version product items before h.1 ∙ ap (count_put version product items) (sym same)

@@ -27,9 +27,7 @@ head_bytes [] = 0
 head_bytes (s ∷ more) = room_of s
 
 bytes-append : (xs ys : List Segment) → bytes_of (xs ++ ys) ≡ bytes_of xs + bytes_of ys
-bytes-append [] ys = zero_more (bytes_of ys) where
-  zero_more : (n : ℕ) → n ≡ 0 + n
-  zero_more n = omega arith
+bytes-append [] ys = let none_more : bytes_of ys ≡ 0 + bytes_of ys = omega arith in none_more
 bytes-append (x ∷ xs) ys = let rest = bytes-append xs ys in omega arith
 
 bytes-filter : (p : Segment → Bool) (xs : List Segment) → bytes_of (filter p xs) ≤ bytes_of xs

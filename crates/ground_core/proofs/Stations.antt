@@ -30,12 +30,9 @@ history-other station b past e =
 pub same-equal : StationsAreTold → (a b : StationId) → same_station a b ≡ true → a ≡ b
 same-equal told a b e = (told a b).0 e
 
-pub same-itself : StationsAreTold → (a : StationId) → same_station a a ≡ true
-same-itself told a = (told a a).1 refl
-
 pub histories-grow : StationsAreTold → HistoriesGrow
 histories-grow told b past = record {
-  own = history-same b.station b past (same-itself told b.station);
+  own = history-same b.station b past ((told b.station b.station).1 refl);
   others = λ station e. history-other station b past e;
 }
 
@@ -83,7 +80,7 @@ new-item : StationsAreTold → (table : LifeTable) (b : StationEvent) (past : Li
 new-item told table b past i h =
     let before = items table b.station (history_of b.station past) in
     subst (λ (s : StationId). IsIn i (items table s (history_of s (b ∷ past)))) (sym (new-station table b.station before b.event i h))
-    (subst (IsIn i) (sym (items-grow table b.station b past (same-itself told b.station))) (IsIn-after i before (new_items table b.station before b.event) h))
+    (subst (IsIn i) (sym (items-grow table b.station b past ((told b.station b.station).1 refl))) (IsIn-after i before (new_items table b.station before b.event) h))
 
 of_station : StationsAreTold → (table : LifeTable) (broadcast : List StationEvent) (i : Item) → IsIn i (all_items table broadcast)
     → IsIn i (items table i.station (history_of i.station broadcast))

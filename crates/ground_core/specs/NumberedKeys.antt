@@ -1,4 +1,4 @@
--- The keys of a map: a report's key behind a number made of its place.
+-- The keys of a map: a report's key after a number made of its place.
 use Rattle.std.specs.Ordering.{nat_cmp, ordering_then}
 use Rattle.std.specs.declared.cmp.Ordering.{Ordering}
 use Rattle.text_reports.specs.Views.{key_view}

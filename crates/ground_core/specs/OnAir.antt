@@ -1,6 +1,6 @@
 -- The moment of the last event of a history, and a frame as it goes on the air.
 use Rattle.std.specs.Prelude.{◌≡◌, ℕ, List, [], ◌∷◌, length, Option, Some, None, unwrap_or}
-use Rattle.uplink_weave.specs.Functions.{woven}
+use Rattle.uplink_weave.specs.Functions.{woven_frame}
 use Rattle.ground_core.specs.History.{Event, event_moment}
 use Rattle.ground_core.specs.Airing.{Frame, used_room, frame_payload}
 use Rattle.ground_core.specs.declared.air_frame.AirFrame.{AirFrame}
@@ -19,4 +19,4 @@ pub record IsOnAir (sent : Frame) (frame : AirFrame) : Type 0 where
   pub slot : frame.slot ≡ sent.slot
   pub bodies : frame.bodies ≡ length sent.segments
   pub used : frame.used ≡ used_room sent
-  pub air : frame.air ≡ woven (frame_payload sent)
+  pub air : frame.air ≡ woven_frame (frame_payload sent)

@@ -34,7 +34,7 @@ abbrev pub room_of_piece : Piece → ℕ
 room_of_piece p = header_length p.file.form (files.is_segmented p.file.form p.file.payload)
     + length (part_of p.file p.number) + 2
 
--- the longest prefix that fits the room, and what stands behind it
+-- the longest prefix that fits the room, and what stands after it
 abbrev pub fitting_pieces : ℕ → List Piece → List Piece
 fitting_pieces room [] = []
 fitting_pieces room (p ∷ more) = if nat_le (room_of_piece p) room

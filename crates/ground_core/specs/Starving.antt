@@ -44,7 +44,7 @@ AreFrom moment (event ∷ later) = (moment ≤ event_moment event) × AreFrom mo
 
 -- A segment before which these wait, at a moment that no later event is before, is aired by the
 -- n-th next fill while it stays live, n being twice the bytes before it by 425, rounded down, plus
--- 2: fewer fills than that are without it. Updates among the later events are behind it in the
+-- 2: fewer fills than that are without it. Updates among the later events are after it in the
 -- order, and change nothing of that.
 abbrev pub NoStarvation : Type 0
 NoStarvation = (table : LifeTable) (station : StationId) (past later : List Event) (moment : ℕ)

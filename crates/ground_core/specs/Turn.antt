@@ -9,7 +9,7 @@ use Rattle.ground_core.specs.declared.line.Turn.TheVariants.{Dropped, Aired, Sto
 abbrev pub fits_in : List InformationFrame → Piece → Bool
 fits_in frames p = nat_le (room_of_piece p) (frame_room - length (spelled_frames frames))
 
--- the front of the queue, and what stands behind it
+-- the front of the queue, and what stands after it
 pub record HasFront (line : List Piece) : Type 0 where
   pub front : Piece
   pub behind : List Piece

@@ -2,7 +2,7 @@
 ghost use Rattle.std.specs.Prelude.{◌≡◌, ◌<◌};
 ghost use Rattle.uplink_frame.specs.Station.{header_of, FitsStation};
 ghost use Rattle.uplink_frame.specs.UplinkFrame.{FitsHeader, payload_of};
-ghost use Rattle.uplink_weave.specs.Functions.{woven};
+ghost use Rattle.uplink_weave.specs.Functions.{woven_frame};
 
 use fisb_time::Moment;
 use uplink_frame::{AppData, StationId, UplinkHeader, write_header};
@@ -27,7 +27,7 @@ pub struct AirFrame {
 pub(crate) fn air_of(station: StationId, slot: u8, frames: &AppData) -> [u8; 552]
     requires station { FitsStation station }
     requires slot { slot < 32 }
-    ensures { result ≡ woven (payload_of (header_of station slot) frames.now) }
+    ensures { result ≡ woven_frame (payload_of (header_of station slot) frames.now) }
 {
     let header = UplinkHeader {
         lat: station.lat,

@@ -91,12 +91,11 @@ impl Ground {
     ///
     /// # Errors
     ///
-    /// `Clock` exactly where the moment is below that of the last accepted call. Else the first of these: `BadText` where
-    /// the text cannot be sent, `FewWords` and `Unlisted` where it has no key, `Coarse` where the form of its type does not
-    /// show the version, `Ahead` where the version is more than 60 seconds after the moment, `Expired` where its life is
-    /// over at the moment, `NotNewer` where the key was given before with a version that is not below this one, `NoFile`
-    /// where the text is sent in segments and no file number is free. `NoMemory` where memory runs out. A refused call
-    /// changes nothing that counts.
+    /// The first of these, each exactly where it says. `Clock`: the moment is below that of the last accepted call.
+    /// `BadText`: the text cannot be sent. `FewWords`, `Unlisted`: it has no key. `Coarse`: the form of its type does not
+    /// show the version. `Ahead`: the version is more than 60 seconds after the moment. `Expired`: its life is over at the
+    /// moment. `NotNewer`: the key was given before with a version that is not below this one. `NoFile`: the text is sent
+    /// in segments and no file number is free. `NoMemory` where memory runs out. A refused call changes nothing that counts.
     pub fn give_text(
         &mut self,
         moment: Moment,
@@ -141,9 +140,9 @@ impl Ground {
     ///
     /// # Errors
     ///
-    /// `Clock` exactly where the moment is below that of the last accepted call. Else the first of these: `Unlisted` where
-    /// the product has no row, `BadBlock` where the scale is over 2 or the number over 1,048,575, then `Coarse`, `Ahead`,
-    /// `Expired` and `NotNewer` as for a text. `NoMemory` where memory runs out. A refused call changes nothing that counts.
+    /// The first of these, each exactly where it says. `Clock`: the moment is below that of the last accepted call.
+    /// `Unlisted`: the product has no row. `BadBlock`: the scale is over 2 or the number over 1,048,575. `Coarse`, `Ahead`,
+    /// `Expired` and `NotNewer`: as for a text. `NoMemory` where memory runs out. A refused call changes nothing that counts.
     pub fn give_cells(
         &mut self,
         moment: Moment,
@@ -188,11 +187,11 @@ impl Ground {
     ///
     /// # Errors
     ///
-    /// `Clock` exactly where the moment is below that of the last accepted call. Else the first of these: `Unlisted` where
-    /// the product has no row, `BadBlock` where the scale is over 2 or the list is empty, does not rise strictly, has more
-    /// than 1,024 numbers or a number of 405,000 or more, then `Coarse`, `Ahead` and `Expired` as for a text, and `NotNewer`
-    /// with the version that was given for the first of the numbers that has one not below this one. `NoMemory` where memory
-    /// runs out. A refused call changes nothing that counts.
+    /// The first of these, each exactly where it says. `Clock`: the moment is below that of the last accepted call.
+    /// `Unlisted`: the product has no row. `BadBlock`: the scale is over 2, or the list is empty, does not rise strictly,
+    /// has more than 1,024 numbers or a number of 405,000 or more. `Coarse`, `Ahead` and `Expired`: as for a text.
+    /// `NotNewer`: one of the numbers was given before with a version not below this one, that of the first such number.
+    /// `NoMemory` where memory runs out. A refused call changes nothing that counts.
     pub fn give_blanks(
         &mut self,
         moment: Moment,
@@ -282,7 +281,7 @@ impl Ground {
             moment,
             slot,
             bodies: bodies as u16,
-            used: frames.used(),
+            used: frames.used_bytes(),
             air: air_of(self.station, slot, &frames),
         })
     }
@@ -421,7 +420,7 @@ impl Ground {
         Ok(items)
     }
 
-    /// Puts an item behind what waits. Whatever takes memory comes before what counts is changed.
+    /// Puts an item after what waits. Whatever takes memory comes before what counts is changed.
     fn put(&mut self, moment: Moment, item: SentItem) -> Result<(), GiveFault>
         requires { of_file.is_segmented item.form item.payload ≡ true
             → count_at self.old.files item.version item.product < file_numbers }
@@ -453,7 +452,7 @@ impl Ground {
         Ok(())
     }
 
-    /// Puts items of blocks behind what waits, which are all sent whole. Whatever takes memory comes before what counts is
+    /// Puts items of blocks after what waits, which are all sent whole. Whatever takes memory comes before what counts is
     /// changed.
     fn put_all(&mut self, moment: Moment, items: &[Rc<SentItem>]) -> Result<(), GiveFault>
         requires { AreWhole (values_of items.now) }

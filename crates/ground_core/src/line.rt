@@ -58,14 +58,14 @@ impl Line {
         self.places.len()
     }
 
-    /// Keeps so many at the front, and drops what stands behind them.
+    /// Keeps so many at the front, and drops what stands after them.
     pub(crate) fn keep_first(&mut self, count: usize)
         ensures { pieces_in self.new ≡ take count (pieces_in self.old) }
     {
         self.places.truncate(count);
     }
 
-    /// Puts the segments of an item behind all others.
+    /// Puts the segments of an item after all others.
     pub(crate) fn put(&mut self, item: &Rc<SentItem>) -> Result<(), AllocError>
         ensures ok { OnOk result (pieces_in self.new
             ≡ pieces_in self.old
@@ -80,7 +80,7 @@ impl Line {
         Ok(())
     }
 
-    /// Puts the segments of items behind all others, one item after another, or those of some of them.
+    /// Puts the segments of items after all others, one item after another, or those of some of them.
     pub(crate) fn put_all(&mut self, items: &[Rc<SentItem>]) -> Result<(), AllocError>
         ensures ok { OnOk result (pieces_in self.new
             ≡ pieces_in self.old ++ flat_map pieces_at (values_of items.now)) }

@@ -6,7 +6,7 @@ use std::alloc::{AllocError, Global};
 use std::rc::Rc;
 use text_reports::{TextKey, Word};
 
-/// A report's key behind a number made of its place. Most keys have their type in common with many others, and so a map
+/// A report's key after a number made of its place. Most keys have their type in common with many others, and so a map
 /// tells them apart by one comparison of numbers. Copies share the key.
 #[derive(Drop, PartialEq, Eq, PartialOrd, Ord)]
 pub(crate) struct NumberedKey {

@@ -70,7 +70,7 @@ impl Place {
         write_apdu(&apdu, room)
     }
 
-    /// Puts its information frame behind the others, where it fits, and answers whether it did.
+    /// Puts its information frame after the others, where it fits, and answers whether it did.
     pub(crate) fn is_pushed(&self, room: &mut [u8; 422], frames: &mut AppData) -> bool
         ensures answer { result
             ≡ nat_le (room_of_piece (place_view self.now))

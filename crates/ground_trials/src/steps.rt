@@ -37,7 +37,7 @@ pub(crate) const REGIONAL: Area = Area(63, 0);
 /// What is asked of a ground, and what it has to answer.
 #[derive(Clone, Copy)]
 pub(crate) enum Step {
-    /// To take a text at a moment under a version: a front, and so many letters A behind it.
+    /// To take a text at a moment under a version: a front, and so many letters A after it.
     Give(u64, u64, &'static str, usize, Answer),
     /// To take a block under a version: where it lies, its number, the intensity of all its cells.
     Cells(u64, Area, u32, u8, Answer),
@@ -69,7 +69,7 @@ pub(crate) fn moment_of(seconds: u64) -> Result<Moment, Fail> {
     Ok(moment)
 }
 
-/// A text with so many letters A behind its front.
+/// A text with so many letters A after its front.
 pub(crate) fn with_letters(alloc: Global, front: &str, count: usize) -> Result<String, AllocError> {
     let mut text = String::from_str(alloc, front)?;
     for _ in 0..count {

@@ -6,7 +6,7 @@ use Rattle.std.specs.Ordering.{int_eq}
 use Rattle.std.specs.Prelude.{int_lt, unsigned_abs}
 use Rattle.std.proofs.lemmas.Bool.{cases_Bool, leb-true, ltb-false, false≢true, not-false}
 use Rattle.std.proofs.lemmas.Slice.Eq.{bytes_eq-Decides}
-use Rattle.list_members.specs.Tests.{none_from, ok_past_test}
+use Rattle.list_members.specs.Tests.{none_from, ok_past_test, some_past_test}
 use Rattle.toml.specs.Data.{Data, Items, no_items, item}
 use Rattle.fisb_time.specs.declared.form.TimeForm.{TimeForm}
 use Rattle.fisb_time.specs.declared.form.TimeForm.TheVariants.{Minute, Second, DayMinute, DaySecond}
@@ -44,17 +44,13 @@ some_if : (b : Bool) (n m : ℕ) → cond b (Some n) None ≡ Some m → (b ≡ 
 some_if true n m h = (refl, cc)
 some_if false n m h = absurd (cc)
 
-none_if : (b : Bool) (o : Option ℕ) (m : ℕ) → cond b None o ≡ Some m → (b ≡ false) × (o ≡ Some m)
-none_if true o m h = absurd (cc)
-none_if false o m h = (refl, h)
-
 at_least_one : (z : ℤ) → int_lt z (pos 1) ≡ false → 1 ≤ unsigned_abs z
 at_least_one (pos n) h = ltb-false n 1 h
 at_least_one (negsuc n) h = absurd (false≢true (sym h))
 
 life_lives : (late : ℕ) (form : TimeForm) (life : ℤ) (n : ℕ) → life_in late form life ≡ Some n → (1 ≤ n) × IsWithinForm late form n
 life_lives late form life n h =
-    let (long, rest) = none_if (int_lt life (pos 1)) (cond (is_within late form (unsigned_abs life)) (Some (unsigned_abs life)) None) n h in
+    let (long, rest) = some_past_test (int_lt life (pos 1)) (cond (is_within late form (unsigned_abs life)) (Some (unsigned_abs life)) None) n h in
     let (within, same) = some_if (is_within late form (unsigned_abs life)) (unsigned_abs life) n rest in
     (subst (λ m. 1 ≤ m) same (at_least_one life long), subst (λ m. IsWithinForm late form m) same (within_form late form (unsigned_abs life) within))
 

@@ -7,7 +7,7 @@ use Rattle.std.proofs.lemmas.List.Elements.{All-from_recursion}
 use Rattle.std.proofs.lemmas.Slice.Eq.{bytes_eq-Decides}
 use Rattle.life_table.specs.LifeTable.{LifeTable, TextRow, RadarRow, row}
 use Rattle.life_table.specs.Document.{is_word}
-use Rattle.life_table.specs.Rules.{IsTable, IsTextRow, IsRadarRow, IsWithinForm, own}
+use Rattle.life_table.specs.Rules.{IsTable, IsTextRow, IsRadarRow, IsWithinForm, own_row}
 use Rattle.life_table.proofs.Behind.{AllBehind, each_placed, find_front, find_there, Contains-found}
 use Rattle.life_table.proofs.Finding.{found_each}
 
@@ -23,7 +23,7 @@ pub record IsSound (late : ℕ) (r : TextRow) : Type 0 where
 pub record IsNew (late : ℕ) (rows : List TextRow) (r : TextRow) : Type 0 where
   pub sound : IsSound late r
   pub new : find (λ q. bytes_eq q.word r.word) rows ≡ None
-  pub named : (r.kind ≡ r.word) ⊎ (find (λ q. bytes_eq q.word r.kind) rows ≡ Some (own r))
+  pub named : (r.kind ≡ r.word) ⊎ (find (λ q. bytes_eq q.word r.kind) rows ≡ Some (own_row r))
 
 pub record IsNewRadar (late : ℕ) (rows : List RadarRow) (r : RadarRow) : Type 0 where
   pub product : (r.product ≡ 63) ⊎ (r.product ≡ 64)
@@ -34,20 +34,20 @@ pub record IsNewRadar (late : ℕ) (rows : List RadarRow) (r : RadarRow) : Type 
 word_finds : (late : ℕ) (before after : List TextRow) (r : TextRow) → IsNew late before r → find (λ q. bytes_eq q.word r.word) (before ++ r ∷ after) ≡ Some r
 word_finds late before after r n = find_there (λ q. bytes_eq q.word r.word) before after r n.new ((bytes_eq-Decides r.word r.word).1 refl)
 
-type_finds : (late : ℕ) (before after : List TextRow) (r : TextRow) → IsNew late before r → find (λ q. bytes_eq q.word r.kind) (before ++ r ∷ after) ≡ Some (own r)
+type_finds : (late : ℕ) (before after : List TextRow) (r : TextRow) → IsNew late before r → find (λ q. bytes_eq q.word r.kind) (before ++ r ∷ after) ≡ Some (own_row r)
 type_finds late before after r n =
     elim n.named [
       | inl itself ↦
           let found : find (λ q. bytes_eq q.word r.kind) (before ++ r ∷ after) ≡ Some r =
           subst (λ k. find (λ q. bytes_eq q.word k) (before ++ r ∷ after) ≡ Some r) (sym itself) (word_finds late before after r n) in
-          let whole : r ≡ own r = ap (λ w. row w r.kind r.words r.life r.form) (sym itself) in
+          let whole : r ≡ own_row r = ap (λ w. row w r.kind r.words r.life r.form) (sym itself) in
           found ∙ ap Some whole
-      | inr earlier ↦ find_front (λ q. bytes_eq q.word r.kind) before (r ∷ after) (own r) earlier
+      | inr earlier ↦ find_front (λ q. bytes_eq q.word r.kind) before (r ∷ after) (own_row r) earlier
     ]
 
-stands_behind : (late : ℕ) (before : List TextRow) (r : TextRow) → IsNew late before r → (r.kind ≡ r.word) ⊎ Contains before (own r)
+stands_behind : (late : ℕ) (before : List TextRow) (r : TextRow) → IsNew late before r → (r.kind ≡ r.word) ⊎ Contains before (own_row r)
 stands_behind late before r n =
-    elim n.named [ inl itself ↦ inl itself | inr earlier ↦ inr (Contains-found (λ q. bytes_eq q.word r.kind) before (own r) earlier) ]
+    elim n.named [ inl itself ↦ inl itself | inr earlier ↦ inr (Contains-found (λ q. bytes_eq q.word r.kind) before (own_row r) earlier) ]
 
 text_keeps : (t : LifeTable) (before after : List TextRow) (r : TextRow) → t.texts ≡ before ++ r ∷ after → IsNew t.late before r → IsTextRow t r
 text_keeps t before after r e n = record {

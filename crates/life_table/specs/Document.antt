@@ -11,6 +11,7 @@ use Rattle.toml.specs.Data.{no_items, item, Members, no_members, member, get, as
 use Rattle.toml.specs.Data.{as_array, as_table}
 use Rattle.fisb_time.specs.declared.form.TimeForm.{TimeForm}
 use Rattle.fisb_time.specs.declared.form.TimeForm.TheVariants.{Minute, Second, DayMinute, DaySecond}
+use Rattle.fisb_time.specs.Moment.{day_seconds}
 use Rattle.life_table.specs.Products.{regional_radar, conus_radar}
 use Rattle.life_table.specs.LifeTable.{thirty_days}
 use Rattle.life_table.specs.declared.fault.RowFault.{RowFault}
@@ -89,8 +90,8 @@ radar_product product = if int_eq product (pos regional_radar) then Some regiona
 -- a life in a form without a date ends, with all that may be late, within a day; another within
 -- thirty days
 abbrev pub is_within : ℕ → TimeForm → ℕ → Bool
-is_within late Minute life = nat_le (life + late + 60) 86400
-is_within late Second life = nat_le (life + late + 60) 86400
+is_within late Minute life = nat_le (life + late + 60) day_seconds
+is_within late Second life = nat_le (life + late + 60) day_seconds
 is_within late DayMinute life = nat_le life thirty_days
 is_within late DaySecond life = nat_le life thirty_days
 

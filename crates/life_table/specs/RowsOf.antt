@@ -1,4 +1,4 @@
--- The rows that a document writes: each the entry of its value behind the rows before it, or the
+-- The rows that a document writes: each the entry of its value after the rows before it, or the
 -- first fault.
 use Rattle.std.specs.Prelude.{ℕ, ◌+◌, ℤ, not, ◌==◌, if◌then◌else◌, List, [], ◌∷◌, ◌++◌, length}
 use Rattle.std.specs.Prelude.{codes, find, is_some, Result, Ok, Err}
@@ -78,13 +78,13 @@ radar_entry late rows value =
     or_fault Shape (integer_at (codes "form") value)
     (λ form. radar_row_of late rows product life form)))
 
--- the rows of reports, behind those that are read; the document is row 0
+-- the rows of reports, after those that are read; the document is row 0
 abbrev pub text_rows : ℕ → List TextRow → Items → Result (List TextRow) Fault
 text_rows late rows no_items = Ok rows
 text_rows late rows (item value more) = and_then (λ r. text_rows late (rows ++ r ∷ []) more)
     (with_row_number (length rows + 1) (text_entry late rows value))
 
--- the rows of radar, behind so many rows of reports
+-- the rows of radar, after so many rows of reports
 abbrev pub radar_rows : ℕ → ℕ → List RadarRow → Items → Result (List RadarRow) Fault
 radar_rows late before rows no_items = Ok rows
 radar_rows late before rows (item value more) = and_then

@@ -188,7 +188,7 @@ fn text_rows(alloc: Global, late: u64, rows: &[Value]) -> Result<Vec<KeptText>, 
     Ok(texts)
 }
 
-/// The rows of radar behind so many rows of reports, or the first faulty one.
+/// The rows of radar after so many rows of reports, or the first faulty one.
 fn radar_rows(
     alloc: Global,
     late: u64,

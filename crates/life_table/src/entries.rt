@@ -128,7 +128,7 @@ fn life_in(late: u64, form: TimeForm, life: i64) -> Option<u64>
     if within { Some(life) } else { None }
 }
 
-/// The row of reports that a value writes, behind the rows before it.
+/// The row of reports that a value writes, after the rows before it.
 #[tactic(auto, unfolding(crate::specs::RowsOf::text_entry))]
 pub(crate) fn judged_text<'a>(
     late: u64,
@@ -237,7 +237,7 @@ fn alike_text<'a>(earlier: &[KeptText], row: &'a Value) -> Result<JudgedText<'a>
     })
 }
 
-/// The row of radar that a value writes, behind the rows before it.
+/// The row of radar that a value writes, after the rows before it.
 #[tactic(auto, unfolding(crate::specs::RowsOf::radar_entry))]
 pub(crate) fn judged_radar(
     late: u64,

@@ -2,7 +2,7 @@
 
 use thiserror::Error;
 
-/// What is wrong with a row. Row 0 is the document itself, the `text` rows follow in their order, and the `radar` rows behind
+/// What is wrong with a row. Row 0 is the document itself, the `text` rows follow in their order, and the `radar` rows after
 /// them.
 #[derive(Clone, Copy, Debug, PartialEq, Eq, Error)]
 pub enum RowFault {

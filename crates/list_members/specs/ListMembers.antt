@@ -1,8 +1,10 @@
 -- What stands in lists that are made of other lists.
-use Rattle.std.proofs.Common.{◌≡◌, ℕ, zero, suc, Bool, true, ◌⊎◌, List, [], ◌∷◌, map, flat_map, filter_map, Option, Some, None, slice_get, refl, sym, ap, subst, ◌∙◌, inl, inr}
-use Rattle.std.specs.List.{All, list_any, cons_option}
+use Rattle.std.proofs.Common.{◌≡◌, ℕ, zero, suc, Bool, true, ◌⊎◌, List, [], ◌∷◌, map, flat_map, filter, filter_map, length, not, ◌≤◌, Option, Some, None, slice_get, refl, sym, ap, subst, ◌∙◌, inl, inr, arith}
+use Rattle.std.specs.List.{All, list_any, cons_option, sum_by}
 use Rattle.std.proofs.lemmas.List.Elements.{All-nil, All-cons}
 use Rattle.std.proofs.lemmas.Bool.{or_left, or_right, or_cases}
+use Rattle.std.proofs.lemmas.List.Filters.{length-filter_both}
+use Rattle.std.proofs.lemmas.List.Sums.{sum_by-cons}
 use Rattle.list_members.specs.Membership.{IsIn}
 use Rattle.list_members.specs.Members.{IsIn-before, IsIn-after, IsIn-either}
 
@@ -74,3 +76,11 @@ got_in x (y ∷ xs) (suc i) e = inr (got_in x xs i e)
 pub All-members : {A : Type 0} (P : A → Type 0) (xs : List A) → ((x : A) → IsIn x xs → P x) → All P xs
 All-members P [] each = All-nil P
 All-members P (x ∷ xs) each = All-cons P x xs (each x (inl refl)) (All-members P xs (λ y h. each y (inr h)))
+
+pub length_ones : {A : Type 0} (xs : List A) → length xs ≡ sum_by (λ x. 1) xs
+length_ones [] = refl
+length_ones (x ∷ xs) = let more = length_ones xs in omega (arith, more, sum_by-cons (λ y. 1) x xs)
+
+pub filter_shorter : {A : Type 0} (p : A → Bool) (xs : List A) → length (filter p xs) ≤ length xs
+filter_shorter p xs =
+    let both = length-filter_both p (λ x. not (p x)) (λ x. refl) xs in omega (arith, both)

@@ -2,7 +2,7 @@
 use Rattle.std.proofs.Common.{◌≡◌, ℕ, Bool, true, false, ◌&&◌, ◌==◌, nat_lt, ◌⊎◌, List, Option, Some, None, Ordering, refl}
 use Rattle.std.proofs.Common.{sym, ap, ap₂, ◌∙◌, inl, inr}
 use Rattle.std.specs.Bool.{Decides}
-use Rattle.std.specs.Cmp.{IsTotalOrder, tied_then}
+use Rattle.std.specs.Cmp.{IsTotalOrder, Equal-is, tied_then}
 use Rattle.std.specs.Cmp.Lexicographic.{slice_cmp, bytes_decides, options_total}
 use Rattle.std.specs.Option.{option_cmp}
 use Rattle.std.specs.Ordering.{nat_cmp, is_eq, ordering_reverse, ordering_then}
@@ -12,7 +12,7 @@ use Rattle.std.proofs.lemmas.Bool.{cases_Bool, eqb-true, and_parts, and_from}
 use Rattle.std.proofs.Math.Bool.{and_assoc}
 use Rattle.std.proofs.lemmas.Map.Text.{is_eq-slice_cmp}
 use Rattle.bit_fields.specs.Bits.{bit}
-use Rattle.radar_core.specs.Keys.{block_key_cmp}
+use Rattle.radar_core.specs.Keys.{block_key_cmp, block_keys_total}
 use Rattle.radar_core.specs.declared.key.BlockKey.{BlockKey}
 use Rattle.text_reports.specs.TextKey.{TextKey, same_third, same_text_key, text_key_cmp}
 use Rattle.picture_core.specs.Key.{Key, radar_block, text_report, same_key, key_cmp}
@@ -23,20 +23,14 @@ text_key_total =
     (then_total (on_total (λ (k : TextKey). k.place) nat_list_cmp_total)
     (on_total (λ (k : TextKey). k.third) (options_total nat_list_cmp_total)))
 
-block_key_total : IsTotalOrder block_key_cmp
-block_key_total =
-    then_total (on_total (λ (k : BlockKey). k.product) nat_cmp_total)
-    (then_total (on_total (λ (k : BlockKey). k.scale) nat_cmp_total)
-    (then_total (on_total (λ (k : BlockKey). bit k.south) nat_cmp_total) (on_total (λ (k : BlockKey). k.number) nat_cmp_total)))
-
 key_antisymm : (x y : Key) → key_cmp x y ≡ ordering_reverse (key_cmp y x)
-key_antisymm (radar_block a) (radar_block b) = block_key_total.antisymm a b
+key_antisymm (radar_block a) (radar_block b) = block_keys_total.antisymm a b
 key_antisymm (radar_block a) (text_report b) = refl
 key_antisymm (text_report a) (radar_block b) = refl
 key_antisymm (text_report a) (text_report b) = text_key_total.antisymm a b
 
 key_trans : (x y z : Key) → key_cmp x y ≡ Less → key_cmp y z ≡ Less → key_cmp x z ≡ Less
-key_trans (radar_block a) (radar_block b) (radar_block c) p q = block_key_total.trans a b c p q
+key_trans (radar_block a) (radar_block b) (radar_block c) p q = block_keys_total.trans a b c p q
 key_trans (radar_block a) (radar_block b) (text_report c) p q = refl
 key_trans (radar_block a) (text_report b) (radar_block c) p q = absurd (cc)
 key_trans (radar_block a) (text_report b) (text_report c) p q = refl
@@ -46,7 +40,7 @@ key_trans (text_report a) (text_report b) (radar_block c) p q = absurd (cc)
 key_trans (text_report a) (text_report b) (text_report c) p q = text_key_total.trans a b c p q
 
 key_congr : (x y z : Key) → key_cmp x y ≡ Equal → key_cmp x z ≡ key_cmp y z
-key_congr (radar_block a) (radar_block b) (radar_block c) p = block_key_total.congr a b c p
+key_congr (radar_block a) (radar_block b) (radar_block c) p = block_keys_total.congr a b c p
 key_congr (radar_block a) (radar_block b) (text_report c) p = refl
 key_congr (radar_block a) (text_report b) z p = absurd (cc)
 key_congr (text_report a) (radar_block b) z p = absurd (cc)
@@ -66,10 +60,10 @@ equal_numbers m n equal = elim (cases_Bool (nat_lt m n)) [
   ]
 ]
 
-then_equal : (o p : Ordering) → ordering_then o p ≡ Equal → (o ≡ Equal) × (p ≡ Equal)
-then_equal Less p equal = absurd (cc)
-then_equal Equal p equal = (refl, equal)
-then_equal Greater p equal = absurd (cc)
+both_equal : (o p : Ordering) → ordering_then o p ≡ Equal → (o ≡ Equal) × (p ≡ Equal)
+both_equal Less p equal = absurd (cc)
+both_equal Equal p equal = (refl, equal)
+both_equal Greater p equal = absurd (cc)
 
 equal_south : (a b : Bool) → bit a ≡ bit b → a ≡ b
 equal_south true true same = refl
@@ -79,9 +73,9 @@ equal_south false false same = refl
 
 equal_blocks : (a b : BlockKey) → block_key_cmp a b ≡ Equal → a ≡ b
 equal_blocks a b equal =
-    let product = then_equal (nat_cmp a.product b.product) _ equal in
-    let scale = then_equal (nat_cmp a.scale b.scale) _ product.1 in
-    let south = then_equal (nat_cmp (bit a.south) (bit b.south)) _ scale.1 in
+    let product = both_equal (nat_cmp a.product b.product) _ equal in
+    let scale = both_equal (nat_cmp a.scale b.scale) _ product.1 in
+    let south = both_equal (nat_cmp (bit a.south) (bit b.south)) _ scale.1 in
     let e₁ : a.product ≡ b.product = equal_numbers a.product b.product product.0 in
     let e₂ : a.scale ≡ b.scale = equal_numbers a.scale b.scale scale.0 in
     let e₃ : a.south ≡ b.south = equal_south a.south b.south (equal_numbers (bit a.south) (bit b.south) south.0) in
@@ -90,15 +84,10 @@ equal_blocks a b equal =
     ap (λ (p : ℕ). made p a.scale a.south a.number) e₁ ∙ ap (λ (s : ℕ). made b.product s a.south a.number) e₂
     ∙ ap (λ (h : Bool). made b.product b.scale h a.number) e₃ ∙ ap (made b.product b.scale b.south) e₄
 
-equal_from_is_eq : (o : Ordering) → is_eq o ≡ true → o ≡ Equal
-equal_from_is_eq Less same = absurd (cc)
-equal_from_is_eq Equal same = refl
-equal_from_is_eq Greater same = absurd (cc)
-
 same_block-Decides : (a b : BlockKey) → Decides (is_eq (block_key_cmp a b)) (a ≡ b)
 same_block-Decides a b = (
-  λ t. equal_blocks a b (equal_from_is_eq (block_key_cmp a b) t),
-  λ e. ap (λ (k : BlockKey). is_eq (block_key_cmp a k)) (sym e) ∙ ap is_eq (tied_itself block_key_total a),
+  λ t. equal_blocks a b ((Equal-is (block_key_cmp a b)).0 t),
+  λ e. ap (λ (k : BlockKey). is_eq (block_key_cmp a k)) (sym e) ∙ ap is_eq (tied_itself block_keys_total a),
 )
 
 -- keys are the same exactly where they are equal

@@ -3,42 +3,42 @@ use Rattle.std.proofs.Common.{◌≡◌, ℕ, zero, suc, ◌+◌, ◌-◌, ◌%�
 use Rattle.std.proofs.lemmas.List.{get_or_past}
 use Rattle.std.proofs.lemmas.Bool.{cases_lt, cases_eq}
 use Rattle.std.specs.Int.Bits.{bit_xor, xor_zero_r, xor_self}
-use Rattle.poly256.specs.Polynomial.{added, derivative_from, derivative_of}
+use Rattle.poly256.specs.Polynomial.{added_copies, derivative_from, derivative_of}
 
-added-zero : (n : ℕ) → added n 0 ≡ 0
-unfolding added
-added-zero zero = refl
-added-zero (suc n) = added-zero n
+added_copies-zero : (n : ℕ) → added_copies n 0 ≡ 0
+unfolding added_copies
+added_copies-zero zero = refl
+added_copies-zero (suc n) = added_copies-zero n
 
 -- an even number of times is 0, an odd number of times is once
 record Parity (n c : ℕ) : Type 0 where
-  even : n % 2 ≡ 0 → added n c ≡ 0
-  odd : n % 2 ≡ 1 → added n c ≡ c
+  even : n % 2 ≡ 0 → added_copies n c ≡ 0
+  odd : n % 2 ≡ 1 → added_copies n c ≡ c
 
-added-Parity : (n c : ℕ) → Parity n c
-unfolding added
-added-Parity zero c = record { even = λ e. refl; odd = λ e. absurd (omega arith) }
-added-Parity (suc n) c = let p = added-Parity n c in record {
+added_copies-Parity : (n c : ℕ) → Parity n c
+unfolding added_copies
+added_copies-Parity zero c = record { even = λ e. refl; odd = λ e. absurd (omega arith) }
+added_copies-Parity (suc n) c = let p = added_copies-Parity n c in record {
   even = λ e. ap (bit_xor c) (p.odd (omega arith)) ∙ xor_self c;
   odd = λ e. ap (bit_xor c) (p.even (omega arith)) ∙ xor_zero_r c;
 }
 
-coefficient-derivative_from : (n : ℕ) (cs : List ℕ) (k : ℕ) → get_or (derivative_from n cs) k 0 ≡ added (n + k) (get_or cs k 0)
+coefficient-derivative_from : (n : ℕ) (cs : List ℕ) (k : ℕ) → get_or (derivative_from n cs) k 0 ≡ added_copies (n + k) (get_or cs k 0)
 unfolding derivative_from
-coefficient-derivative_from n [] k = sym (added-zero (n + k))
-coefficient-derivative_from n (c ∷ cs) zero = ap (λ (m : ℕ). added m c) (let e : n ≡ n + 0 = omega arith in e)
+coefficient-derivative_from n [] k = sym (added_copies-zero (n + k))
+coefficient-derivative_from n (c ∷ cs) zero = ap (λ (m : ℕ). added_copies m c) (let e : n ≡ n + 0 = omega arith in e)
 coefficient-derivative_from n (c ∷ cs) (suc k) =
-    coefficient-derivative_from (suc n) cs k ∙ ap (λ (m : ℕ). added m (get_or cs k 0)) (let e : suc n + k ≡ n + suc k = omega arith in e)
+    coefficient-derivative_from (suc n) cs k ∙ ap (λ (m : ℕ). added_copies m (get_or cs k 0)) (let e : suc n + k ≡ n + suc k = omega arith in e)
 
-coefficient-derivative : (cs : List ℕ) (k : ℕ) → get_or (derivative_of cs) k 0 ≡ added (suc k) (get_or cs (suc k) 0)
+coefficient-derivative : (cs : List ℕ) (k : ℕ) → get_or (derivative_of cs) k 0 ≡ added_copies (suc k) (get_or cs (suc k) 0)
 unfolding derivative_of
-coefficient-derivative [] k = sym (added-zero (suc k))
+coefficient-derivative [] k = sym (added_copies-zero (suc k))
 coefficient-derivative (c ∷ cs) k =
-    coefficient-derivative_from 1 cs k ∙ ap (λ (m : ℕ). added m (get_or cs k 0)) (let e : 1 + k ≡ suc k = omega arith in e)
+    coefficient-derivative_from 1 cs k ∙ ap (λ (m : ℕ). added_copies m (get_or cs k 0)) (let e : 1 + k ≡ suc k = omega arith in e)
 
 pub derivative-past : (cs : List ℕ) (k : ℕ) → length cs ≤ suc k → get_or (derivative_of cs) k 0 ≡ 0
 derivative-past cs k h =
-    coefficient-derivative cs k ∙ ap (added (suc k)) (get_or_past cs (suc k) 0 h) ∙ added-zero (suc k)
+    coefficient-derivative cs k ∙ ap (added_copies (suc k)) (get_or_past cs (suc k) 0 h) ∙ added_copies-zero (suc k)
 
 -- the derivative is written below x^(power - 1)
 pub record Differentiates (room list : List ℕ) (power : ℕ) : Type 0 where
@@ -58,8 +58,8 @@ derivative_step room list power d h fits = let odd : power % 2 ≡ 1 = d.odd in 
         let inside : power - 1 < length room = omega arith in
         let same : suc k ≡ power = omega arith in
         rw here (get_or-set_same room (power - 1) (get_or list power 0) 0 inside)
-        ∙ sym (coefficient-derivative list k ∙ ap₂ added same (ap (λ (m : ℕ). get_or list m 0) same)
-        ∙ (added-Parity power (get_or list power 0)).odd odd)
+        ∙ sym (coefficient-derivative list k ∙ ap₂ added_copies same (ap (λ (m : ℕ). get_or list m 0) same)
+        ∙ (added_copies-Parity power (get_or list power 0)).odd odd)
     | inr other ↦
         let apart : k ≢ power - 1 = other in
         get_or-set_other room (power - 1) k (get_or list power 0) 0 apart
@@ -67,7 +67,7 @@ derivative_step room list power d h fits = let odd : power % 2 ≡ 1 = d.odd in 
           | inl before ↦ d.done k before
           | inr after ↦
               d.left k after
-              ∙ sym (coefficient-derivative list k ∙ (added-Parity (suc k) (get_or list (suc k) 0)).even (omega arith))
+              ∙ sym (coefficient-derivative list k ∙ (added_copies-Parity (suc k) (get_or list (suc k) 0)).even (omega arith))
         ]
   ];
   left = λ k past.

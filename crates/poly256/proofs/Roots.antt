@@ -4,10 +4,10 @@ use Rattle.std.specs.Int.Bits.{bit_xor, xor_zero_r}
 use Rattle.std.proofs.lemmas.Nat.{xor_comm}
 use Rattle.std.proofs.lemmas.Bool.{cases_lt}
 use Rattle.gf256_core.specs.Field.{IsField}
-use Rattle.poly256.specs.Polynomial.{element_product, trimmed, value_at}
+use Rattle.poly256.specs.Polynomial.{element_product, trimmed_coefficients, value_at}
 use Rattle.poly256.specs.Laws.{AreDifferent, HasFewRoots}
 use Rattle.bit_fields.specs.Xors.{xor-same_left, xor-equal, xor-through}
-use Rattle.poly256.proofs.Trims.{trimmed-zeros}
+use Rattle.poly256.proofs.Trims.{trimmed_coefficients-zeros}
 use Rattle.poly256.proofs.Values.{value-empty, value-cons, value-fits}
 
 -- the quotient by x + at
@@ -118,7 +118,7 @@ pub few_roots : (F : IsField 391) → HasFewRoots
 few_roots F cs points bytes t some d roots = elim (cases_lt (length points) (length cs)) [
   | inl few ↦ few
   | inr many ↦
-      let zero : trimmed cs ≡ [] = trimmed-zeros cs (zero_from_roots F points cs bytes many d roots) in
+      let zero : trimmed_coefficients cs ≡ [] = trimmed_coefficients-zeros cs (zero_from_roots F points cs bytes many d roots) in
       let none : length cs ≡ 0 = ap length (sym t ∙ zero) in
       absurd (omega arith)
 ]

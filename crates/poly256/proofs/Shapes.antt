@@ -4,10 +4,10 @@ use Rattle.std.proofs.lemmas.List.{get_or_past, get_or-take, length-take}
 use Rattle.std.proofs.lemmas.Bool.{cases_lt}
 use Rattle.std.specs.Int.Bits.{bit_xor}
 use Rattle.list_members.specs.Places.{get_or-zeros}
-use Rattle.poly256.specs.Polynomial.{trimmed, sum_of, list_product, IsPolynomial}
+use Rattle.poly256.specs.Polynomial.{trimmed_coefficients, sum_of, list_product, IsPolynomial}
 use Rattle.poly256.proofs.ListProducts.{product-empty_left, product-empty_right, length-product}
 use Rattle.poly256.proofs.ListSums.{coefficient-sum}
-use Rattle.poly256.proofs.Trims.{trimmed-empty, trimmed-trimmed, trimmed_from_same, coefficient-trimmed, length-trimmed}
+use Rattle.poly256.proofs.Trims.{trimmed_coefficients-empty, trimmed_coefficients-trimmed_coefficients, trimmed_from_same, coefficient-trimmed_coefficients, length-trimmed_coefficients}
 use Rattle.poly256.proofs.Rooms.{coefficient-take_past}
 
 pub empty-IsPolynomial : (capacity : ℕ) → 1 ≤ capacity → capacity ≤ 1024 → IsPolynomial capacity []
@@ -16,18 +16,18 @@ empty-IsPolynomial capacity low high = record {
   high = high;
   fits = omega arith;
   bytes = λ k. lit< tt;
-  no_end_zeros = trimmed-empty;
+  no_end_zeros = trimmed_coefficients-empty;
 }
 
-pub trimmed-IsPolynomial :
+pub trimmed_coefficients-IsPolynomial :
     (capacity : ℕ) (cs : List ℕ) → 1 ≤ capacity → capacity ≤ 1024 → length cs ≤ capacity → ((k : ℕ) → get_or cs k 0 < 256)
-    → IsPolynomial capacity (trimmed cs)
-trimmed-IsPolynomial capacity cs low high fits bytes = record {
+    → IsPolynomial capacity (trimmed_coefficients cs)
+trimmed_coefficients-IsPolynomial capacity cs low high fits bytes = record {
   low = low;
   high = high;
-  fits = omega (arith, length-trimmed cs);
-  bytes = λ k. rw (coefficient-trimmed cs k) (bytes k);
-  no_end_zeros = trimmed-trimmed cs;
+  fits = omega (arith, length-trimmed_coefficients cs);
+  bytes = λ k. rw (coefficient-trimmed_coefficients cs k) (bytes k);
+  no_end_zeros = trimmed_coefficients-trimmed_coefficients cs;
 }
 
 take-take : (xs : List ℕ) (m n : ℕ) → m ≤ n → take m (take n xs) ≡ take m xs
@@ -40,18 +40,18 @@ take-take (x ∷ xs) (suc m) (suc n) h = ap (λ (ys : List ℕ). x ∷ ys) (take
 -- what is kept of the front of a list
 pub kept-shape :
     (capacity bound len : ℕ) (xs : List ℕ) → 1 ≤ capacity → capacity ≤ 1024 → bound ≤ capacity
-    → take len (take bound xs) ≡ trimmed (take bound xs) → len ≤ length (take bound xs) → ((k : ℕ) → get_or (take bound xs) k 0 < 256)
+    → take len (take bound xs) ≡ trimmed_coefficients (take bound xs) → len ≤ length (take bound xs) → ((k : ℕ) → get_or (take bound xs) k 0 < 256)
     → (len ≤ capacity) × IsPolynomial capacity (take len xs)
 kept-shape capacity bound len xs low high room value within bytes =
     let l : length (take bound xs) ≤ bound = omega (arith, length-take bound xs) in
-    let same : take len xs ≡ trimmed (take bound xs) = sym (take-take xs len bound (omega arith)) ∙ value in
-    (omega arith, (rw same (trimmed-IsPolynomial capacity (take bound xs) low high (omega arith) bytes)))
+    let same : take len xs ≡ trimmed_coefficients (take bound xs) = sym (take-take xs len bound (omega arith)) ∙ value in
+    (omega arith, (rw same (trimmed_coefficients-IsPolynomial capacity (take bound xs) low high (omega arith) bytes)))
 
 -- the front of a room that has the coefficients of a shorter list
-pub front-trimmed :
+pub front-trimmed_coefficients :
     (room target : List ℕ) (n : ℕ) → ((k : ℕ) → get_or room k 0 ≡ get_or target k 0) → ((k : ℕ) → n ≤ k → get_or target k 0 ≡ 0)
-    → trimmed (take n room) ≡ trimmed target
-front-trimmed room target n same past = trimmed_from_same (take n room) target (λ k. elim (cases_lt k n) [
+    → trimmed_coefficients (take n room) ≡ trimmed_coefficients target
+front-trimmed_coefficients room target n same past = trimmed_from_same (take n room) target (λ k. elim (cases_lt k n) [
   | inl inside ↦ get_or-take n room k 0 inside ∙ same k
   | inr further ↦ coefficient-take_past room n k further ∙ sym (past k further)
 ])
@@ -61,18 +61,18 @@ coefficient-zeros_sum n xs k = coefficient-sum (replicate n 0) xs k ∙ ap (λ (
 
 -- a front that has all that is not 0
 pub coefficient-front :
-    (xs : List ℕ) (n : ℕ) → ((k : ℕ) → n ≤ k → get_or xs k 0 ≡ 0) → (k : ℕ) → get_or (trimmed (take n xs)) k 0 ≡ get_or xs k 0
-coefficient-front xs n past k = coefficient-trimmed (take n xs) k ∙ elim (cases_lt k n) [
+    (xs : List ℕ) (n : ℕ) → ((k : ℕ) → n ≤ k → get_or xs k 0 ≡ 0) → (k : ℕ) → get_or (trimmed_coefficients (take n xs)) k 0 ≡ get_or xs k 0
+coefficient-front xs n past k = coefficient-trimmed_coefficients (take n xs) k ∙ elim (cases_lt k n) [
   | inl inside ↦ get_or-take n xs k 0 inside
   | inr further ↦ coefficient-take_past xs n k further ∙ sym (past k further)
 ]
 
 -- what is written into a room of zeros
-pub written-trimmed :
+pub written-trimmed_coefficients :
     (capacity n : ℕ) (room target : List ℕ) → room ≡ sum_of (replicate capacity 0) target → length target ≤ n
-    → trimmed (take n room) ≡ trimmed target
-written-trimmed capacity n room target e h =
-    front-trimmed room target n
+    → trimmed_coefficients (take n room) ≡ trimmed_coefficients target
+written-trimmed_coefficients capacity n room target e h =
+    front-trimmed_coefficients room target n
     (λ k. ap (λ (xs : List ℕ). get_or xs k 0) e ∙ coefficient-zeros_sum capacity target k)
     (λ k past. get_or_past target k 0 (omega arith))
 

@@ -12,14 +12,14 @@ abbrev pub element_power : ℕ → ℕ → ℕ
 element_power a n = power 0x187 a n
 
 -- a list without the zeros at its end
-unfoldable pub prepended : ℕ → List ℕ → List ℕ
-prepended zero [] = []
-prepended zero (d ∷ ds) = zero ∷ d ∷ ds
-prepended (suc c) ds = suc c ∷ ds
+unfoldable pub prepended_coefficients : ℕ → List ℕ → List ℕ
+prepended_coefficients zero [] = []
+prepended_coefficients zero (d ∷ ds) = zero ∷ d ∷ ds
+prepended_coefficients (suc c) ds = suc c ∷ ds
 
-unfoldable pub trimmed : List ℕ → List ℕ
-trimmed [] = []
-trimmed (c ∷ cs) = prepended c (trimmed cs)
+unfoldable pub trimmed_coefficients : List ℕ → List ℕ
+trimmed_coefficients [] = []
+trimmed_coefficients (c ∷ cs) = prepended_coefficients c (trimmed_coefficients cs)
 
 -- the coefficients of each power are added
 unfoldable pub sum_of : List ℕ → List ℕ → List ℕ
@@ -28,24 +28,24 @@ sum_of (x ∷ xs) [] = x ∷ xs
 sum_of (x ∷ xs) (y ∷ ys) = bit_xor x y ∷ sum_of xs ys
 
 -- each coefficient times an element
-unfoldable pub scaled : ℕ → List ℕ → List ℕ
-scaled c [] = []
-scaled c (x ∷ xs) = element_product c x ∷ scaled c xs
+unfoldable pub scaled_coefficients : ℕ → List ℕ → List ℕ
+scaled_coefficients c [] = []
+scaled_coefficients c (x ∷ xs) = element_product c x ∷ scaled_coefficients c xs
 
 -- x times a polynomial
-unfoldable pub shifted : List ℕ → List ℕ
-shifted [] = []
-shifted (c ∷ cs) = 0 ∷ c ∷ cs
+unfoldable pub shifted_coefficients : List ℕ → List ℕ
+shifted_coefficients [] = []
+shifted_coefficients (c ∷ cs) = 0 ∷ c ∷ cs
 
 -- x^n times a polynomial
-unfoldable pub raised : ℕ → List ℕ → List ℕ
-raised zero cs = cs
-raised (suc n) cs = shifted (raised n cs)
+unfoldable pub raised_coefficients : ℕ → List ℕ → List ℕ
+raised_coefficients zero cs = cs
+raised_coefficients (suc n) cs = shifted_coefficients (raised_coefficients n cs)
 
 -- the first coefficient times the second factor, and x times the product with the rest
 unfoldable pub list_product : List ℕ → List ℕ → List ℕ
 list_product [] ys = []
-list_product (x ∷ xs) ys = sum_of (scaled x ys) (shifted (list_product xs ys))
+list_product (x ∷ xs) ys = sum_of (scaled_coefficients x ys) (shifted_coefficients (list_product xs ys))
 
 -- the value at an element: the sum of the coefficients, each times the power of the element
 unfoldable pub terms_from : ℕ → List ℕ → ℕ → ℕ
@@ -56,14 +56,14 @@ unfoldable pub value_at : List ℕ → ℕ → ℕ
 value_at cs at = terms_from 0 cs at
 
 -- n times an element: it is added n times
-unfoldable pub added : ℕ → ℕ → ℕ
-added zero c = 0
-added (suc n) c = bit_xor c (added n c)
+unfoldable pub added_copies : ℕ → ℕ → ℕ
+added_copies zero c = 0
+added_copies (suc n) c = bit_xor c (added_copies n c)
 
 -- the derivative of c x^n is n c x^(n - 1)
 unfoldable pub derivative_from : ℕ → List ℕ → List ℕ
 derivative_from n [] = []
-derivative_from n (c ∷ cs) = added n c ∷ derivative_from (suc n) cs
+derivative_from n (c ∷ cs) = added_copies n c ∷ derivative_from (suc n) cs
 
 unfoldable pub derivative_of : List ℕ → List ℕ
 derivative_of [] = []
@@ -80,9 +80,9 @@ pub record IsPolynomial (capacity : ℕ) (cs : List ℕ) : Type 0 where
   pub high : capacity ≤ 1024
   pub fits : length cs ≤ capacity
   pub bytes : (k : ℕ) → slice_index cs k < 256
-  pub no_end_zeros : trimmed cs ≡ cs
+  pub no_end_zeros : trimmed_coefficients cs ≡ cs
 
 -- the dividend is the quotient times the divisor and the rest, which is zero or of lower degree than the divisor
 pub record IsDivision (dividend divisor quotient rest : List ℕ) : Type 0 where
-  pub whole : trimmed (sum_of (list_product quotient divisor) rest) ≡ trimmed dividend
+  pub whole : trimmed_coefficients (sum_of (list_product quotient divisor) rest) ≡ trimmed_coefficients dividend
   pub lower : length rest < length divisor

@@ -24,7 +24,7 @@ impl<const CAP: usize> Model for Poly<CAP> {
 }
 
 impl<const CAP: usize> Poly<CAP> {
-    ghost use Rattle.poly256.specs.Polynomial.{IsPolynomial, trimmed, sum_of, list_product, value_at, derivative_of, degree_of, IsDivision};
+    ghost use Rattle.poly256.specs.Polynomial.{IsPolynomial, trimmed_coefficients, sum_of, list_product, value_at, derivative_of, degree_of, IsDivision};
 
     /// The polynomial that is 0 everywhere.
     pub fn zero() -> Self
@@ -44,12 +44,12 @@ impl<const CAP: usize> Poly<CAP> {
         requires low { 1 ≤ CAP }
         requires high { CAP ≤ 1024 }
         requires room { length coefficients.now ≤ CAP }
-        ensures value { result ≡ trimmed coefficients.now }
+        ensures value { result ≡ trimmed_coefficients coefficients.now }
         ensures shape { IsPolynomial CAP result }
     {
         let mut bytes = [0; CAP];
         add_list(&mut bytes, coefficients);
-        Self::kept(bytes, coefficients.len())
+        Self::keep(bytes, coefficients.len())
     }
 
     /// The coefficient of x^power, which is 0 past the degree.
@@ -84,18 +84,18 @@ impl<const CAP: usize> Poly<CAP> {
 
     /// The derivative, in which x^n becomes n x^(n - 1).
     pub fn derivative(&self) -> Self
-        ensures value { result ≡ trimmed (derivative_of self.now) }
+        ensures value { result ≡ trimmed_coefficients (derivative_of self.now) }
         ensures shape { IsPolynomial CAP result }
     {
         let coefficients = self.coefficients();
         let mut bytes = [0; CAP];
         write_derivative(&mut bytes, coefficients);
-        Self::kept(bytes, coefficients.len())
+        Self::keep(bytes, coefficients.len())
     }
 
     /// The sum, which adds the coefficients of each power.
     pub fn add(&self, other: &Self) -> Self
-        ensures value { result ≡ trimmed (sum_of self.now other.now) }
+        ensures value { result ≡ trimmed_coefficients (sum_of self.now other.now) }
         ensures shape { IsPolynomial CAP result }
     {
         let first = self.coefficients();
@@ -103,21 +103,21 @@ impl<const CAP: usize> Poly<CAP> {
         let mut bytes = [0; CAP];
         add_list(&mut bytes, first);
         add_list(&mut bytes, second);
-        Self::kept(bytes, first.len().max(second.len()))
+        Self::keep(bytes, first.len().max(second.len()))
     }
 
     /// The product. Where neither factor is 0 their degrees sum to less than `CAP`.
     pub fn mul(&self, other: &Self) -> Self
         requires { 0 < length self.now → 0 < length other.now →
             length self.now + length other.now ≤ CAP + 1 }
-        ensures value { result ≡ trimmed (list_product self.now other.now) }
+        ensures value { result ≡ trimmed_coefficients (list_product self.now other.now) }
         ensures shape { IsPolynomial CAP result }
     {
         let first = self.coefficients();
         let second = other.coefficients();
         let mut bytes = [0; CAP];
         add_product(&mut bytes, first, second);
-        Self::kept(bytes, (first.len() + second.len()).min(CAP))
+        Self::keep(bytes, (first.len() + second.len()).min(CAP))
     }
 
     /// The quotient and the rest, which is 0 or of lower degree than the divisor. The divisor is not 0.
@@ -135,18 +135,18 @@ impl<const CAP: usize> Poly<CAP> {
         let mut quotient = [0; CAP];
         divide(&mut rest, &mut quotient, coefficients.len(), steps);
         (
-            Self::kept(quotient, coefficients.len()),
-            Self::kept(rest, steps.len() - 1),
+            Self::keep(quotient, coefficients.len()),
+            Self::keep(rest, steps.len() - 1),
         )
     }
 
     // The polynomial whose coefficients are the first `bound` of `bytes`.
     #[inline]
-    fn kept(bytes: [u8; CAP], bound: usize) -> Self
+    fn keep(bytes: [u8; CAP], bound: usize) -> Self
         requires low { 1 ≤ CAP }
         requires high { CAP ≤ 1024 }
         requires room { bound ≤ CAP }
-        ensures value { result ≡ trimmed (take bound bytes.entry) }
+        ensures value { result ≡ trimmed_coefficients (take bound bytes.entry) }
         ensures shape { IsPolynomial CAP result }
     {
         let len = trimmed_len(&bytes[..bound]);

@@ -1,5 +1,5 @@
 ghost use Rattle.std.specs.Prelude.{◌≡◌, ◌+◌, ◌-◌, ◌<◌, ◌≤◌, ℕ, length, take, slice_index};
-ghost use Rattle.poly256.specs.Polynomial.{sum_of, scaled, raised, list_product, derivative_of, value_at, trimmed};
+ghost use Rattle.poly256.specs.Polynomial.{sum_of, scaled_coefficients, raised_coefficients, list_product, derivative_of, value_at, trimmed_coefficients};
 
 use gf256_core::{Uat, UatTables, field_laws};
 
@@ -18,7 +18,7 @@ pub(crate) fn add_list(room: &mut [u8], list: &[u8])
 #[inline]
 pub(crate) fn add_multiple(room: &mut [u8], place: usize, factor: Uat, list: &[u8])
     requires { place + length list.now ≤ length room.old }
-    ensures { room.new ≡ sum_of room.old (raised place (scaled factor list.now)) }
+    ensures { room.new ≡ sum_of room.old (raised_coefficients place (scaled_coefficients factor list.now)) }
 {
     for (i, coefficient) in list.iter().enumerate() {
         let term = factor.mul(Uat::of(*coefficient));
@@ -29,7 +29,7 @@ pub(crate) fn add_multiple(room: &mut [u8], place: usize, factor: Uat, list: &[u
 // How many coefficients are left without the zeros at the end.
 #[inline]
 pub(crate) fn trimmed_len(list: &[u8]) -> usize
-    ensures value { take result list.now ≡ trimmed list.now }
+    ensures value { take result list.now ≡ trimmed_coefficients list.now }
     ensures within { result ≤ length list.now }
     ensures bytes { (k : ℕ) → slice_index list.now k < 256 }
 {

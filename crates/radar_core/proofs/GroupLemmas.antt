@@ -6,6 +6,7 @@ use Rattle.std.proofs.lemmas.Bool.{cond-true, cond-false, and_from, and_parts, a
 use Rattle.std.proofs.lemmas.List.{append-nil, length-drop, get_or-drop, take-append-drop, get_or-take, length-take-le}
 use Rattle.std.proofs.lemmas.List.Elements.{filter-append, All-drop}
 use Rattle.std.proofs.lemmas.List.Kept.{AllPairs-from_increasing}
+use Rattle.list_members.specs.ListMembers.{filter_shorter}
 use Rattle.radar_core.specs.Groups.{is_joined, groups_at_most, blank_groups}
 
 -- which numbers are joined to a base
@@ -80,15 +81,6 @@ apart_back base more m split =
     ∙ kept_all p (drop m more) (λ k below. ap p (get_or-drop m more k 0) ∙ ap not (split.apart (m + k) (omega arith) (omega arith)))
 
 -- more groups than numbers change nothing
-length-filter_le : (p : ℕ → Bool) (xs : List ℕ) → length (filter p xs) ≤ length xs
-length-filter_le p [] = omega arith
-length-filter_le p (x ∷ xs) =
-    let rest = length-filter_le p xs in
-    elim (cases_Bool (p x)) [
-      | inl t ↦ rw (cond-true (p x) (x ∷ filter p xs) (filter p xs) t) (omega arith)
-      | inr f ↦ rw (cond-false (p x) (x ∷ filter p xs) (filter p xs) f) (omega arith)
-    ]
-
 enough : (most other : ℕ) (numbers : List ℕ) → length numbers ≤ most → length numbers ≤ other → groups_at_most most numbers ≡ groups_at_most other numbers
 enough zero zero numbers few more = refl
 enough zero (suc other) [] few more = refl
@@ -98,7 +90,7 @@ enough (suc most) zero (base ∷ numbers) few more = absurd (omega arith)
 enough (suc most) (suc other) [] few more = refl
 enough (suc most) (suc other) (base ∷ numbers) few more =
     let rest : List ℕ = filter (λ n. not (is_joined base n)) numbers in
-    let less = length-filter_le (λ n. not (is_joined base n)) numbers in
+    let less = filter_shorter (λ n. not (is_joined base n)) numbers in
     ap (λ (b : List (List ℕ)). (base ∷ filter (is_joined base) numbers) ∷ b) (enough most other rest (omega arith) (omega arith))
 
 pub groups_front : (base : ℕ) (more : List ℕ) (m : ℕ) → IsSplit base more m

@@ -5,24 +5,21 @@ use Rattle.std.specs.declared.cmp.Ordering.TheVariants.{Less, Equal, Greater}
 use Rattle.std.specs.Ordering.{nat_cmp, ordering_then}
 use Rattle.std.proofs.lemmas.Bool.Decides.{nat_tests}
 use Rattle.bit_fields.specs.Bits.{bit}
+use Rattle.bit_fields.specs.BitsBack.{bit_below}
 use Rattle.radar_core.specs.Keys.{block_key_cmp, key_number}
 use Rattle.radar_core.specs.declared.key.BlockKey.{BlockKey}
 
-bit-small : (b : Bool) → bit b < 2
-bit-small true = omega arith
-bit-small false = omega arith
-
-behind-scale : (x y m n : ℕ) → m < 256 → n < 256
+after-scale : (x y m n : ℕ) → m < 256 → n < 256
     → nat_cmp (x * 256 + m) (y * 256 + n) ≡ ordering_then (nat_cmp x y) (nat_cmp m n)
-behind-scale x y m n small small' = grind (arith, nat_tests)
+after-scale x y m n small small' = grind (arith, nat_tests)
 
-behind-south : (x y m n : ℕ) → m < 2 → n < 2
+after-south : (x y m n : ℕ) → m < 2 → n < 2
     → nat_cmp (x * 2 + m) (y * 2 + n) ≡ ordering_then (nat_cmp x y) (nat_cmp m n)
-behind-south x y m n small small' = grind (arith, nat_tests)
+after-south x y m n small small' = grind (arith, nat_tests)
 
-behind-number : (x y m n : ℕ) → m < 4294967296 → n < 4294967296
+after-number : (x y m n : ℕ) → m < 4294967296 → n < 4294967296
     → nat_cmp (x * 4294967296 + m) (y * 4294967296 + n) ≡ ordering_then (nat_cmp x y) (nat_cmp m n)
-behind-number x y m n small small' = grind (arith, nat_tests)
+after-number x y m n small small' = grind (arith, nat_tests)
 
 then-then : (o p q : Ordering) → ordering_then (ordering_then o p) q ≡ ordering_then o (ordering_then p q)
 then-then Less p q = refl
@@ -32,12 +29,12 @@ then-then Greater p q = refl
 pub keys-numbered : (a b : BlockKey) → a.scale < 256 → b.scale < 256 → a.number < 4294967296 → b.number < 4294967296
     → nat_cmp (key_number a) (key_number b) ≡ block_key_cmp a b
 keys-numbered a b scale scale' number number' =
-    behind-number ((a.product * 256 + a.scale) * 2 + bit a.south) ((b.product * 256 + b.scale) * 2 + bit b.south) a.number b.number
+    after-number ((a.product * 256 + a.scale) * 2 + bit a.south) ((b.product * 256 + b.scale) * 2 + bit b.south) a.number b.number
     number number'
     ∙ ap (λ (o : Ordering). ordering_then o (nat_cmp a.number b.number))
-    (behind-south (a.product * 256 + a.scale) (b.product * 256 + b.scale) (bit a.south) (bit b.south) (bit-small a.south) (bit-small b.south)
+    (after-south (a.product * 256 + a.scale) (b.product * 256 + b.scale) (bit a.south) (bit b.south) (bit_below a.south) (bit_below b.south)
     ∙ ap (λ (o : Ordering). ordering_then o (nat_cmp (bit a.south) (bit b.south)))
-    (behind-scale a.product b.product a.scale b.scale scale scale'))
+    (after-scale a.product b.product a.scale b.scale scale scale'))
     ∙ then-then (ordering_then (nat_cmp a.product b.product) (nat_cmp a.scale b.scale)) (nat_cmp (bit a.south) (bit b.south))
     (nat_cmp a.number b.number)
     ∙ then-then (nat_cmp a.product b.product) (nat_cmp a.scale b.scale)

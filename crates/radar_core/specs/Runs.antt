@@ -29,7 +29,7 @@ run_in byte = record { length = field_at (byte ∷ []) 0 5 + 1; intensity = fiel
 abbrev pub cells_in : List ℕ → List ℕ
 cells_in bytes = flat_map (λ byte. run_cells (run_in byte)) bytes
 
--- the runs of some cells behind a run that is begun: it goes on while the intensity is the same and
+-- the runs of some cells after a run that is begun: it goes on while the intensity is the same and
 -- it has room
 abbrev pub runs_from : Run → List ℕ → List Run
 runs_from run [] = run ∷ []

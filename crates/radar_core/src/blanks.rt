@@ -27,7 +27,7 @@ pub fn write_blank(base: &BlockKey, further: &[u32], room: &mut [u8; 18]) -> usi
     put_bitmap(base.number, further, room)
 }
 
-/// Writes the bitmap behind the front of a record. The answer is the place behind it.
+/// Writes the bitmap after the front of a record. The answer is the place after it.
 fn put_bitmap(base: u32, further: &[u32], room: &mut [u8; 18]) -> usize
     requires base { base < first_high }
     requires group { IsGroup base further.now }

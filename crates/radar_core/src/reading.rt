@@ -13,9 +13,9 @@ use crate::runs::FRONT;
 ///
 /// # Errors
 ///
-/// The first of these: `Short` exactly where the payload has fewer than 4 bytes; `BadScale` where its scale is 3;
-/// `RunsNot128` where its runs are not 128 cells; `HighEmpty` where it is an empty record with a base of 405,000 or more;
-/// `BadBitmap` where it is one with fewer bytes than its bitmap asks for.
+/// `Short` exactly where the payload has fewer than 4 bytes, else `BadScale` exactly where its scale is 3. Of a run record
+/// `RunsNot128` where its runs are not 128 cells. Of an empty record `HighEmpty` where its base is 405,000 or more, else
+/// `BadBitmap` where it has fewer bytes than its bitmap asks for.
 pub fn read_radar<'a>(product: u16, payload: &'a [u8]) -> Result<RadarPart<'a>, RadarFault>
     ensures { result ≡ radar_blocks product payload.now }
 {

@@ -45,7 +45,7 @@ fn front_of(is_run: bool, key: &BlockKey) -> [u8; 3]
     [flags + high, middle, low]
 }
 
-/// Writes the runs of cells behind the front of a record. The answer is the place behind them.
+/// Writes the runs of cells after the front of a record. The answer is the place after them.
 fn put_runs(cells: &Cells, room: &mut [u8; 131]) -> usize
     ensures size { result ≡ 3 + length (longest_runs cells.now) }
     ensures runs { take result room.new ≡ take 3 room.old ++ map run_byte (longest_runs cells.now) }

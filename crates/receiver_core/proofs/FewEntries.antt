@@ -24,7 +24,7 @@ use Rattle.picture_core.specs.Kept.{live_entries}
 use Rattle.receiver_core.specs.Reception.{whole_entries}
 use Rattle.receiver_core.specs.StandsFor.{longest_lives}
 use Rattle.receiver_core.proofs.FewBlocks.{live_radar}
-use Rattle.receiver_core.proofs.Segmented.{length_ones}
+use Rattle.list_members.specs.ListMembers.{length_ones}
 use Rattle.receiver_core.proofs.Weights.{few_pass}
 
 groups_few : (bytes : List ℕ) → length (six_bit_groups bytes) ≤ 2 * length bytes

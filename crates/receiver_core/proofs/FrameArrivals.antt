@@ -7,7 +7,7 @@ use Rattle.list_members.specs.Tests.{ok_past_test}
 use Rattle.fisb_time.specs.declared.form.TimeForm.{TimeForm}
 use Rattle.fisb_time.specs.declared.form.TimeForm.TheVariants.{Minute, Second, DayMinute, DaySecond}
 use Rattle.fisb_time.specs.declared.form.TimeFields.{TimeFields}
-use Rattle.fisb_time.specs.Naming.{named}
+use Rattle.fisb_time.specs.Naming.{named_moment}
 use Rattle.uplink_frame.specs.declared.station.StationId.{StationId}
 use Rattle.uplink_frame.specs.UplinkFrame.{InformationFrame}
 use Rattle.apdu_core.specs.declared.unit.Seg.{Seg}
@@ -86,7 +86,7 @@ body_leaves headers body a is =
 
 -- a time names no moment that lies more than a minute after its reception
 abbrev pub NamesNear : Type 0
-NamesNear = (form : TimeForm) (fields : TimeFields) (received moment : ℕ) → named form fields received ≡ Some moment
+NamesNear = (form : TimeForm) (fields : TimeFields) (received moment : ℕ) → named_moment form fields received ≡ Some moment
     → moment ≤ received + 60
 
 -- the laws of times and of headers
@@ -102,7 +102,7 @@ pub record IsOfFrame (received : ℕ) (frame : InformationFrame) (a : Arrival) :
   pub near : a.version ≤ received + 60
 
 module _ (laws : ReadsFrames) (station : StationId) (received : ℕ) (frame : InformationFrame) (a : Arrival) where
-  by_name : (apdu : Apdu) (life : ℕ) (o : Option ℕ) → named apdu.form apdu.time received ≡ o
+  by_name : (apdu : Apdu) (life : ℕ) (o : Option ℕ) → named_moment apdu.form apdu.time received ≡ o
       → arrival_with_version station received apdu life o ≡ Ok a → IsWithin frame.body apdu.segmentation apdu.payload
       → IsOfFrame received frame a
   by_name apdu life None is arrives within = absurd (cc)
@@ -123,7 +123,7 @@ module _ (laws : ReadsFrames) (station : StationId) (received : ℕ) (frame : In
       → IsWithin frame.body apdu.segmentation apdu.payload → IsOfFrame received frame a
   by_row apdu None arrives within = absurd (cc)
   by_row apdu (Some life) arrives within =
-      by_name apdu life (named apdu.form apdu.time received) refl
+      by_name apdu life (named_moment apdu.form apdu.time received) refl
       (ok_past_test (is_large apdu.segmentation) _ _ a arrives).1 within
 
   by_apdu : (table : LifeTable) (read : Result Apdu ApduFault) → apdu_of frame.body ≡ read

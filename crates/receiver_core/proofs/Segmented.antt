@@ -3,6 +3,7 @@ use Rattle.std.proofs.Common.{◌≡◌, ℕ, ◌≤◌, Bool, true, false, cond
 use Rattle.std.specs.List.{range_with_len, sum_by}
 use Rattle.std.specs.Option.{option_map}
 use Rattle.std.proofs.lemmas.List.Sums.{sum_by-cons}
+use Rattle.list_members.specs.ListMembers.{length_ones}
 use Rattle.list_members.specs.Ranges.{any_filter, find_filter, list_all_same}
 use Rattle.apdu_core.specs.declared.unit.Seg.{Seg}
 use Rattle.segment_core.specs.Arrival.{Arrival, first_piece, has_piece, is_piece}
@@ -43,10 +44,6 @@ module _ (taken : List Arrival) where
     keeps = λ name numbered live. stands.keeps name numbered live ∙ kept_same name;
     numbered = stands.numbered;
   }
-
-pub length_ones : {A : Type 0} (xs : List A) → length xs ≡ sum_by (λ x. 1) xs
-length_ones [] = refl
-length_ones (x ∷ xs) = let more = length_ones xs in omega (arith, more, sum_by-cons (λ y. 1) x xs)
 
 turned : (p q : Bool) → cond q (cond p 1 0) 0 ≤ cond p (cond q 1 0) 0
 turned true true = omega arith

@@ -3,7 +3,7 @@
 use Rattle.std.specs.Prelude.{ℕ, ◌+◌, Bool, false, ◌==◌, nat_lt, if◌then◌else◌, List, [], ◌∷◌, ◌++◌}
 use Rattle.std.specs.Prelude.{flat_map, filter_map, Option, Some, None, Result, Ok, Err}
 use Rattle.std.specs.Result.{result_ok}
-use Rattle.fisb_time.specs.Naming.{named}
+use Rattle.fisb_time.specs.Naming.{named_moment}
 use Rattle.uplink_frame.specs.declared.station.StationId.{StationId}
 use Rattle.uplink_frame.specs.Station.{station_of}
 use Rattle.uplink_frame.specs.UplinkFrame.{InformationFrame, information_frames, header_in}
@@ -53,7 +53,7 @@ arrival_with_version station received a life (Some version) = if nat_lt received
 abbrev pub arrival_with_row : StationId → ℕ → Apdu → Option ℕ → Result Arrival UnreadReason
 arrival_with_row station received a None = Err NoRow
 arrival_with_row station received a (Some life) = if is_large a.segmentation then Err Files
-    else arrival_with_version station received a life (named a.form a.time received)
+    else arrival_with_version station received a life (named_moment a.form a.time received)
 
 abbrev pub arrival_of_apdu : LifeTable → StationId → ℕ → Result Apdu ApduFault
     → Result Arrival UnreadReason

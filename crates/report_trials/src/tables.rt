@@ -6,7 +6,7 @@ use std::test::Fail;
 
 const METAR: &str = "type = \"METAR\"\nwords = 2\nlife = 7200\nform = 0\n";
 
-/// The text of a document of some rows behind a head of version 1 and a late time of 600 seconds.
+/// The text of a document of some rows after a head of version 1 and a late time of 600 seconds.
 fn document(alloc: Global, rows: &[&str]) -> Result<String, AllocError> {
     let mut text = String::from_str(alloc, "version = 1\nlate = 600\n")?;
     for row in rows {

@@ -9,7 +9,7 @@ use Rattle.gf256_core.specs.Field.{IsField}
 use Rattle.poly256.specs.Polynomial.{element_product, element_power}
 use Rattle.rs_code.specs.CodeWord.{power_sum, IsCodeWord, differences}
 use Rattle.rs_code.specs.Laws.{HasMinimumDistance}
-use Rattle.rs_code.specs.Mending.{weighed}
+use Rattle.rs_code.specs.Mending.{weighed_word}
 use Rattle.rs_code.proofs.Differences.{differences-cons_same, differences-cons_apart}
 use Rattle.rs_code.proofs.Powers.{power-add, power-fits, power-not_zero, power-injective}
 use Rattle.rs_code.proofs.PowerSums.{power_sum-cons, power_sum-empty, power_sum-cons_zero, power_sum-zeros, power_sum-sum}
@@ -31,30 +31,30 @@ weight-length [] = omega arith
 weight-length (zero ∷ bs) = let rest = weight-length bs in omega arith
 weight-length (suc b ∷ bs) = let rest = weight-length bs in omega arith
 
-pub length-weighed : (y : ℕ) (bs : List ℕ) → length (weighed y bs) ≡ length bs
-unfolding weighed
-length-weighed y [] = refl
-length-weighed y (b ∷ bs) = ap suc (length-weighed y bs)
+pub length-weighed_word : (y : ℕ) (bs : List ℕ) → length (weighed_word y bs) ≡ length bs
+unfolding weighed_word
+length-weighed_word y [] = refl
+length-weighed_word y (b ∷ bs) = ap suc (length-weighed_word y bs)
 
-pub weighed-fits : (F : IsField 391) (y : ℕ) (bs : List ℕ) (k : ℕ) → get_or (weighed y bs) k 0 < 256
-unfolding weighed
-weighed-fits F y [] k = lit< tt
-weighed-fits F y (b ∷ bs) zero = F.product_fits b (bit_xor (element_power 2 (length bs)) y)
-weighed-fits F y (b ∷ bs) (suc k) = weighed-fits F y bs k
+pub weighed_word-fits : (F : IsField 391) (y : ℕ) (bs : List ℕ) (k : ℕ) → get_or (weighed_word y bs) k 0 < 256
+unfolding weighed_word
+weighed_word-fits F y [] k = lit< tt
+weighed_word-fits F y (b ∷ bs) zero = F.product_fits b (bit_xor (element_power 2 (length bs)) y)
+weighed_word-fits F y (b ∷ bs) (suc k) = weighed_word-fits F y bs k
 
-weight-weighed : (F : IsField 391) (y : ℕ) (bs : List ℕ) → weight (weighed y bs) ≤ weight bs
-unfolding weight weighed
-weight-weighed F y [] = omega arith
-weight-weighed F y (zero ∷ bs) =
+weight-weighed_word : (F : IsField 391) (y : ℕ) (bs : List ℕ) → weight (weighed_word y bs) ≤ weight bs
+unfolding weight weighed_word
+weight-weighed_word F y [] = omega arith
+weight-weighed_word F y (zero ∷ bs) =
     let none : element_product 0 (bit_xor (element_power 2 (length bs)) y) ≡ 0 =
     F.product_zero (bit_xor (element_power 2 (length bs)) y) in
-    let same : weight (element_product 0 (bit_xor (element_power 2 (length bs)) y) ∷ weighed y bs) ≡ weight (weighed y bs) =
-    ap (λ (x : ℕ). weight (x ∷ weighed y bs)) none in
-    let rest = weight-weighed F y bs in
+    let same : weight (element_product 0 (bit_xor (element_power 2 (length bs)) y) ∷ weighed_word y bs) ≡ weight (weighed_word y bs) =
+    ap (λ (x : ℕ). weight (x ∷ weighed_word y bs)) none in
+    let rest = weight-weighed_word F y bs in
     omega arith
-weight-weighed F y (suc b ∷ bs) =
-    let first = weight-cons (element_product (suc b) (bit_xor (element_power 2 (length bs)) y)) (weighed y bs) in
-    let rest = weight-weighed F y bs in
+weight-weighed_word F y (suc b ∷ bs) =
+    let first = weight-cons (element_product (suc b) (bit_xor (element_power 2 (length bs)) y)) (weighed_word y bs) in
+    let rest = weight-weighed_word F y bs in
     omega arith
 
 -- b (p + y) q + (s + y t) = (b (p q) + s) + y (b q + t)
@@ -71,18 +71,18 @@ regroup F b p y q s t =
     ∙ xor-shuffle (element_product b (element_product p q)) (element_product y (element_product b q)) s (element_product y t)
     ∙ ap (bit_xor (bit_xor (element_product b (element_product p q)) s)) (sym (F.distributive_right y (element_product b q) t))
 
-pub power_sum-weighed :
+pub power_sum-weighed_word :
     (F : IsField 391) (y : ℕ) (bs : List ℕ) (j : ℕ)
-    → power_sum (weighed y bs) j ≡ bit_xor (power_sum bs (suc j)) (element_product y (power_sum bs j))
-unfolding weighed
-power_sum-weighed F y [] j =
+    → power_sum (weighed_word y bs) j ≡ bit_xor (power_sum bs (suc j)) (element_product y (power_sum bs j))
+unfolding weighed_word
+power_sum-weighed_word F y [] j =
     power_sum-empty j
     ∙ sym (ap₂ bit_xor (power_sum-empty (suc j)) (ap (element_product y) (power_sum-empty j) ∙ F.product_zero_right y) ∙ xor_zero_r 0)
-power_sum-weighed F y (b ∷ bs) j =
+power_sum-weighed_word F y (b ∷ bs) j =
     let w : ℕ = element_product b (bit_xor (element_power 2 (length bs)) y) in
     let up : suc j * length bs ≡ length bs + j * length bs = omega arith in
-    power_sum-cons w (weighed y bs) j
-    ∙ ap₂ bit_xor (ap (λ (n : ℕ). element_product w (element_power 2 (j * n))) (length-weighed y bs)) (power_sum-weighed F y bs j)
+    power_sum-cons w (weighed_word y bs) j
+    ∙ ap₂ bit_xor (ap (λ (n : ℕ). element_product w (element_power 2 (j * n))) (length-weighed_word y bs)) (power_sum-weighed_word F y bs j)
     ∙ regroup F b (element_power 2 (length bs)) y (element_power 2 (j * length bs)) (power_sum bs (suc j)) (power_sum bs j)
     ∙ sym (ap₂ bit_xor
     (power_sum-cons b bs (suc j)
@@ -93,8 +93,8 @@ power_sum-weighed F y (b ∷ bs) j =
 -- where the weighed bytes are 0, the bytes are
 zero_from_weighed :
     (F : IsField 391) (m : ℕ) (bs : List ℕ) → m < 255 → length bs ≤ m → ((k : ℕ) → get_or bs k 0 < 256)
-    → ((k : ℕ) → get_or (weighed (element_power 2 m) bs) k 0 ≡ 0) → (k : ℕ) → get_or bs k 0 ≡ 0
-unfolding weighed
+    → ((k : ℕ) → get_or (weighed_word (element_power 2 m) bs) k 0 ≡ 0) → (k : ℕ) → get_or bs k 0 ≡ 0
+unfolding weighed_word
 zero_from_weighed F m [] h l bytes zeros k = refl
 zero_from_weighed F m (b ∷ bs) h l bytes zeros zero =
     elim (F.zero_factor b (bit_xor (element_power 2 (length bs)) (element_power 2 m)) (bytes 0)
@@ -110,15 +110,15 @@ zero_from_weighed F m (b ∷ bs) h l bytes zeros (suc k) =
 -- the sums behind a first byte are those of the word, with the rest weighed by the first byte's power
 weighed_sum :
     (F : IsField 391) (b : ℕ) (bs : List ℕ) (j : ℕ)
-    → power_sum (weighed (element_power 2 (length bs)) bs) j
+    → power_sum (weighed_word (element_power 2 (length bs)) bs) j
     ≡ bit_xor (power_sum (b ∷ bs) (suc j)) (element_product (element_power 2 (length bs)) (power_sum (b ∷ bs) j))
-unfolding weighed
+unfolding weighed_word
 weighed_sum F b bs j =
     let none : element_product b (bit_xor (element_power 2 (length bs)) (element_power 2 (length bs))) ≡ 0 =
     ap (element_product b) (xor_self (element_power 2 (length bs))) ∙ F.product_zero_right b in
-    sym (power_sum-cons_zero F (weighed (element_power 2 (length bs)) bs) j)
-    ∙ ap (λ (x : ℕ). power_sum (x ∷ weighed (element_power 2 (length bs)) bs) j) (sym none)
-    ∙ power_sum-weighed F (element_power 2 (length bs)) (b ∷ bs) j
+    sym (power_sum-cons_zero F (weighed_word (element_power 2 (length bs)) bs) j)
+    ∙ ap (λ (x : ℕ). power_sum (x ∷ weighed_word (element_power 2 (length bs)) bs) j) (sym none)
+    ∙ power_sum-weighed_word F (element_power 2 (length bs)) (b ∷ bs) j
 
 pub zero_from_sums :
     (F : IsField 391) (count : ℕ) (bs : List ℕ) (n from : ℕ) → length bs ≡ count → count ≤ 255
@@ -135,10 +135,10 @@ zero_from_sums F (suc count) (suc b ∷ bs) zero from l short bytes few sums k =
 zero_from_sums F (suc count) (suc b ∷ bs) (suc n) from l short bytes few sums k =
     let rest : (i : ℕ) → get_or bs i 0 ≡ 0 =
     zero_from_weighed F (length bs) bs (omega arith) (omega arith) (λ i. bytes (suc i))
-    (zero_from_sums F count (weighed (element_power 2 (length bs)) bs) n from
-    (length-weighed (element_power 2 (length bs)) bs ∙ (let e : length bs ≡ count = omega arith in e)) (omega arith)
-    (weighed-fits F (element_power 2 (length bs)) bs)
-    (let w = weight-weighed F (element_power 2 (length bs)) bs in omega arith)
+    (zero_from_sums F count (weighed_word (element_power 2 (length bs)) bs) n from
+    (length-weighed_word (element_power 2 (length bs)) bs ∙ (let e : length bs ≡ count = omega arith in e)) (omega arith)
+    (weighed_word-fits F (element_power 2 (length bs)) bs)
+    (let w = weight-weighed_word F (element_power 2 (length bs)) bs in omega arith)
     (λ j h h'.
     weighed_sum F (suc b) bs j
     ∙ ap₂ bit_xor (sums (suc j) (omega arith) (omega arith))

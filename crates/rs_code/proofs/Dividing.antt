@@ -5,7 +5,7 @@ use Rattle.std.proofs.lemmas.List.{drop_at, length-take-le, length-replicate, ex
 use Rattle.std.proofs.lemmas.Bool.{cases_lt}
 use Rattle.list_members.specs.Places.{get_or-zeros}
 use Rattle.gf256_core.specs.Field.{IsField}
-use Rattle.poly256.specs.Polynomial.{element_product, element_power, sum_of, scaled, raised}
+use Rattle.poly256.specs.Polynomial.{element_product, element_power, sum_of, scaled_coefficients, raised_coefficients}
 use Rattle.poly256.specs.Laws.{HasDegrees}
 use Rattle.rs_code.specs.CodeWord.{power_sum}
 use Rattle.rs_code.proofs.PowerSums.{power_sum-cons_zero, power_sum-zeros, power_sum-sum, power_sum-append}
@@ -17,24 +17,24 @@ pub same_as_multiple :
     → ((k : ℕ) → k < length list → get_or new (place + k) 0 ≡ bit_xor (get_or old (place + k) 0) (element_product f (get_or list k 0)))
     → ((k : ℕ) → k < place → get_or new k 0 ≡ get_or old k 0)
     → ((k : ℕ) → place + length list ≤ k → get_or new k 0 ≡ get_or old k 0)
-    → new ≡ sum_of old (raised place (scaled f list))
+    → new ≡ sum_of old (raised_coefficients place (scaled_coefficients f list))
 same_as_multiple F D old new list place f long room written before left =
-    let r = D.raised_length place (scaled f list) in
+    let r = D.raised_length place (scaled_coefficients f list) in
     let s = D.scaled_length f list in
-    let l : length (sum_of old (raised place (scaled f list))) ≡ length old = D.sum_length old (raised place (scaled f list)) (omega arith) in
-    ext_get_or 0 new (sum_of old (raised place (scaled f list))) (long ∙ sym l)
+    let l : length (sum_of old (raised_coefficients place (scaled_coefficients f list))) ≡ length old = D.sum_length old (raised_coefficients place (scaled_coefficients f list)) (omega arith) in
+    ext_get_or 0 new (sum_of old (raised_coefficients place (scaled_coefficients f list))) (long ∙ sym l)
     (λ k h. elim (cases_lt k place) [
       | inl low ↦
           before k low
-          ∙ sym (D.sum_coefficient old (raised place (scaled f list)) k
-          ∙ ap (bit_xor (get_or old k 0)) (D.raised_below place (scaled f list) k low) ∙ xor_zero_r (get_or old k 0))
+          ∙ sym (D.sum_coefficient old (raised_coefficients place (scaled_coefficients f list)) k
+          ∙ ap (bit_xor (get_or old k 0)) (D.raised_below place (scaled_coefficients f list) k low) ∙ xor_zero_r (get_or old k 0))
       | inr high ↦
           let there : place + (k - place) ≡ k = omega arith in
-          let term : get_or (sum_of old (raised place (scaled f list))) k 0 ≡ bit_xor (get_or old k 0) (element_product f (get_or list (k - place) 0)) =
-          D.sum_coefficient old (raised place (scaled f list)) k
+          let term : get_or (sum_of old (raised_coefficients place (scaled_coefficients f list))) k 0 ≡ bit_xor (get_or old k 0) (element_product f (get_or list (k - place) 0)) =
+          D.sum_coefficient old (raised_coefficients place (scaled_coefficients f list)) k
           ∙ ap (bit_xor (get_or old k 0))
-          (ap (λ (n : ℕ). get_or (raised place (scaled f list)) n 0) (sym there)
-          ∙ D.raised_coefficient place (scaled f list) (k - place) ∙ D.scaled_coefficient f list (k - place)) in
+          (ap (λ (n : ℕ). get_or (raised_coefficients place (scaled_coefficients f list)) n 0) (sym there)
+          ∙ D.raised_coefficient place (scaled_coefficients f list) (k - place) ∙ D.scaled_coefficient f list (k - place)) in
           elim (cases_lt (k - place) (length list)) [
             | inl inside ↦
                 ap (λ (n : ℕ). get_or new n 0) (sym there) ∙ written (k - place) inside
@@ -55,10 +55,10 @@ get_or-zeros_behind (x ∷ xs) n (suc k) = get_or-zeros_behind xs n k
 -- the multiple of the generator that begins with an element is 0 at the roots
 pub multiple-zero :
     (F : IsField 391) (D : HasDegrees) (byte j : ℕ) (row : List ℕ) → byte < 256 → power_sum (1 ∷ row) j ≡ 0
-    → power_sum (byte ∷ scaled byte row) j ≡ 0
+    → power_sum (byte ∷ scaled_coefficients byte row) j ≡ 0
 multiple-zero F D byte j row fits root =
-    let is : IsRow (length row) j byte (scaled byte row) =
-    IsRow-multiple F (length row) j byte row (scaled byte row) fits refl (D.scaled_length byte row) (D.scaled_coefficient byte row) root in
+    let is : IsRow (length row) j byte (scaled_coefficients byte row) =
+    IsRow-multiple F (length row) j byte row (scaled_coefficients byte row) fits refl (D.scaled_length byte row) (D.scaled_coefficient byte row) root in
     is.zero
 
 taken-places :

@@ -5,7 +5,7 @@ use Rattle.std.proofs.lemmas.Bool.{cases_lt}
 use Rattle.std.proofs.lemmas.List.{append-nil, length-replicate, take_at}
 use Rattle.list_members.specs.Places.{get_or-zeros}
 use Rattle.gf256_core.specs.Field.{IsField}
-use Rattle.poly256.specs.Polynomial.{element_product, element_power, scaled}
+use Rattle.poly256.specs.Polynomial.{element_product, element_power, scaled_coefficients}
 use Rattle.poly256.specs.Laws.{HasDegrees}
 use Rattle.rs_code.specs.CodeWord.{IsInstance, IsCodeWord, power_sum}
 use Rattle.rs_code.proofs.Distance.{difference, length-difference, get_or-difference}
@@ -15,9 +15,9 @@ use Rattle.rs_code.proofs.Kernels.{power_sum-root, IsRow-multiple, power_sum-ste
 
 -- the coefficients behind the first, which is 1, times x + a
 times_root : ℕ → List ℕ → List ℕ
-times_root a ws = difference (ws ++ 0 ∷ []) (scaled a (1 ∷ ws))
+times_root a ws = difference (ws ++ 0 ∷ []) (scaled_coefficients a (1 ∷ ws))
 
-same_length : (D : HasDegrees) (a : ℕ) (ws : List ℕ) → length (ws ++ 0 ∷ []) ≡ length (scaled a (1 ∷ ws))
+same_length : (D : HasDegrees) (a : ℕ) (ws : List ℕ) → length (ws ++ 0 ∷ []) ≡ length (scaled_coefficients a (1 ∷ ws))
 same_length D a ws =
     let p = length-append ws (0 ∷ []) in
     let q = D.scaled_length a (1 ∷ ws) in
@@ -26,7 +26,7 @@ same_length D a ws =
 length-times_root : (D : HasDegrees) (a : ℕ) (ws : List ℕ) → length (times_root a ws) ≡ suc (length ws)
 unfolding times_root
 length-times_root D a ws =
-    length-difference (ws ++ 0 ∷ []) (scaled a (1 ∷ ws)) (same_length D a ws)
+    length-difference (ws ++ 0 ∷ []) (scaled_coefficients a (1 ∷ ws)) (same_length D a ws)
     ∙ (let p = length-append ws (0 ∷ []) in omega arith)
 
 times_root-places :
@@ -35,7 +35,7 @@ times_root-places :
 unfolding times_root
 times_root-places F D a ws zero = sym (ap (bit_xor 1) (F.product_zero_right a) ∙ xor_zero_r 1)
 times_root-places F D a ws (suc k) =
-    get_or-difference (ws ++ 0 ∷ []) (scaled a (1 ∷ ws)) (same_length D a ws) k
+    get_or-difference (ws ++ 0 ∷ []) (scaled_coefficients a (1 ∷ ws)) (same_length D a ws) k
     ∙ ap₂ bit_xor (get_or-push_zero ws k) (D.scaled_coefficient a (1 ∷ ws) k)
 
 -- the coefficients, behind the first, of the polynomial that is 0 at so many roots
@@ -85,37 +85,37 @@ IsParity-more F D roots first b message [] h is =
 IsParity-more F D roots first b message (r ∷ rs) h is =
     let byte : ℕ = bit_xor b r in
     let fits : bit_xor b r < 256 = F.sum_fits b r h (is.bytes 0) in
-    let row : List ℕ = scaled (bit_xor b r) (roots_polynomial first roots) in
+    let row : List ℕ = scaled_coefficients (bit_xor b r) (roots_polynomial first roots) in
     let generator_long : length (roots_polynomial first roots) ≡ roots = length-roots_polynomial D first roots in
-    let row_long : length (scaled (bit_xor b r) (roots_polynomial first roots)) ≡ roots =
+    let row_long : length (scaled_coefficients (bit_xor b r) (roots_polynomial first roots)) ≡ roots =
     D.scaled_length (bit_xor b r) (roots_polynomial first roots) ∙ generator_long in
     let pushed : length (rs ++ 0 ∷ []) ≡ roots = length-append rs (0 ∷ []) ∙ (let l = is.long in omega arith) in
     let places : (k : ℕ)
-    → get_or (difference (rs ++ 0 ∷ []) (scaled (bit_xor b r) (roots_polynomial first roots))) k 0
-    ≡ bit_xor (get_or rs k 0) (get_or (scaled (bit_xor b r) (roots_polynomial first roots)) k 0) =
+    → get_or (difference (rs ++ 0 ∷ []) (scaled_coefficients (bit_xor b r) (roots_polynomial first roots))) k 0
+    ≡ bit_xor (get_or rs k 0) (get_or (scaled_coefficients (bit_xor b r) (roots_polynomial first roots)) k 0) =
     λ k.
-    get_or-difference (rs ++ 0 ∷ []) (scaled (bit_xor b r) (roots_polynomial first roots)) (pushed ∙ sym row_long) k
-    ∙ ap (λ (n : ℕ). bit_xor n (get_or (scaled (bit_xor b r) (roots_polynomial first roots)) k 0)) (get_or-push_zero rs k) in
-    let long : length (difference (rs ++ 0 ∷ []) (scaled (bit_xor b r) (roots_polynomial first roots))) ≡ roots =
-    length-difference (rs ++ 0 ∷ []) (scaled (bit_xor b r) (roots_polynomial first roots)) (pushed ∙ sym row_long) ∙ pushed in (
-      difference (rs ++ 0 ∷ []) (scaled (bit_xor b r) (roots_polynomial first roots)),
+    get_or-difference (rs ++ 0 ∷ []) (scaled_coefficients (bit_xor b r) (roots_polynomial first roots)) (pushed ∙ sym row_long) k
+    ∙ ap (λ (n : ℕ). bit_xor n (get_or (scaled_coefficients (bit_xor b r) (roots_polynomial first roots)) k 0)) (get_or-push_zero rs k) in
+    let long : length (difference (rs ++ 0 ∷ []) (scaled_coefficients (bit_xor b r) (roots_polynomial first roots))) ≡ roots =
+    length-difference (rs ++ 0 ∷ []) (scaled_coefficients (bit_xor b r) (roots_polynomial first roots)) (pushed ∙ sym row_long) ∙ pushed in (
+      difference (rs ++ 0 ∷ []) (scaled_coefficients (bit_xor b r) (roots_polynomial first roots)),
       record {
         long = long;
         bytes = λ k.
             subst (λ (n : ℕ). n < 256) (sym (places k))
-            (F.sum_fits (get_or rs k 0) (get_or (scaled (bit_xor b r) (roots_polynomial first roots)) k 0) (is.bytes (suc k))
+            (F.sum_fits (get_or rs k 0) (get_or (scaled_coefficients (bit_xor b r) (roots_polynomial first roots)) k 0) (is.bytes (suc k))
             (subst (λ (n : ℕ). n < 256) (sym (D.scaled_coefficient (bit_xor b r) (roots_polynomial first roots) k))
             (F.product_fits (bit_xor b r) (get_or (roots_polynomial first roots) k 0))));
         sums = λ j low high.
             power_sum-step F roots j b (bit_xor b r) message (r ∷ rs)
-            (difference (rs ++ 0 ∷ []) (scaled (bit_xor b r) (roots_polynomial first roots)))
-            (scaled (bit_xor b r) (roots_polynomial first roots)) is.long long refl
+            (difference (rs ++ 0 ∷ []) (scaled_coefficients (bit_xor b r) (roots_polynomial first roots)))
+            (scaled_coefficients (bit_xor b r) (roots_polynomial first roots)) is.long long refl
             (λ k.
             places k
-            ∙ ap (λ (n : ℕ). bit_xor (get_or (r ∷ rs) n 0) (get_or (scaled (bit_xor b r) (roots_polynomial first roots)) k 0))
+            ∙ ap (λ (n : ℕ). bit_xor (get_or (r ∷ rs) n 0) (get_or (scaled_coefficients (bit_xor b r) (roots_polynomial first roots)) k 0))
             (let e : suc k ≡ k + 1 = omega arith in e))
             (IsRow-multiple F roots j (bit_xor b r) (roots_polynomial first roots)
-            (scaled (bit_xor b r) (roots_polynomial first roots)) fits generator_long row_long
+            (scaled_coefficients (bit_xor b r) (roots_polynomial first roots)) fits generator_long row_long
             (D.scaled_coefficient (bit_xor b r) (roots_polynomial first roots)) (zero_at_roots F D first roots j low high))
             (is.sums j low high);
       },

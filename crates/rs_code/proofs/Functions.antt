@@ -7,7 +7,7 @@ use Rattle.gf256_core.specs.Field.{IsField}
 use Rattle.list_members.specs.Finding.{find-passes, find-none, find-only}
 use Rattle.poly256.specs.Laws.{HasDegrees}
 use Rattle.rs_code.specs.CodeWord.{IsInstance, IsCodeWord, IsNear, IsCorrectable, power_sum, differences, are_near}
-use Rattle.rs_code.specs.Functions.{words, is_code_word, begins_with, encoded, corrected}
+use Rattle.rs_code.specs.Functions.{words, is_code_word, begins_with, encoded_word, corrected_word}
 use Rattle.rs_code.specs.Laws.{HasCodeWordTest, HasOneEncoded, IsCorrected}
 use Rattle.rs_code.proofs.Differences.{differences-same, same_from_no_differences}
 use Rattle.rs_code.proofs.Words.{same_from_front}
@@ -84,8 +84,8 @@ begins_to message word e =
 encoded_from :
     (F : IsField 391) (count roots first : ℕ) (message word : List ℕ) → IsInstance count roots first
     → length message ≡ count - roots → IsCodeWord count roots first word → take (count - roots) word ≡ message
-    → word ≡ encoded count roots first message
-unfolding encoded
+    → word ≡ encoded_word count roots first message
+unfolding encoded_word
 encoded_from F count roots first message word instance l code front =
     let front' : take (length message) word ≡ message = ap (λ (n : ℕ). take n word) l ∙ front in
     sym (ap (λ o. unwrap_or o [])
@@ -101,7 +101,7 @@ encoded_from F count roots first message word instance l code front =
 pub one_encoded : (F : IsField 391) (D : HasDegrees) → HasOneEncoded
 one_encoded F D count roots first message word instance l bytes =
     let some = code_word_exists F D count roots first message instance l bytes in
-    let is : some.0 ≡ encoded count roots first message =
+    let is : some.0 ≡ encoded_word count roots first message =
     encoded_from F count roots first message some.0 instance l some.1 some.2 in (
       λ e.
           let same : some.0 ≡ word = is ∙ sym e in (
@@ -124,8 +124,8 @@ near_from count roots first word other e =
 
 corrected_to :
     (F : IsField 391) (count roots first : ℕ) (word other : List ℕ) → IsInstance count roots first
-    → IsNear count roots first word other → corrected count roots first word ≡ Some other
-unfolding corrected
+    → IsNear count roots first word other → corrected_word count roots first word ≡ Some other
+unfolding corrected_word
 corrected_to F count roots first word other instance is =
     find-only (λ (near : List ℕ). is_code_word count roots first near && are_near roots word near) (words count) other
     (IsIn-words count other is.code.long is.code.bytes)
@@ -135,16 +135,16 @@ corrected_to F count roots first word other instance is =
     one_nearest F count roots first word near other instance (near_from count roots first word near passes) is)
 
 corrected_from :
-    (count roots first : ℕ) (word other : List ℕ) → corrected count roots first word ≡ Some other
+    (count roots first : ℕ) (word other : List ℕ) → corrected_word count roots first word ≡ Some other
     → IsNear count roots first word other
-unfolding corrected
+unfolding corrected_word
 corrected_from count roots first word other e =
     near_from count roots first word other
     (find-passes (λ (near : List ℕ). is_code_word count roots first near && are_near roots word near) (words count) other e)
 
 corrected_none :
-    (count roots first : ℕ) (word : List ℕ) → ¬ IsCorrectable count roots first word → corrected count roots first word ≡ None
-unfolding corrected
+    (count roots first : ℕ) (word : List ℕ) → ¬ IsCorrectable count roots first word → corrected_word count roots first word ≡ None
+unfolding corrected_word
 corrected_none count roots first word none =
     find-none (λ (near : List ℕ). is_code_word count roots first near && are_near roots word near) (words count)
     (λ near passes. none (near, near_from count roots first word near passes))

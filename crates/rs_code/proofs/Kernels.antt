@@ -6,7 +6,7 @@ use Rattle.std.proofs.lemmas.List.{length-take-le}
 use Rattle.std.proofs.lemmas.Nat.{xor_comm}
 use Rattle.bit_fields.specs.Xors.{xor-cancel}
 use Rattle.gf256_core.specs.Field.{IsField}
-use Rattle.poly256.specs.Polynomial.{element_product, element_power, scaled}
+use Rattle.poly256.specs.Polynomial.{element_product, element_power, scaled_coefficients}
 use Rattle.poly256.specs.Laws.{HasDegrees}
 use Rattle.rs_code.specs.CodeWord.{power_sum}
 use Rattle.rs_code.proofs.Powers.{power-zero, product-one}
@@ -39,7 +39,7 @@ power_sum-push F ws b j fits =
 
 behind_first :
     (F : IsField 391) (D : HasDegrees) (a : ℕ) (ws : List ℕ) (k : ℕ)
-    → get_or (0 ∷ scaled a ws) k 0 ≡ element_product a (get_or (0 ∷ ws) k 0)
+    → get_or (0 ∷ scaled_coefficients a ws) k 0 ≡ element_product a (get_or (0 ∷ ws) k 0)
 behind_first F D a ws zero = sym (F.product_zero_right a)
 behind_first F D a ws (suc k) = D.scaled_coefficient a ws k
 
@@ -50,13 +50,13 @@ pub power_sum-root :
     → power_sum vs j ≡ element_product (bit_xor (element_power 2 j) a) (power_sum ws j)
 power_sum-root F D a ws vs j l e =
     let long : length (ws ++ 0 ∷ []) ≡ length vs = let p = length-append ws (0 ∷ []) in omega arith in
-    let long' : length (0 ∷ scaled a ws) ≡ length vs = let p = D.scaled_length a ws in omega arith in
-    let behind : (k : ℕ) → get_or (0 ∷ scaled a ws) k 0 ≡ element_product a (get_or (0 ∷ ws) k 0) = behind_first F D a ws in
-    power_sum-sum F vs (ws ++ 0 ∷ []) (0 ∷ scaled a ws) long long'
+    let long' : length (0 ∷ scaled_coefficients a ws) ≡ length vs = let p = D.scaled_length a ws in omega arith in
+    let behind : (k : ℕ) → get_or (0 ∷ scaled_coefficients a ws) k 0 ≡ element_product a (get_or (0 ∷ ws) k 0) = behind_first F D a ws in
+    power_sum-sum F vs (ws ++ 0 ∷ []) (0 ∷ scaled_coefficients a ws) long long'
     (λ k. e k ∙ sym (ap₂ bit_xor (get_or-push_zero ws k) (behind k))) j
     ∙ ap₂ bit_xor (power_sum-push_zero F ws j)
-    (power_sum-cons_zero F (scaled a ws) j
-    ∙ power_sum-multiple F a (scaled a ws) ws (sym (D.scaled_length a ws)) (D.scaled_coefficient a ws) j)
+    (power_sum-cons_zero F (scaled_coefficients a ws) j
+    ∙ power_sum-multiple F a (scaled_coefficients a ws) ws (sym (D.scaled_length a ws)) (D.scaled_coefficient a ws) j)
     ∙ sym (F.distributive (element_power 2 j) a (power_sum ws j))
 
 -- the coefficients of a polynomial of degree d, in a longer list, times x + a

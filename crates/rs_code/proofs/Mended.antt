@@ -11,7 +11,7 @@ use Rattle.rs_code.specs.Mending.{zero_places, points_of, points_sum, with_error
 use Rattle.rs_code.proofs.PowerSums.{power_sum-sum}
 use Rattle.rs_code.proofs.Distance.{difference, length-difference, get_or-difference, weight}
 use Rattle.rs_code.proofs.Marked.{length-without, without-fits, weight-without, without-located, value-front}
-use Rattle.rs_code.proofs.Pairing.{paired-front, paired-same_below}
+use Rattle.rs_code.proofs.Pairing.{paired_sum-front, paired_sum-same_below}
 use Rattle.rs_code.proofs.Weighing.{located}
 use Rattle.rs_code.proofs.ZeroPlaces.{few_zero_places, length-points_of}
 use Rattle.rs_code.proofs.Solving.{Solves}
@@ -137,11 +137,11 @@ errors-located F V E count roots first marks word other all sums errors locator 
     elim (located F V (take (low + 1) locator) (without marks errors) (length sums / 2) first (omega arith)
     (without-fits F marks errors has.bytes) (take-below 256 (low + 1) locator (lit< tt) is.bytes) (omega arith)
     (λ j h.
-    paired-same_below (take (low + 1) locator) (λ i. power_sum (without marks errors) (first + (j + i))) (λ i. get_or sums (j + i) 0)
+    paired_sum-same_below (take (low + 1) locator) (λ i. power_sum (without marks errors) (first + (j + i))) (λ i. get_or sums (j + i) 0)
     (λ i h'.
     sym (takes errors has.long (λ n h''. sym (has.sums_are n h'')) (j + i)
     (let l = length-take-le (low + 1) locator (omega arith) in omega arith)))
-    ∙ paired-front F (low + 1) locator (λ i. get_or sums (j + i) 0) (λ i h'. is.pairs.past i (omega arith))
+    ∙ paired_sum-front F (low + 1) locator (λ i. get_or sums (j + i) 0) (λ i h'. is.pairs.past i (omega arith))
     ∙ is.pairs.zero j h) k place (e ∙ sym left_long)) [
       | inl gone ↦
           elim (without-located F whole marks errors

@@ -8,11 +8,11 @@ use Rattle.gf256_core.specs.Field.{IsField}
 use Rattle.poly256.specs.Polynomial.{element_product, element_power, value_at}
 use Rattle.poly256.specs.Laws.{HasValues}
 use Rattle.rs_code.specs.CodeWord.{power_sum}
-use Rattle.rs_code.specs.Mending.{paired}
+use Rattle.rs_code.specs.Mending.{paired_sum}
 use Rattle.rs_code.proofs.Powers.{power-add}
 use Rattle.rs_code.proofs.PowerSums.{power_sum-cons, power_sum-empty, power_sum-zeros}
 use Rattle.rs_code.proofs.Distance.{weight, weight-cons, zero_from_sums}
-use Rattle.rs_code.proofs.Pairing.{paired-empty, paired-cons, paired-same}
+use Rattle.rs_code.proofs.Pairing.{paired_sum-empty, paired_sum-cons, paired_sum-same}
 
 pub weighed_by : (ℕ → ℕ) → List ℕ → List ℕ
 weighed_by f [] = []
@@ -105,24 +105,24 @@ weighed_by-zero F f none (b ∷ bs) (suc k) = weighed_by-zero F f none bs k
 -- by the values of a polynomial
 weighed_by_value :
     (F : IsField 391) (V : HasValues) (cs bs : List ℕ) (j : ℕ) → ((k : ℕ) → get_or cs k 0 < 256)
-    → power_sum (weighed_by (value_at cs) bs) j ≡ paired cs (λ k. power_sum bs (j + k))
+    → power_sum (weighed_by (value_at cs) bs) j ≡ paired_sum cs (λ k. power_sum bs (j + k))
 weighed_by_value F V [] bs j bytes =
     power_sum-zeros F (weighed_by (value_at []) bs) (weighed_by-zero F (value_at []) V.of_zero bs) j
-    ∙ sym (paired-empty (λ k. power_sum bs (j + k)))
+    ∙ sym (paired_sum-empty (λ k. power_sum bs (j + k)))
 weighed_by_value F V (c ∷ cs) bs j bytes =
     weighed_by_more F (value_at (c ∷ cs)) (value_at cs) c (λ x. V.of_first c cs x (bytes 0)) bs j
     ∙ ap₂ bit_xor
     (ap (λ (n : ℕ). element_product c (power_sum bs n)) (let e : j ≡ j + 0 = omega arith in e))
     (weighed_by_value F V cs bs (suc j) (λ k. bytes (suc k))
-    ∙ paired-same cs (λ k. power_sum bs (suc j + k)) (λ k. power_sum bs (j + suc k))
+    ∙ paired_sum-same cs (λ k. power_sum bs (suc j + k)) (λ k. power_sum bs (j + suc k))
     (λ k. ap (power_sum bs) (let e : suc j + k ≡ j + suc k = omega arith in e)))
-    ∙ sym (paired-cons c cs (λ k. power_sum bs (j + k)))
+    ∙ sym (paired_sum-cons c cs (λ k. power_sum bs (j + k)))
 
 -- a byte is 0, or the polynomial is 0 at its point
 pub located :
     (F : IsField 391) (V : HasValues) (cs bs : List ℕ) (half first : ℕ) → length bs ≤ 255
     → ((k : ℕ) → get_or bs k 0 < 256) → ((k : ℕ) → get_or cs k 0 < 256) → weight bs ≤ half
-    → ((j : ℕ) → j < half → paired cs (λ k. power_sum bs (first + (j + k))) ≡ 0) → (k place : ℕ) → k + suc place ≡ length bs
+    → ((j : ℕ) → j < half → paired_sum cs (λ k. power_sum bs (first + (j + k))) ≡ 0) → (k place : ℕ) → k + suc place ≡ length bs
     → (get_or bs k 0 ≡ 0) ⊎ (value_at cs (element_power 2 place) ≡ 0)
 located F V cs bs half first short bytes bytes' few zeros k place e =
     F.zero_factor (get_or bs k 0) (value_at cs (element_power 2 place)) (bytes k) (V.fits cs (element_power 2 place))
@@ -132,7 +132,7 @@ located F V cs bs half first short bytes bytes' few zeros k place e =
     (let w = weight-weighed_by F (value_at cs) bs in omega arith)
     (λ j low high.
     weighed_by_value F V cs bs j bytes'
-    ∙ paired-same cs (λ k. power_sum bs (j + k)) (λ k. power_sum bs (first + (j - first + k)))
+    ∙ paired_sum-same cs (λ k. power_sum bs (j + k)) (λ k. power_sum bs (first + (j - first + k)))
     (λ k. ap (power_sum bs) (let e : j + k ≡ first + (j - first + k) = omega arith in e))
     ∙ zeros (j - first) (omega arith))
     k)

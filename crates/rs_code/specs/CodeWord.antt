@@ -13,7 +13,7 @@ pub record IsInstance (count roots first : ℕ) : Type 0 where
   pub high : first + roots ≤ 255
 
 -- the value of a word at 2 raised to j: each byte times that element raised to the number of bytes
--- behind it
+-- after it
 unfoldable pub power_sum : List ℕ → ℕ → ℕ
 power_sum [] j = 0
 power_sum (b ∷ bs) j =

@@ -24,12 +24,12 @@ abbrev pub begins_with : List ℕ → List ℕ → Bool
 begins_with message word = differences (take (length message) word) message == 0
 
 -- the code word that begins with a message
-unfoldable pub encoded : ℕ → ℕ → ℕ → List ℕ → List ℕ
-encoded count roots first message =
+unfoldable pub encoded_word : ℕ → ℕ → ℕ → List ℕ → List ℕ
+encoded_word count roots first message =
     unwrap_or (find (λ word. is_code_word count roots first word && begins_with message word)
     (words count)) []
 
 -- the code word near a word, where there is one
-unfoldable pub corrected : ℕ → ℕ → ℕ → List ℕ → Option (List ℕ)
-corrected count roots first word =
+unfoldable pub corrected_word : ℕ → ℕ → ℕ → List ℕ → Option (List ℕ)
+corrected_word count roots first word =
     find (λ other. is_code_word count roots first other && are_near roots word other) (words count)

@@ -2,7 +2,7 @@
 use Rattle.std.specs.Prelude.{◌≡◌, ◌≢◌, ◌↔◌, ℕ, ◌+◌, ◌-◌, ◌<◌, ◌≤◌, ◌⊎◌, List, length, take}
 use Rattle.std.specs.Prelude.{slice_index, IsTrue, Some, None}
 use Rattle.rs_code.specs.CodeWord.{IsInstance, IsCodeWord, IsNear, IsCorrectable, differences}
-use Rattle.rs_code.specs.Functions.{is_code_word, encoded, corrected}
+use Rattle.rs_code.specs.Functions.{is_code_word, encoded_word, corrected_word}
 
 -- two different code words differ in at least one place more than the code has roots
 abbrev pub HasMinimumDistance : Type 0
@@ -45,20 +45,20 @@ HasCodeWordTest =
     (count roots first : ℕ) (word : List ℕ)
     → IsTrue (is_code_word count roots first word) ↔ IsCodeWord count roots first word
 
--- one word alone is a code word and begins with a message: the one that `encoded` gives
+-- one word alone is a code word and begins with a message: the one that `encoded_word` gives
 abbrev pub HasOneEncoded : Type 0
 HasOneEncoded =
     (count roots first : ℕ) (message word : List ℕ) → IsInstance count roots first
     → length message ≡ count - roots
     → ((i : ℕ) → slice_index message i < 256)
-    → (word ≡ encoded count roots first message)
+    → (word ≡ encoded_word count roots first message)
     ↔ (IsCodeWord count roots first word × (take (count - roots) word ≡ message))
 
--- `corrected` gives the code word near a word, and none exactly where none is near
+-- `corrected_word` gives the code word near a word, and none exactly where none is near
 pub record IsCorrected : Type 0 where
   pub nearest :
       (count roots first : ℕ) (word other : List ℕ) → IsInstance count roots first
-      → (corrected count roots first word ≡ Some other) ↔ IsNear count roots first word other
+      → (corrected_word count roots first word ≡ Some other) ↔ IsNear count roots first word other
   pub none :
       (count roots first : ℕ) (word : List ℕ) → IsInstance count roots first
-      → (corrected count roots first word ≡ None) ↔ ¬ IsCorrectable count roots first word
+      → (corrected_word count roots first word ≡ None) ↔ ¬ IsCorrectable count roots first word

@@ -1,5 +1,5 @@
 -- The words of the contracts by which a damaged word is mended. The wrong places of a word are
--- counted by the bytes behind them, and the point of a place is 2 raised to it. A locator is a
+-- counted by the bytes after them, and the point of a place is 2 raised to it. A locator is a
 -- polynomial that is 0 at the point of each wrong place.
 use Rattle.std.specs.Prelude.{◌≡◌, ℕ, zero, suc, ◌+◌, ◌*◌, ◌-◌, ◌<◌, ◌≤◌, ◌==◌, cond, bit_xor}
 use Rattle.std.specs.Prelude.{List, [], ◌∷◌, length, slice_index, set}
@@ -7,23 +7,23 @@ use Rattle.poly256.specs.Polynomial.{element_product, element_power, value_at}
 use Rattle.rs_code.specs.CodeWord.{IsCodeWord, differences, power_sum}
 
 -- the coefficients of a polynomial, each times the member of a row at its power, added
-unfoldable pub paired : List ℕ → (ℕ → ℕ) → ℕ
-paired [] row = 0
-paired (c ∷ cs) row = bit_xor (element_product c (row 0)) (paired cs (λ k. row (suc k)))
+unfoldable pub paired_sum : List ℕ → (ℕ → ℕ) → ℕ
+paired_sum [] row = 0
+paired_sum (c ∷ cs) row = bit_xor (element_product c (row 0)) (paired_sum cs (λ k. row (suc k)))
 
 -- a polynomial of this degree with the lead 1 whose coefficients, paired with the sums from each
 -- place before `end` on, give 0
 pub record IsLocator (cs sums : List ℕ) (degree end : ℕ) : Type 0 where
   pub lead : slice_index cs degree ≡ 1
   pub past : (k : ℕ) → degree < k → slice_index cs k ≡ 0
-  pub zero : (j : ℕ) → j < end → paired cs (λ k. slice_index sums (j + k)) ≡ 0
+  pub zero : (j : ℕ) → j < end → paired_sum cs (λ k. slice_index sums (j + k)) ≡ 0
 
 -- a polynomial of lower degree that gives 0 so too, but `last` from the place just before that
 -- degree on
 pub record IsEarlier (cs sums : List ℕ) (degree last : ℕ) : Type 0 where
   pub past : (k : ℕ) → degree ≤ k → slice_index cs k ≡ 0
-  pub zero : (j : ℕ) → j + 1 < degree → paired cs (λ k. slice_index sums (j + k)) ≡ 0
-  pub here : (j : ℕ) → j + 1 ≡ degree → paired cs (λ k. slice_index sums (j + k)) ≡ last
+  pub zero : (j : ℕ) → j + 1 < degree → paired_sum cs (λ k. slice_index sums (j + k)) ≡ 0
+  pub here : (j : ℕ) → j + 1 ≡ degree → paired_sum cs (λ k. slice_index sums (j + k)) ≡ last
 
 -- the places below a number at whose points a polynomial is 0, the highest first
 unfoldable pub zero_places : List ℕ → ℕ → List ℕ
@@ -74,10 +74,10 @@ AreSums first word count sums =
     (k : ℕ) → k < count → slice_index sums k ≡ power_sum word (first + k)
 
 -- a word of which each byte is multiplied by its point plus an element
-unfoldable pub weighed : ℕ → List ℕ → List ℕ
-weighed y [] = []
-weighed y (b ∷ bs) =
-    element_product b (bit_xor (element_power 2 (length bs)) y) ∷ weighed y bs
+unfoldable pub weighed_word : ℕ → List ℕ → List ℕ
+weighed_word y [] = []
+weighed_word y (b ∷ bs) =
+    element_product b (bit_xor (element_power 2 (length bs)) y) ∷ weighed_word y bs
 
 -- the point of a byte of a word of so many bytes
 abbrev pub point_at : ℕ → ℕ → ℕ
@@ -86,7 +86,7 @@ point_at count mark = element_power 2 (count - 1 - mark)
 -- a word weighed by the point of each of its marked bytes: those bytes are 0 then
 unfoldable pub without : List ℕ → List ℕ → List ℕ
 without [] word = word
-without (mark ∷ marks) word = without marks (weighed (point_at (length word) mark) word)
+without (mark ∷ marks) word = without marks (weighed_word (point_at (length word) mark) word)
 
 -- each sum but the last is multiplied by a point, and the next one is added
 abbrev pub HasNextAdded : ℕ → List ℕ → List ℕ → Type 0
@@ -119,15 +119,15 @@ pub record HasLead (cs : List ℕ) (degree : ℕ) : Type 0 where
   pub past : (k : ℕ) → degree < k → slice_index cs k ≡ 0
 
 -- a word with 0 in the place of its marked bytes
-unfoldable pub blanked : List ℕ → List ℕ → List ℕ
-blanked [] word = word
-blanked (mark ∷ marks) word = blanked marks (set word mark 0)
+unfoldable pub blanked_word : List ℕ → List ℕ → List ℕ
+blanked_word [] word = word
+blanked_word (mark ∷ marks) word = blanked_word marks (set word mark 0)
 
 -- a code word so near to a word with marked bytes that there is no other: a byte that differs and
 -- has no mark counts twice
 pub record IsNearWith (count roots first : ℕ) (marks word other : List ℕ) : Type 0 where
   pub code : IsCodeWord count roots first other
-  pub near : 2 * differences (blanked marks word) (blanked marks other) + length marks ≤ roots
+  pub near : 2 * differences (blanked_word marks word) (blanked_word marks other) + length marks ≤ roots
 
 -- whatever code word is near to a word with marked bytes, it is this one
 abbrev pub Mends : ℕ → ℕ → ℕ → List ℕ → List ℕ → List ℕ → Type 0

@@ -1,7 +1,7 @@
 //! Codes, and what they do with words.
 ghost use Rattle.std.specs.Prelude.{◌≡◌, ◌+◌, ◌-◌, ℕ, List, take, length, is_ok, IsTrue, Some, None, IfOk, MatchOption, OnOk, OnErr, ◌↔◌};
 ghost use Rattle.rs_code.specs.CodeWord.{IsInstance, IsCodeWord, IsNear, IsCorrectable, differences};
-ghost use Rattle.rs_code.specs.Functions.{encoded, corrected};
+ghost use Rattle.rs_code.specs.Functions.{encoded_word, corrected_word};
 
 use crate::laws::{corrected_is_nearest, one_encoded};
 use crate::locator::byte_law;
@@ -40,7 +40,7 @@ impl<const N: usize, const ROOTS: usize, const FIRST: usize> Rs<N, ROOTS, FIRST>
         ensures front { take (N - ROOTS) word.new ≡ take (N - ROOTS) word.old }
         ensures only { (other : List ℕ) → IsCodeWord N ROOTS FIRST other →
             take (N - ROOTS) other ≡ take (N - ROOTS) word.old → other ≡ word.new }
-        ensures function { word.new ≡ encoded N ROOTS FIRST (take (N - ROOTS) word.old) }
+        ensures function { word.new ≡ encoded_word N ROOTS FIRST (take (N - ROOTS) word.old) }
     {
         one_encoded();
         field_laws::<UatTables>();
@@ -65,8 +65,8 @@ impl<const N: usize, const ROOTS: usize, const FIRST: usize> Rs<N, ROOTS, FIRST>
         ensures corrected { IfOk result (λ changed. IsNear N ROOTS FIRST word.old word.new
             × (changed ≡ differences word.old word.new)) }
         ensures unchanged { OnErr result (word.new ≡ word.old) }
-        ensures function { OnOk result (corrected N ROOTS FIRST word.old ≡ Some word.new) }
-        ensures none { OnErr result (corrected N ROOTS FIRST word.old ≡ None) }
+        ensures function { OnOk result (corrected_word N ROOTS FIRST word.old ≡ Some word.new) }
+        ensures none { OnErr result (corrected_word N ROOTS FIRST word.old ≡ None) }
     {
         corrected_is_nearest();
         let rest = remainder::<N, ROOTS, FIRST>(word);

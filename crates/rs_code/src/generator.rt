@@ -7,7 +7,7 @@ use gf256_core::{Uat, UatTables, field_laws};
 use poly256::degree_laws;
 
 // Multiplies a polynomial of this degree by x + root. Its first coefficient is 1 and does not stand in the list, and the
-// place behind its last one is 0.
+// place after its last one is 0.
 #[inline]
 fn take_root(coefficients: &mut [u8], degree: usize, root: Uat)
     requires { degree < length coefficients.old }

@@ -1,17 +1,17 @@
 //! The polynomial that is 0 at the point of each wrong place, from the power sums of a word.
 ghost use Rattle.std.specs.Prelude.{◌≡◌, ◌+◌, ◌-◌, ◌/◌, ◌<◌, ◌≤◌, ℕ, length, take, slice_index};
 ghost use Rattle.poly256.specs.Polynomial.{element_product};
-ghost use Rattle.rs_code.specs.Mending.{paired, IsLocator, IsEarlier};
+ghost use Rattle.rs_code.specs.Mending.{paired_sum, IsLocator, IsEarlier};
 
 use crate::product::{add_product, times};
 use gf256_core::{Uat, UatTables, field_laws};
 use poly256::degree_laws;
 
-// The coefficients of a polynomial, each times the sum as far behind `from` as its power, added.
+// The coefficients of a polynomial, each times the sum as far after `from` as its power, added.
 #[inline]
 fn discrepancy(coefficients: &[u8], sums: &[u8], from: usize) -> Uat
     requires { from + length coefficients.now ≤ length sums.now }
-    ensures value { result ≡ paired coefficients.now (λ k. slice_index sums.now (from + k)) }
+    ensures value { result ≡ paired_sum coefficients.now (λ k. slice_index sums.now (from + k)) }
     ensures fits { result < 256 }
 {
     let mut total = Uat::of(0);
@@ -34,7 +34,7 @@ fn lengthen<const N: usize>(
 )
     requires locator { IsLocator locator.old sums.now degree at }
     requires earlier { IsEarlier earlier.old sums.now degree last }
-    requires off { paired locator.old (λ k. slice_index sums.now (at + k)) ≡ off }
+    requires off { paired_sum locator.old (λ k. slice_index sums.now (at + k)) ≡ off }
     requires last_some { 0 < last }
     requires off_some { 0 < off }
     requires degree { degree ≤ at }

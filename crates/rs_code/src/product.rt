@@ -1,12 +1,12 @@
-//! Products of elements without a branch: by the powers of 2, which come round once, with zeros behind them.
+//! Products of elements without a branch: by the powers of 2, which come round once, with zeros after them.
 ghost use Rattle.std.specs.Prelude.{◌≡◌, ◌+◌, ◌<◌, ◌≤◌, length, slice_index};
-ghost use Rattle.poly256.specs.Polynomial.{element_product, raised, scaled, sum_of};
+ghost use Rattle.poly256.specs.Polynomial.{element_product, raised_coefficients, scaled_coefficients, sum_of};
 ghost use Rattle.rs_code.specs.declared.product.TheConstants.{POWERS, LOGARITHMS};
 
 use gf256_core::{Uat, UatTables, field_laws};
 use poly256::degree_laws;
 
-// Row i below 510 is 2 raised to i. The rows behind are 0.
+// Row i below 510 is 2 raised to i. The rows after are 0.
 const POWERS: [u8; 1021] = [
     0x01, 0x02, 0x04, 0x08, 0x10, 0x20, 0x40, 0x80, 0x87, 0x89, 0x95, 0xad, 0xdd, 0x3d, 0x7a, 0xf4,
     0x6f, 0xde, 0x3b, 0x76, 0xec, 0x5f, 0xbe, 0xfb, 0x71, 0xe2, 0x43, 0x86, 0x8b, 0x91, 0xa5, 0xcd,
@@ -127,7 +127,7 @@ pub(crate) fn times(first: Uat, second: Uat) -> Uat
 #[inline]
 pub(crate) fn add_product(room: &mut [u8], place: usize, factor: Uat, polynomial: &[u8])
     requires { place + length polynomial.now ≤ length room.old }
-    ensures { room.new ≡ sum_of room.old (raised place (scaled factor polynomial.now)) }
+    ensures { room.new ≡ sum_of room.old (raised_coefficients place (scaled_coefficients factor polynomial.now)) }
 {
     field_laws::<UatTables>();
     degree_laws();

@@ -1,6 +1,6 @@
 //! The multiples of the generator of the uplink's code, 20 bytes for each byte.
 ghost use Rattle.std.specs.Prelude.{◌≡◌, ◌<◌, ◌≤◌, length, slice_index};
-ghost use Rattle.poly256.specs.Polynomial.{scaled, sum_of};
+ghost use Rattle.poly256.specs.Polynomial.{scaled_coefficients, sum_of};
 ghost use Rattle.rs_code.specs.declared.uplink_rows.TheConstants.{UPLINK_ROWS};
 ghost use Rattle.rs_code.specs.UplinkRows.{uplink_generator};
 
@@ -347,7 +347,7 @@ fn row_byte(place: usize) -> u8
 #[inline]
 pub(crate) fn add_row(list: &mut [u8], byte: u8)
     requires { 20 ≤ length list.old }
-    ensures { list.new ≡ sum_of list.old (scaled byte uplink_generator) }
+    ensures { list.new ≡ sum_of list.old (scaled_coefficients byte uplink_generator) }
 {
     field_laws::<UatTables>();
     degree_laws();

@@ -11,7 +11,7 @@ pub fn runs_agree()
 {}
 
 /// A fault of a prefix of the input is the fault of the whole, whatever comes after it and
-/// however the input ends; what a prefix gives is a prefix of the output, and all of it where
+/// however the input ends. What a prefix gives is a prefix of the output, and all of it where
 /// there is a fault.
 #[inline]
 pub fn stable_tasks()

@@ -7,7 +7,7 @@ use Rattle.run_core.specs.declared.status.Status.{Status}
 use Rattle.run_core.specs.declared.status.Status.TheVariants.{Done, ReadFault, WriteFault, NoMemory}
 use Rattle.run_core.specs.Limits.{input_limit}
 use Rattle.run_core.specs.Run.{Task, Ends, at_end, full, ends, IsComplete, IsJudged, IsVerdict, ending_of, taken_fault, taken_output}
-use Rattle.run_trials.specs.Whole.{IsWhole}
+use Rattle.run_trials.specs.Whole.{IsWholeRun}
 
 -- a new sink with so much room
 abbrev pub fresh : ℕ → List ℕ → Store
@@ -28,7 +28,7 @@ module _ (task : Task) (input source : List ℕ) (room : ℕ) (fails : List ℕ)
   after = ends left (u64_count 0) (Some new.taken) (u64_count new.faults)
 
   whole-by : old.taken ≡ [] → IsJudged task before after input status
-      → IsWhole task (ending_of input) input status new.taken
+      → IsWholeRun task (ending_of input) input status new.taken
   whole-by empty (inl none) = inl none
   whole-by empty (inr h) = inr (h.0, h.1 ∙ ap (λ xs. xs ++ taken_output task input (ending_of input)) empty)
 
@@ -36,7 +36,7 @@ module _ (task : Task) (input source : List ℕ) (room : ℕ) (fails : List ℕ)
   pub unfailed : source ≡ input → fails ≡ [] → old ≡ fresh room fails
       → IsComplete task (store_reach old) before after status
       → length (taken_output task input (ending_of input)) < room
-      → (status ≢ ReadFault) × (status ≢ WriteFault) × IsWhole task (ending_of input) input status new.taken
+      → (status ≢ ReadFault) × (status ≢ WriteFault) × IsWholeRun task (ending_of input) input status new.taken
   unfailed given none is complete small =
       let empty : old.taken ≡ [] = ap (λ (s : Store). s.taken) is in
       let all = complete input [] room (ap Some given) (ap Some empty)
@@ -44,7 +44,7 @@ module _ (task : Task) (input source : List ℕ) (room : ℕ) (fails : List ℕ)
       (all.0, all.1, whole-by empty all.2)
 
 done-by : (task : Task) (input taken : List ℕ) (status : Status) → taken_fault task input at_end ≡ None
-    → status ≢ NoMemory → IsWhole task at_end input status taken
+    → status ≢ NoMemory → IsWholeRun task at_end input status taken
     → (status ≡ Done) × (taken ≡ taken_output task input at_end)
 done-by task input taken status clean found (inl none) = absurd (found none)
 done-by task input taken status clean found (inr h) = (subst (λ f. IsVerdict at_end f status) clean h.0, h.1)
@@ -52,11 +52,11 @@ done-by task input taken status clean found (inr h) = (subst (λ f. IsVerdict at
 -- where no line has a fault and the input is not too long, it is done
 pub done : (task : Task) (input taken : List ℕ) (status : Status) (room : ℕ) → length input ≤ input_limit
     → taken_fault task input at_end ≡ None → length (taken_output task input at_end) < room
-    → (length (taken_output task input (ending_of input)) < room → IsWhole task (ending_of input) input status taken)
+    → (length (taken_output task input (ending_of input)) < room → IsWholeRun task (ending_of input) input status taken)
     → status ≢ NoMemory → (status ≡ Done) × (taken ≡ taken_output task input at_end)
 done task input taken status room fits clean small whole found =
     let is : ending_of input ≡ at_end =
     cond-true _ at_end full (le-leb (length input) input_limit fits) in
     done-by task input taken status clean found
-    (subst (λ e. IsWhole task e input status taken) is
+    (subst (λ e. IsWholeRun task e input status taken) is
     (whole (subst (λ e. length (taken_output task input e) < room) (sym is) small)))

@@ -5,7 +5,7 @@ use Rattle.run_core.specs.declared.status.Status.TheVariants.{NoMemory}
 use Rattle.run_core.specs.Run.{Task, Ending, IsVerdict, taken_fault, taken_output}
 
 -- the verdict, with exactly the output; or memory was not found
-abbrev pub IsWhole : Task → Ending → List ℕ → Status → List ℕ → Type 0
-IsWhole task ending input status taken = (status ≡ NoMemory)
+abbrev pub IsWholeRun : Task → Ending → List ℕ → Status → List ℕ → Type 0
+IsWholeRun task ending input status taken = (status ≡ NoMemory)
     ⊎ (IsVerdict ending (taken_fault task input ending) status
     × (taken ≡ taken_output task input ending))

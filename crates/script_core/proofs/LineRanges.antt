@@ -15,7 +15,7 @@ use Rattle.hex.specs.Hex.{decode_sized}
 use Rattle.hex.specs.declared.error.FromHexError.{FromHexError}
 use Rattle.hex.proofs.HexLemmas.{decode_sized-ok, decode_sized-twice, decode_of-ok}
 use Rattle.fisb_time.specs.Moment.{IsMoment}
-use Rattle.dlac_text.specs.Plain.{unplained}
+use Rattle.dlac_text.specs.Plain.{text_of_plain}
 use Rattle.script_core.specs.Fields.{◌>>=◌, fields, is_word, number_within, moment_in, report_in, hex_digit, byte_in, wrong_byte_in, wrong_from, air_in, rx_line, station_at, station_line, text_line, turn_line, hear_line, show_line, other_line, line_of_fields, line_of}
 use Rattle.script_core.specs.Laws.{LinesHaveRanges}
 use Rattle.script_core.specs.LineView.{IsAir}
@@ -28,7 +28,7 @@ use Rattle.script_core.proofs.WrongBytes.{IsWrongByte}
 
 -- what a plain text shows is UTF-8, as the plain text is
 abbrev ShowsUtf8 : Type 0
-ShowsUtf8 = (plain shown : List ℕ) → IsUtf8 plain → unplained plain ≡ Some shown → IsUtf8 shown
+ShowsUtf8 = (plain shown : List ℕ) → IsUtf8 plain → text_of_plain plain ≡ Some shown → IsUtf8 shown
 
 -- each line, by what its fields spell
 abbrev station_by : Option ℕ → Option ℕ → Option ℕ → Option Line
@@ -210,7 +210,7 @@ text_by_ranged size (Some moment) (Some version) (Some report) m v r = (m, v, r.
 where_utf8 : ShowsUtf8 → (bytes shown : List ℕ) → report_in bytes ≡ Some shown → IsUtf8 shown
 where_utf8 law bytes shown e =
     elim (cases_Bool (is_utf8 bytes)) [
-      | inl holds ↦ (let same : unplained bytes ≡ Some shown = rw holds at e in law bytes shown (IsUtf8-from_is_utf8 bytes holds) same)
+      | inl holds ↦ (let same : text_of_plain bytes ≡ Some shown = rw holds at e in law bytes shown (IsUtf8-from_is_utf8 bytes holds) same)
       | inr fails ↦ absurd (let none = rw fails at e in cc)
     ]
 

@@ -5,11 +5,11 @@ use Rattle.std.proofs.lemmas.List.Splits.{length-slice_split, join_with_byte-sli
 use Rattle.std.proofs.lemmas.Str.{IsUtf8-from_is_utf8, is_utf8-from_IsUtf8}
 use Rattle.std.specs.List.{join_with_byte}
 use Rattle.std.specs.Str.{is_utf8, IsUtf8}
-use Rattle.dlac_text.specs.Plain.{unplained, prefixed, unescaped}
+use Rattle.dlac_text.specs.Plain.{text_of_plain, prefixed_text, unescaped_text}
 use Rattle.script_core.specs.Fields.{fields, moment_in, report_in, text_line, ◌>>=◌}
 use Rattle.script_core.specs.Script.{Line, text}
 
-pub report_of_text : (bytes : List ℕ) → IsUtf8 bytes → report_in bytes ≡ unplained bytes
+pub report_of_text : (bytes : List ℕ) → IsUtf8 bytes → report_in bytes ≡ text_of_plain bytes
 report_of_text bytes is_text = let yes : is_utf8 bytes ≡ true = is_utf8-from_IsUtf8 bytes is_text in rw yes
 
 pub report_of_other : (bytes : List ℕ) → (IsUtf8 bytes → ⊥) → report_in bytes ≡ None
@@ -51,7 +51,7 @@ abbrev IsWithin : ℕ → Option (List ℕ) → Type 0
 IsWithin size None = Unit {0}
 IsWithin size (Some shown) = length shown ≤ size
 
-within_prefixed : (size : ℕ) (c : ℕ) (o : Option (List ℕ)) → IsWithin size o → IsWithin (size + 1) (prefixed (c ∷ []) o)
+within_prefixed : (size : ℕ) (c : ℕ) (o : Option (List ℕ)) → IsWithin size o → IsWithin (size + 1) (prefixed_text (c ∷ []) o)
 within_prefixed size c None h = tt
 within_prefixed size c (Some shown) h = omega arith
 
@@ -59,26 +59,26 @@ within_more : (size : ℕ) (o : Option (List ℕ)) → IsWithin size o → IsWit
 within_more size None h = tt
 within_more size (Some shown) h = omega arith
 
-within_unescaped : (size next : ℕ) (o : Option (List ℕ)) → IsWithin size o → IsWithin (size + 1) (unescaped next o)
+within_unescaped : (size next : ℕ) (o : Option (List ℕ)) → IsWithin size o → IsWithin (size + 1) (unescaped_text next o)
 within_unescaped size next o h =
     elim (cases_Bool (next == 110)) [
       | inl n ↦ rw n (within_prefixed size 10 o h)
       | inr not_n ↦ elim (cases_Bool (next == 122)) [ inl z ↦ rw (not_n, z) (within_prefixed size 26 o h) | inr not_z ↦ rw (not_n, not_z) tt ]
     ]
 
-within_unplained : (bytes : List ℕ) → IsWithin (length bytes) (unplained bytes)
+within_unplained : (bytes : List ℕ) → IsWithin (length bytes) (text_of_plain bytes)
 within_unplained [] = omega arith
 within_unplained (c ∷ []) = elim (cases_Bool (c == 92)) [ inl same ↦ rw same tt | inr other ↦ rw other (omega arith) ]
 within_unplained (c ∷ next ∷ more) =
     elim (cases_Bool (c == 92)) [
-      | inl same ↦ rw same (subst (λ n. IsWithin n (unescaped next (unplained more))) (omega arith) (within_more (length more + 1) (unescaped next (unplained more)) (within_unescaped (length more) next (unplained more) (within_unplained more))))
-      | inr other ↦ rw other (subst (λ n. IsWithin n (prefixed (c ∷ []) (unplained (next ∷ more)))) (omega arith) (within_prefixed (length (next ∷ more)) c (unplained (next ∷ more)) (within_unplained (next ∷ more))))
+      | inl same ↦ rw same (subst (λ n. IsWithin n (unescaped_text next (text_of_plain more))) (omega arith) (within_more (length more + 1) (unescaped_text next (text_of_plain more)) (within_unescaped (length more) next (text_of_plain more) (within_unplained more))))
+      | inr other ↦ rw other (subst (λ n. IsWithin n (prefixed_text (c ∷ []) (text_of_plain (next ∷ more)))) (omega arith) (within_prefixed (length (next ∷ more)) c (text_of_plain (next ∷ more)) (within_unplained (next ∷ more))))
     ]
 
 pub report_size : (bytes shown : List ℕ) → report_in bytes ≡ Some shown → length shown ≤ length bytes
 report_size bytes shown is_shown =
     elim (cases_Bool (is_utf8 bytes)) [
-      | inl is_so ↦ (let same : unplained bytes ≡ Some shown = rw is_so at is_shown in subst (IsWithin (length bytes)) same (within_unplained bytes))
+      | inl is_so ↦ (let same : text_of_plain bytes ≡ Some shown = rw is_so at is_shown in subst (IsWithin (length bytes)) same (within_unplained bytes))
       | inr other ↦ absurd (let none = rw other at is_shown in cc)
     ]
 

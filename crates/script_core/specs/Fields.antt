@@ -9,7 +9,8 @@ use Rattle.std.specs.Result.{result_ok}
 use Rattle.std.specs.Str.{bytes_eq, is_utf8}
 use Rattle.hex.specs.Hex.{decode_sized}
 use Rattle.fisb_time.specs.Moment.{first_moment, last_moment}
-use Rattle.dlac_text.specs.Plain.{unplained}
+use Rattle.dlac_text.specs.Plain.{text_of_plain}
+use Rattle.uplink_weave.specs.Woven.{frame_bytes}
 use Rattle.uplink_frame.specs.declared.station.StationId.{StationId}
 use Rattle.script_core.specs.Script.{Line, empty, station, text, radar, blank, turn, hear, rx, show}
 use Rattle.script_core.specs.declared.radar.RadarHead.{RadarHead}
@@ -77,7 +78,7 @@ numbers_in field = block_numbers (slice_split (λ b. b == 44) field)
 
 -- HEX: the 552 bytes of a frame, as 1,104 hexadecimal digits of either case
 abbrev pub air_in : List ℕ → Option (List ℕ)
-air_in field = result_ok (decode_sized field 552)
+air_in field = result_ok (decode_sized field frame_bytes)
 
 -- the value of a hexadecimal digit, of either case
 abbrev pub hex_digit : ℕ → Option ℕ
@@ -94,7 +95,7 @@ byte_in (high ∷ low ∷ []) = do
 byte_in (high ∷ low ∷ more ∷ others) = None
 
 -- PLACE=XX: a place of a frame from `least` on, before the first equals sign, and the byte
--- behind it
+-- after it
 abbrev pub wrong_byte_in : ℕ → List ℕ → Option (ℕ × ℕ)
 wrong_byte_in least field = do
   place ← number_within least 551 (before_first (λ b. b == 61) field)
@@ -127,10 +128,10 @@ station_line (latitude ∷ longitude ∷ site ∷ []) = do
   Some (station (station_at a o s))
 station_line (latitude ∷ longitude ∷ site ∷ more ∷ others) = None
 
--- `text MOMENT VERSION REPORT`, where REPORT is all of the line behind the third space, UTF-8, and
+-- `text MOMENT VERSION REPORT`, where REPORT is all of the line after the third space, UTF-8, and
 -- shows a text
 abbrev pub report_in : List ℕ → Option (List ℕ)
-report_in bytes = if is_utf8 bytes then unplained bytes else None
+report_in bytes = if is_utf8 bytes then text_of_plain bytes else None
 
 abbrev pub text_line : List (List ℕ) → Option Line
 text_line [] = None
@@ -152,7 +153,7 @@ head_in moment version product scale hemisphere = do
   h ← south_in hemisphere
   Some (record { moment = m; version = v; product = p; scale = s; south = h })
 
--- the same, and the fields behind them
+-- the same, and the fields after them
 abbrev pub radar_head : List (List ℕ) → Option (RadarHead × List (List ℕ))
 radar_head [] = None
 radar_head (moment ∷ []) = None

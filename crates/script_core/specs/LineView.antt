@@ -6,6 +6,7 @@ use Rattle.fisb_time.specs.Moment.{IsMoment}
 use Rattle.radar_core.specs.Cells.{IsCells}
 use Rattle.radar_core.specs.declared.key.BlockKey.{BlockKey}
 use Rattle.uplink_frame.specs.Station.{FitsStation}
+use Rattle.uplink_weave.specs.Woven.{frame_bytes}
 use Rattle.script_core.specs.declared.script_line.Line as rust
 use Rattle.script_core.specs.declared.script_line.Line.TheVariants as lines
 use Rattle.script_core.specs.Script.{Line, empty, station, text, radar, blank, turn, hear, rx}
@@ -38,7 +39,7 @@ pub record FitsBlanks (size product scale : ℕ) (numbers : List ℕ) : Type 0 w
 
 -- 552 bytes
 pub record IsAir (air : List ℕ) : Type 0 where
-  pub count : length air ≡ 552
+  pub count : length air ≡ frame_bytes
   pub bytes : All (λ byte. byte < 256) air
 
 -- the ranges of what a line of so many bytes says
@@ -53,6 +54,6 @@ HasRanges size (blank moment version product scale south numbers) =
     IsMoment moment × IsMoment version × FitsBlanks size product scale numbers
 HasRanges size (turn moment slot) = IsMoment moment × (slot < 32)
 HasRanges size (hear moment frame wrong) =
-    IsMoment moment × (frame < 2 ^ 32) × All (λ one. (one.0 < 552) × (one.1 < 256)) wrong
+    IsMoment moment × (frame < 2 ^ 32) × All (λ one. (one.0 < frame_bytes) × (one.1 < 256)) wrong
 HasRanges size (rx moment air) = IsMoment moment × IsAir air
 HasRanges size (show moment) = IsMoment moment

@@ -24,8 +24,8 @@ const CELLS: usize = 128;
 /// The greatest number of a block.
 const LAST_BLOCK: u64 = 1_048_575;
 
-/// The next field of what is left of a line, and what stands behind the space that ends it.
-/// Nothing is left behind a field that no space ends.
+/// The next field of what is left of a line, and what stands after the space that ends it.
+/// Nothing is left after a field that no space ends.
 pub(crate) fn next_field(rest: Option<&[u8]>) -> Option<(&[u8], Option<&[u8]>)>
     ensures { MatchOption result
         (fields_left (option_copied rest.entry) ≡ [])
@@ -47,7 +47,7 @@ pub(crate) fn next_part(rest: Option<&[u8]>, separator: u8) -> Option<(&[u8], Op
     }
 }
 
-/// What stands before the first byte that is the separator, and what stands behind that byte, where there is one.
+/// What stands before the first byte that is the separator, and what stands after that byte, where there is one.
 pub(crate) fn cut_at(bytes: &[u8], separator: u8) -> (&[u8], Option<&[u8]>)
     ensures parts { slice_split (λ b. b == separator) bytes.now
         ≡ result.0.now ∷ parts_left separator (option_copied result.1) }

@@ -1,5 +1,6 @@
 //! The lines of frames that are heard: their bytes, or the fields PLACE=XX of their wrong bytes.
 ghost use Rattle.std.specs.Prelude.{◌≡◌, ℕ, ◌<◌, ◌≤◌, All, IfOk, IfSome, None, Some, length, option_copied, option_map};
+ghost use Rattle.uplink_weave.specs.Woven.{frame_bytes};
 ghost use Rattle.script_core.specs.Fields.{fields_left, byte_in, hear_line, hex_digit, rx_line, wrong_byte_in, wrong_from};
 ghost use Rattle.script_core.specs.LineView.{line_view, HasRanges};
 
@@ -95,7 +96,7 @@ fn read_wrong(alloc: Global, rest: Option<&[u8]>) -> Result<Wrong, LineFault>
 /// The place, from the least one on, and the byte of a field PLACE=XX.
 fn read_wrong_byte(field: &[u8], least: u64) -> Option<(u16, u8)>
     ensures wrong { result ≡ wrong_byte_in least field.now }
-    ensures range { IfSome result (λ one. (one.0 < 552) × (one.1 < 256)) }
+    ensures range { IfSome result (λ one. (one.0 < frame_bytes) × (one.1 < 256)) }
 {
     let (place, Some(byte)) = cut_at(field, b'=') else {
         return None;

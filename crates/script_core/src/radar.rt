@@ -91,7 +91,7 @@ pub(crate) fn read_blank(alloc: Global, rest: Option<&[u8]>) -> Result<Line, Lin
     }
 }
 
-/// MOMENT VERSION PRODUCT SCALE HEMI, and what is left behind them.
+/// MOMENT VERSION PRODUCT SCALE HEMI, and what is left after them.
 fn read_head(rest: Option<&[u8]>) -> Option<(RadarHead, Option<&[u8]>)>
     ensures { MatchOption result
         (radar_head (fields_left (option_copied rest.entry)) ≡ None)

@@ -11,7 +11,9 @@ use Rattle.std.proofs.lemmas.Bool.{cases_Bool, cond-true, cond-false}
 use Rattle.std.proofs.lemmas.List.Sums.{sum_by-cons}
 use Rattle.std.proofs.lemmas.Map.Entries.{length-values_of, sum_by-remove_entry}
 use Rattle.std.proofs.lemmas.Map.Keys.{sorted_head, sorted_tail}
+use Rattle.list_members.specs.ListMembers.{length_ones}
 use Rattle.list_members.specs.Ranges.{find_filter}
+use Rattle.list_members.specs.Tests.{some_past_test}
 use Rattle.apdu_core.specs.declared.unit.Seg.{Seg}
 use Rattle.uplink_frame.specs.Laws.{StationsAreTold}
 use Rattle.segment_core.specs.Arrival.{Arrival, is_piece, has_piece, other_numbers, whole_with, completes}
@@ -90,16 +92,11 @@ module _ (told : StationsAreTold) where
   at_most f x None each = omega arith
   at_most f x (Some v) each = each v refl
 
-  absurd_piece : (b : Bool) (o : Option (Option (List ℕ))) (v : Option (List ℕ)) → cond b None o ≡ Some v
-      → (b ≡ false) × (o ≡ Some v)
-  absurd_piece true o v e = absurd (cc)
-  absurd_piece false o v e = (refl, e)
-
-  weighed_one : (f : Option (List ℕ) → ℕ) (g : Arrival → ℕ) (a : Arrival) (came : List Arrival)
+  weight_of_one : (f : Option (List ℕ) → ℕ) (g : Arrival → ℕ) (a : Arrival) (came : List Arrival)
       → ((es : KeptPieces) → AreNamedOnce es → Fits f g came es → sum_by f (values_of es) ≤ sum_by g came)
       → (es : KeptPieces) → AreNamedOnce es → Fits f g (a ∷ came) es → (o : Option Seg) → a.segmentation ≡ o
       → sum_by f (values_of es) ≤ sum_by g (a ∷ came)
-  weighed_one f g a came before es once fits None none =
+  weight_of_one f g a came before es once fits None none =
       let rest : Fits f g came es = λ k v h.
       let found = fits k v h in
       let other : is k k.number a ≡ false = ap (is_piece (arrival_named k) (seg_of_name k) k.number a) none in
@@ -107,10 +104,10 @@ module _ (told : StationsAreTold) where
       let less = before es once rest in
       let more = sum_by-cons g a came in
       omega arith
-  weighed_one f g a came before es once fits (Some s) seg =
+  weight_of_one f g a came before es once fits (Some s) seg =
       let name : PieceName = piece_name a s in
       let rest : Fits f g came (remove_entry (same_piece name) es) = λ k v h.
-      let kept = absurd_piece (same_piece name k) (kept_under es k) v (sym (held-without name k es once) ∙ h) in
+      let kept = some_past_test (same_piece name k) (kept_under es k) v (sym (held-without name k es once) ∙ h) in
       let found = fits k v kept.1 in
       let other : is k k.number a ≡ false = is-named k k.number a s seg ∙ same-turned k name ∙ kept.0 in
       (found.0, sym (cond-false (is k k.number a) (Some a) (first came k k.number) other) ∙ found.1, found.2) in
@@ -126,14 +123,14 @@ module _ (told : StationsAreTold) where
       let split = sum_by-remove_entry f (same_piece name) es in
       omega (arith, less, more, here, split)
 
-  weighed : (f : Option (List ℕ) → ℕ) (g : Arrival → ℕ) (came : List Arrival) (es : KeptPieces) → AreNamedOnce es → Fits f g came es
+  each_weighs : (f : Option (List ℕ) → ℕ) (g : Arrival → ℕ) (came : List Arrival) (es : KeptPieces) → AreNamedOnce es → Fits f g came es
       → sum_by f (values_of es) ≤ sum_by g came
-  weighed f g [] [] once fits = omega arith
-  weighed f g [] (e ∷ es) once fits =
+  each_weighs f g [] [] once fits = omega arith
+  each_weighs f g [] (e ∷ es) once fits =
       let found = fits e.0 e.1 (cond-true (same_piece e.0 e.0) (Some e.1) (kept_under es e.0) (same-self told e.0)) in
       let none : None ≡ Some found.0 = found.1 in
       absurd (cc)
-  weighed f g (a ∷ came) es once fits = weighed_one f g a came (weighed f g came) es once fits a.segmentation refl
+  each_weighs f g (a ∷ came) es once fits = weight_of_one f g a came (each_weighs f g came) es once fits a.segmentation refl
 
   named_live : (longest : Longest) (moment : ℕ) (k : PieceName) (a : Arrival) (o : Option Seg) → a.segmentation ≡ o
       → is k k.number a ≡ true → is_in_life longest moment k.product k.version ≡ true
@@ -173,23 +170,19 @@ module _ (told : StationsAreTold) where
             (each (was_whole taken k) kept.0),
       )
 
-  sum_ones : {A : Type 0} (xs : List A) → sum_by (λ (x : A). 1) xs ≡ length xs
-  sum_ones [] = refl
-  sum_ones (x ∷ xs) = let more = sum_by-cons (λ y. 1) x xs in let rest = sum_ones xs in omega arith
-
   pub stores-bounded : (store : Store) (moment : ℕ) (taken : List Arrival) → StandsFor store taken → IsPurged store moment
       → IsBounded store moment taken
   stores-bounded store moment taken stands purged = record {
     numbers =
         let ones : sum_by (λ (v : Option (List ℕ)). 1) (values_of store.pieces) ≤ sum_by (λ (a : Arrival). 1)
         (live_arrivals store.longest moment taken) =
-        weighed (λ v. 1) (λ a. 1) (live_arrivals store.longest moment taken) store.pieces purged.once
+        each_weighs (λ v. 1) (λ a. 1) (live_arrivals store.longest moment taken) store.pieces purged.once
         (kept_fits (λ v. 1) (λ a. 1) (λ b a. omega arith) store moment taken stands purged) in
-        let left = sum_ones (values_of store.pieces) in
-        let right = sum_ones (live_arrivals store.longest moment taken) in
+        let left = length_ones (values_of store.pieces) in
+        let right = length_ones (live_arrivals store.longest moment taken) in
         let size = length-values_of store.pieces in
         omega (arith, ones, left, right, size);
-    bytes = weighed piece_size (λ a. length a.payload) (live_arrivals store.longest moment taken) store.pieces purged.once
+    bytes = each_weighs piece_size (λ a. length a.payload) (live_arrivals store.longest moment taken) store.pieces purged.once
         (kept_fits piece_size (λ a. length a.payload) kept_size store moment taken stands purged);
   }
 

@@ -16,6 +16,7 @@ use Rattle.std.proofs.Math.Bool.{and_assoc}
 use Rattle.list_members.specs.ListMembers.{any_in, in_any}
 use Rattle.list_members.specs.Tests.{tied_numbers}
 use Rattle.uplink_frame.specs.Station.{same_flag}
+use Rattle.uplink_frame.specs.Ties.{tied_flags}
 use Rattle.uplink_frame.specs.Laws.{StationsAreTold}
 use Rattle.undo_map.specs.Marked.{with_all}
 use Rattle.segment_core.specs.Kept.{KeptPieces, kept_under, same_piece, with_number}
@@ -28,12 +29,6 @@ pub bool_same : (a b : Bool) → (a ≡ true → b ≡ true) → (b ≡ true →
 bool_same true b f g = sym (f refl)
 bool_same false true f g = g refl
 bool_same false false f g = refl
-
-tied_flags : (a b : Bool) → same_flag a b ≡ is_eq (bool_cmp a b)
-tied_flags true true = refl
-tied_flags true false = refl
-tied_flags false true = refl
-tied_flags false false = refl
 
 regroup : (a b c d e f g h i : Bool) → (a && b && c && d && e && f && g && h && i)
     ≡ (a && (b && (c && d)) && (e && (f && (g && (h && i)))))

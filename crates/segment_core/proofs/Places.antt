@@ -8,6 +8,7 @@ use Rattle.std.specs.Ordering.{is_eq}
 use Rattle.std.proofs.lemmas.Bool.{and_from, and_parts, cases_Bool, cond-true, leb-true, le-leb}
 use Rattle.std.proofs.lemmas.Bool.Decides.{eqb_tells}
 use Rattle.list_members.specs.Ranges.{all_in}
+use Rattle.list_members.specs.Tests.{none_from}
 use Rattle.undo_map.specs.Ends.{HasAdded, HasLeft, KeepsPlaces, has_place_by}
 use Rattle.uplink_frame.specs.Laws.{StationsAreTold}
 use Rattle.segment_core.specs.Arrival.{other_numbers}
@@ -22,14 +23,10 @@ use Rattle.segment_core.proofs.Bounded.{same-turned}
 use Rattle.segment_core.proofs.Completed.{others-in}
 use Rattle.segment_core.proofs.PieceNames.{agrees, kept-found, same-is, same-self}
 
-none-is : {X : Type 0} (o : Option X) → is_some o ≡ false → o ≡ None
-none-is None none = refl
-none-is (Some x) none = absurd (cc)
-
 -- by the order of the names nothing is held, and something
 pub absent-found : (name : PieceName) (pieces : KeptPieces) → is_some (kept_under pieces name) ≡ false
     → lookup (is_at (order.ghosts.cmp name)) pieces ≡ None
-absent-found name pieces absent = kept-found name pieces ∙ none-is (kept_under pieces name) absent
+absent-found name pieces absent = kept-found name pieces ∙ none_from (kept_under pieces name) absent
 
 -- what is held in the other entries
 held-later : (e : PieceName × Option (List ℕ)) (es : KeptPieces) (q : PieceName) → is_some (kept_under es q) ≡ true

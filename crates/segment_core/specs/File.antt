@@ -5,7 +5,7 @@ use Rattle.std.specs.Prelude.{if◌then◌else◌, List, [], ◌∷◌}
 use Rattle.std.specs.Prelude.{length, take, drop, Option, Some, None}
 use Rattle.std.specs.List.{range_with_len, slice_index_or}
 use Rattle.fisb_time.specs.declared.form.TimeForm.{TimeForm}
-use Rattle.fisb_time.specs.TimeFields.{shown}
+use Rattle.fisb_time.specs.TimeFields.{shown_fields}
 use Rattle.apdu_core.specs.declared.unit.Seg.{Seg}
 use Rattle.apdu_core.specs.Apdu.{Apdu, header_length}
 
@@ -72,7 +72,7 @@ abbrev pub apdu_of_segment : File → ℕ → Apdu
 apdu_of_segment f number = record {
   product = f.product;
   form = f.form;
-  time = shown f.form f.version;
+  time = shown_fields f.form f.version;
   segmentation = segmentation_of f number;
   payload = part_of f number;
 }

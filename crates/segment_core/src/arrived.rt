@@ -16,7 +16,7 @@ pub struct Arrived<'a> {
     pub version: Moment,
     /// Which segment of which file it is, where its header says so.
     pub seg: Option<Seg>,
-    /// The bytes behind the header.
+    /// The bytes after the header.
     pub payload: &'a [u8],
 }
 

@@ -15,7 +15,7 @@ IsFault FewWords answer = answer ≡ Err few_words
 IsFault Unlisted answer = answer ≡ Err unlisted
 IsFault NoMemory answer = ⊤
 
--- the third word of a key of so many words, of those behind the second
+-- the third word of a key of so many words, of those after the second
 abbrev pub third_of : ℕ → List (List ℕ) → Result (Option (List ℕ)) KeyFault
 third_of words [] = if words == 3 then Err few_words else Ok None
 third_of words (third ∷ more) = Ok (if words == 3 then Some third else None)

@@ -80,7 +80,7 @@ pub fn key_of(alloc: Global, table: &LifeTable, text: &str) -> Result<TextKey, K
     })
 }
 
-/// The third word of a key of so many words, of the text behind the second.
+/// The third word of a key of so many words, of the text after the second.
 fn third_word(alloc: Global, words: u8, behind: &str) -> Result<Option<Word>, KeyFault>
     ensures third { IfOk result (λ third. third_of words (words_of behind.now) ≡ Ok third) }
     ensures fault { IfErr result

@@ -110,7 +110,7 @@ fn order_by_fronts(one: &[u8], front: u64, other: &[u8], other_front: u64) -> Op
     None
 }
 
-/// A byte of a word, or 0 behind its end.
+/// A byte of a word, or 0 after its end.
 fn byte_at(word: &[u8], place: usize) -> u64
     ensures byte { result ≡ slice_index word.now place }
     ensures fits { result < 256 }

@@ -17,15 +17,12 @@ use Rattle.std.proofs.lemmas.Map.{lookup-none}
 use Rattle.std.proofs.lemmas.Map.Entries.{none_below_head}
 use Rattle.std.proofs.lemmas.Map.Keys.{sorted_tail}
 use Rattle.std.proofs.lemmas.Map.Steps.{set_value_same}
+use Rattle.list_members.specs.Tests.{none_from}
 use Rattle.undo_map.specs.Ends.{HavePlaces, HavePlacesBy, KeepsPlacesBy, has_place, has_place_by, with_newer}
 use Rattle.undo_map.specs.Marked.{with_all}
 use Rattle.undo_map.specs.Steps.{before_all}
 use Rattle.undo_map.specs.declared.step.Step.{Step}
 use Rattle.undo_map.proofs.StepLemmas.{before_all-append}
-
-none-is : {X : Type 0} (o : Option X) → is_some o ≡ false → o ≡ None
-none-is None yet = refl
-none-is (Some x) yet = absurd (cc)
 
 -- what holds after success and after failure holds
 pub either : {A B P Q Z : Type 0} (r : Result A B) → OnOk r P → OnErr r Q → (P → Z) → (Q → Z) → Z
@@ -286,7 +283,7 @@ module _ {K V : Type 0} where
     | inr yet ↦
         let one = insert-longer R p.0 p.1 es in
         let rest = all-more R key pairs (insert_entry R es p.0 p.1)
-        (none-is (lookup (is_at (R key)) (insert_entry R es p.0 p.1)) yet) some in
+        (none_from (lookup (is_at (R key)) (insert_entry R es p.0 p.1)) yet) some in
         omega (arith, one, rest)
   ]
 

@@ -1,7 +1,7 @@
 -- Places of a key that are brought forward, and places of a queue in two parts.
 use Rattle.std.proofs.Common.{◌≡◌, ℕ, ◌<◌, ◌≤◌, ◌&&◌, ◌||◌, ◌⊎◌, true, false, Bool, List, [], ◌∷◌, ◌++◌, length, map, filter, not}
 use Rattle.std.proofs.Common.{refl, sym, ap, subst, ◌∙◌, nat_le, arith, inl, inr, IsPermutation}
-use Rattle.std.specs.Cmp.{IsTotalOrder}
+use Rattle.std.specs.Cmp.{IsTotalOrder, Equal-is}
 use Rattle.std.specs.List.{list_any}
 use Rattle.std.specs.Ordering.{is_eq}
 use Rattle.std.specs.declared.cmp.Ordering.{Ordering}
@@ -11,7 +11,7 @@ use Rattle.std.proofs.lemmas.Bool.Decides.{nat_tests}
 use Rattle.std.proofs.lemmas.Cmp.{tied_itself}
 use Rattle.std.proofs.lemmas.List.Folds.{list_any-append}
 use Rattle.std.proofs.lemmas.List.Sorted.{IsPermutation-cons, IsPermutation-map, IsPermutation-trans, length_permutation, list_any-IsPermutation}
-use Rattle.std.proofs.lemmas.List.Filters.{length-filter_both}
+use Rattle.list_members.specs.ListMembers.{filter_shorter}
 use Rattle.undo_map.specs.Ends.{HasPlaceSooner, KeepsPlacesBy, has_place_by}
 use Rattle.undo_map.specs.declared.ends.Place.{Place}
 use Rattle.undo_map.proofs.EndLemmas.{has-added, has-later}
@@ -27,19 +27,10 @@ stays-early true b same stay = refl
 stays-early false true same stay = absurd (cc)
 stays-early false false same stay = absurd (cc)
 
-is-equal : (o : Ordering) → is_eq o ≡ true → o ≡ Equal
-is-equal Less same = absurd (cc)
-is-equal Equal same = refl
-is-equal Greater same = absurd (cc)
-
-filter-shorter : {X : Type 0} (p : X → Bool) (xs : List X) → length (filter p xs) ≤ length xs
-filter-shorter p xs =
-    let both = length-filter_both p (λ x. not (p x)) (λ x. refl) xs in omega (arith, both)
-
 module _ {K : Type 0} where
   same-through :
       (R : K → K → Ordering) → IsTotalOrder R → (x y z : K) → is_eq (R x y) ≡ true → is_eq (R x z) ≡ true → is_eq (R y z) ≡ true
-  same-through R total x y z one other = sym (ap is_eq (total.congr x y z (is-equal (R x y) one))) ∙ other
+  same-through R total x y z one other = sym (ap is_eq (total.congr x y z ((Equal-is (R x y)).0 one))) ∙ other
 
   flipped : (R : K → K → Ordering) → IsTotalOrder R → (x y : K) → is_eq (R x y) ≡ true → is_eq (R y x) ≡ true
   flipped R total x y same = same-through R total x y x same (rw (tied_itself total x) refl)
@@ -98,7 +89,7 @@ module _ {K : Type 0} where
                   inl (rw stay (or_left (is_eq (R x.key q) && nat_le x.end second)
                   (has_place_by R (places_in (filter (stays R second key) xs)) q second) (rw (parts.0, early) refl)))
               | inr leave ↦
-                  let few = filter-shorter (stays R second key) xs in
+                  let few = filter_shorter (stays R second key) xs in
                   inr (rw leave (omega (arith, few)))
             ]
         | inr more ↦ elim (sooner-places R total second key q by xs same more) [

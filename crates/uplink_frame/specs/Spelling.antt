@@ -4,7 +4,7 @@ use Rattle.std.specs.Prelude.{◌≡◌, ℕ, ◌<◌, ◌^◌, List, [], ◌∷
 use Rattle.uplink_frame.specs.UplinkFrame.{InformationFrame, frame_front}
 
 -- the bytes begin with two that have this length and this type, with any reserved bits between
--- them, and others stand behind
+-- them, and others stand after
 pub record BeginsWith (size kind : ℕ) (bytes behind : List ℕ) : Type 0 where
   pub size_fits : size < 2 ^ 9
   pub kind_fits : kind < 2 ^ 4
@@ -21,12 +21,12 @@ pub data IsEnd (bytes : List ℕ) : Type 0 where
       → length behind < size → IsEnd bytes
 
 -- the bytes begin with those of this frame, whose length and type are not both 0, and others stand
--- behind
+-- after
 pub record SpellsFrame (frame : InformationFrame) (bytes behind : List ℕ) : Type 0 where
   pub begins : BeginsWith (length frame.body) frame.kind bytes (frame.body ++ behind)
   pub not_zeros : frame.kind ≡ 0 → 0 < length frame.body
 
--- the bytes begin with those of the frames, one after another, and the list ends behind them
+-- the bytes begin with those of the frames, one after another, and the list ends after them
 abbrev pub SpellsFrames : List InformationFrame → List ℕ → Type 0
 SpellsFrames [] bytes = IsEnd bytes
 SpellsFrames (frame ∷ frames) bytes =

@@ -48,14 +48,14 @@ impl AppData {
     }
 
     /// The bytes that the information frames take: two for each, and its body.
-    pub fn used(&self) -> u16
+    pub fn used_bytes(&self) -> u16
         ensures used { result ≡ length (spelled_frames self.now) }
         ensures room { result ≤ frame_room }
     {
         self.used as u16
     }
 
-    /// Puts an information frame of this type behind the others: a type of at most 15, and a body of
+    /// Puts an information frame of this type after the others: a type of at most 15, and a body of
     /// at most 511 bytes.
     ///
     /// # Errors
@@ -83,7 +83,7 @@ impl AppData {
         Ok(())
     }
 
-    /// Writes the information frames into a payload from byte 8 on, and zeros behind them. The header
+    /// Writes the information frames into a payload from byte 8 on, and zeros after them. The header
     /// stays.
     pub fn finish(&self, payload: &mut [u8; 432])
         ensures bytes { payload.new ≡ take 8 payload.old ++ application_data self.now }

@@ -85,7 +85,7 @@ fn field(bits: u64, below: u32, width: u32) -> u64
     (bits >> below) % (1 << width)
 }
 
-/// The bits with a field of this width behind them.
+/// The bits with a field of this width after them.
 fn with_field(bits: u64, width: u32, number: u64) -> u64
     requires width { width < 64 }
     requires room { bits * 2 ^ width + number < 2 ^ 64 }

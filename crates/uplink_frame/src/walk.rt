@@ -60,7 +60,7 @@ impl<'a> Iterator for FrameWalk<'a> {
     }
 }
 
-/// The information frame at the front of some bytes, and the bytes behind it. `None` where the list of frames ends.
+/// The information frame at the front of some bytes, and the bytes after it. `None` where the list of frames ends.
 fn first_frame(bytes: &[u8]) -> Option<(InfoFrame<'_>, &[u8])>
     ensures { MatchOption result
         (frames_in bytes.now ≡ [])

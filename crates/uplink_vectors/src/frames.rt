@@ -20,7 +20,7 @@ const REPORT_ON_THE_AIR: [&str; 12] = [
     "00000000730000000000da0000000000420000000000bc0000000000b50000000000210000000000ca0000000000",
 ];
 
-// A header without a position, one information frame of 15 bytes, and zeros behind it.
+// A header without a position, one information frame of 15 bytes, and zeros after it.
 fn report() -> [u8; 432] {
     let front = [
         0x00, 0x00, 0x00, 0x00, 0x00, 0x00, 0xa0, 0x00, 0x06, 0x80, 0x06, 0x74, 0x58, 0xd0, 0x34,

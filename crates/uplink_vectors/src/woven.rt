@@ -4,7 +4,7 @@ use uplink_weave::{
     woven_gives_payload, woven_is_the_frame,
 };
 
-// A header without a position and one information frame, and zeros behind them.
+// A header without a position and one information frame, and zeros after them.
 fn one_report() -> [u8; 432] {
     let front = [
         0x00, 0x00, 0x00, 0x00, 0x00, 0x00, 0xa0, 0x00, 0x06, 0x80, 0x06, 0x74, 0x58, 0xd0, 0x34,

@@ -4,6 +4,7 @@ use Rattle.std.proofs.lemmas.Bool.{cases_lt, le-leb}
 use Rattle.std.proofs.lemmas.List.{ext_get_or, length-replicate, get_or-replicate}
 use Rattle.rs_code.specs.CodeWord.{IsInstance, are_near, bound, differences}
 use Rattle.rs_code.specs.Laws.{CountsDifferences, HasOneNearest}
+use Rattle.rs_code.specs.Instances.{uplink_instance}
 use Rattle.std.specs.List.{range_with_len}
 use Rattle.std.proofs.lemmas.List.FromFn.{length-map-range_with_len, get_or-map-range_with_len}
 use Rattle.uplink_weave.specs.Woven.{block, block_roots, IsWoven, HasCounts}
@@ -35,14 +36,6 @@ woven_gives_payload D payload air is = (
   },
 )
 
-pub uplink : IsInstance 92 20 120
-uplink = record {
-  even = refl;
-  below = omega arith;
-  short = omega arith;
-  high = omega arith;
-}
-
 pub unique : HasOneNearest → IsUnique
 unique O = record {
   payload = λ air one other has has'.
@@ -57,7 +50,7 @@ unique O = record {
       ap (λ (j : ℕ). get_or one j 0) (sym place)
       ∙ sym (part.2 (i % 72) inside)
       ∙ ap (λ (w : List ℕ). get_or w (i % 72) 0)
-      (O 92 20 120 (block (i / 72) air) part.0 part'.0 uplink part.1 part'.1)
+      (O 92 20 120 (block (i / 72) air) part.0 part'.0 uplink_instance part.1 part'.1)
       ∙ part'.2 (i % 72) inside
       ∙ ap (λ (j : ℕ). get_or other j 0) place);
   counts = λ air one other has has'.
@@ -69,7 +62,7 @@ unique O = record {
       let each' = has'.each r low in
       each.2
       ∙ ap (λ (w : List ℕ). differences (block r air) w)
-      (O 92 20 120 (block r air) each.0 each'.0 uplink each.1 each'.1)
+      (O 92 20 120 (block r air) each.0 each'.0 uplink_instance each.1 each'.1)
       ∙ sym each'.2);
   lost = λ air one other is is'. elim (cases_lt one other) [
     | inl lower ↦ absurd (is.lost (is'.first one lower))

@@ -6,41 +6,42 @@ use Rattle.std.proofs.lemmas.List.{ext_get_or, get_or-drop, get_or_past}
 use Rattle.std.proofs.lemmas.List.FromFn.{length-map-range_with_len, get_or-map-range_with_len}
 use Rattle.list_members.specs.Places.{take-below}
 use Rattle.rs_code.specs.CodeWord.{IsCodeWord, IsNear, IsCorrectable, differences, bound}
-use Rattle.rs_code.specs.Functions.{encoded}
+use Rattle.rs_code.specs.Functions.{encoded_word}
 use Rattle.rs_code.specs.Laws.{HasOneEncoded, IsCorrected}
+use Rattle.rs_code.specs.Instances.{uplink_instance}
 use Rattle.uplink_weave.specs.Woven.{block, IsWoven, AllCorrectable, HasPayload, HasCounts, IsLostBlock}
-use Rattle.uplink_weave.specs.Functions.{part, woven, corrected_block, payload_in, counts_in, lost_block_in}
+use Rattle.uplink_weave.specs.Functions.{part, woven_frame, corrected_block, payload_in, counts_in, lost_block_in}
 use Rattle.uplink_weave.specs.Laws.{IsTheFrame, GivesPayload, FrameGivesPayload, WovenGivesPayload, NearFrameGivesPayload, BurstIsSpread, BurstGivesPayload}
 use Rattle.uplink_weave.proofs.Places.{length-block, is_block, same_frame}
-use Rattle.uplink_weave.proofs.Frames.{uplink, near_gives_payload, near_counts}
+use Rattle.uplink_weave.proofs.Frames.{near_gives_payload, near_counts}
 use Rattle.uplink_weave.proofs.Parts.{length-part, part_from, part_to, joined_to, joined_from, first_from, first_to, none_from, none_to, word_there, no_word, cases_option, joined_none}
 
 -- frames that are woven
 
-length-woven : (payload : List ℕ) → length (woven payload) ≡ 552
-unfolding woven
-length-woven payload =
-    length-map-range_with_len (λ (place : ℕ). get_or (encoded 92 20 120 (part (place % 6) payload)) (place / 6) 0) 0 552
+length-woven_frame : (payload : List ℕ) → length (woven_frame payload) ≡ 552
+unfolding woven_frame
+length-woven_frame payload =
+    length-map-range_with_len (λ (place : ℕ). get_or (encoded_word 92 20 120 (part (place % 6) payload)) (place / 6) 0) 0 552
 
-get_or-woven :
+get_or-woven_frame :
     (payload : List ℕ) (place : ℕ) → place < 552
-    → get_or (woven payload) place 0 ≡ get_or (encoded 92 20 120 (part (place % 6) payload)) (place / 6) 0
-unfolding woven
-get_or-woven payload place h =
-    get_or-map-range_with_len (λ (i : ℕ). get_or (encoded 92 20 120 (part (i % 6) payload)) (i / 6) 0) 0 552 place place 0 h
+    → get_or (woven_frame payload) place 0 ≡ get_or (encoded_word 92 20 120 (part (place % 6) payload)) (place / 6) 0
+unfolding woven_frame
+get_or-woven_frame payload place h =
+    get_or-map-range_with_len (λ (i : ℕ). get_or (encoded_word 92 20 120 (part (i % 6) payload)) (i / 6) 0) 0 552 place place 0 h
     (omega arith)
 
-block-woven :
-    (payload : List ℕ) (r : ℕ) → r < 6 → length (encoded 92 20 120 (part r payload)) ≡ 92
-    → block r (woven payload) ≡ encoded 92 20 120 (part r payload)
-block-woven payload r h long =
-    sym (is_block r (woven payload) (encoded 92 20 120 (part r payload)) long
+block-woven_frame :
+    (payload : List ℕ) (r : ℕ) → r < 6 → length (encoded_word 92 20 120 (part r payload)) ≡ 92
+    → block r (woven_frame payload) ≡ encoded_word 92 20 120 (part r payload)
+block-woven_frame payload r h long =
+    sym (is_block r (woven_frame payload) (encoded_word 92 20 120 (part r payload)) long
     (λ k h'.
     let number : r ≡ (6 * k + r) % 6 = omega arith in
     let place : k ≡ (6 * k + r) / 6 = omega arith in
-    ap (λ (n : ℕ). get_or (encoded 92 20 120 (part n payload)) k 0) number
-    ∙ ap (λ (n : ℕ). get_or (encoded 92 20 120 (part ((6 * k + r) % 6) payload)) n 0) place
-    ∙ sym (get_or-woven payload (6 * k + r) (omega arith))))
+    ap (λ (n : ℕ). get_or (encoded_word 92 20 120 (part n payload)) k 0) number
+    ∙ ap (λ (n : ℕ). get_or (encoded_word 92 20 120 (part ((6 * k + r) % 6) payload)) n 0) place
+    ∙ sym (get_or-woven_frame payload (6 * k + r) (omega arith))))
 
 bytes-part :
     (r : ℕ) (payload : List ℕ) → ((i : ℕ) → get_or payload i 0 < 256) → (i : ℕ) → get_or (part r payload) i 0 < 256
@@ -51,61 +52,61 @@ bytes-part r payload bytes =
 encoded_is :
     (E : HasOneEncoded) (payload : List ℕ) (r : ℕ) → r < 6 → length payload ≡ 432
     → ((i : ℕ) → get_or payload i 0 < 256)
-    → IsCodeWord 92 20 120 (encoded 92 20 120 (part r payload))
-    × (take 72 (encoded 92 20 120 (part r payload)) ≡ part r payload)
+    → IsCodeWord 92 20 120 (encoded_word 92 20 120 (part r payload))
+    × (take 72 (encoded_word 92 20 120 (part r payload)) ≡ part r payload)
 encoded_is E payload r h full bytes =
-    (E 92 20 120 (part r payload) (encoded 92 20 120 (part r payload)) uplink (length-part r payload h full)
+    (E 92 20 120 (part r payload) (encoded_word 92 20 120 (part r payload)) uplink_instance (length-part r payload h full)
     (bytes-part r payload bytes)).0 refl
 
-only_frame : (E : HasOneEncoded) (payload air : List ℕ) → IsWoven payload air → air ≡ woven payload
+only_frame : (E : HasOneEncoded) (payload air : List ℕ) → IsWoven payload air → air ≡ woven_frame payload
 only_frame E payload air is =
-    same_frame air (woven payload) is.long (length-woven payload)
+    same_frame air (woven_frame payload) is.long (length-woven_frame payload)
     (λ r h.
     let code = is.code r h in
     let front : take 72 (block r air) ≡ part r payload =
     part_from r payload (block r air) h is.full (length-block r air) (is.parts r h) in
-    let same : block r air ≡ encoded 92 20 120 (part r payload) =
-    (E 92 20 120 (part r payload) (block r air) uplink (length-part r payload h is.full)
+    let same : block r air ≡ encoded_word 92 20 120 (part r payload) =
+    (E 92 20 120 (part r payload) (block r air) uplink_instance (length-part r payload h is.full)
     (subst (λ (w : List ℕ). (i : ℕ) → get_or w i 0 < 256) front (take-below 256 72 (block r air) (lit< tt) code.bytes))).1 (code, front) in
-    same ∙ sym (block-woven payload r h (ap length (sym same) ∙ length-block r air)))
+    same ∙ sym (block-woven_frame payload r h (ap length (sym same) ∙ length-block r air)))
 
 made_frame :
     (E : HasOneEncoded) (payload : List ℕ) → length payload ≡ 432 → ((i : ℕ) → get_or payload i 0 < 256)
-    → IsWoven payload (woven payload)
+    → IsWoven payload (woven_frame payload)
 made_frame E payload full bytes = record {
   full = full;
-  long = length-woven payload;
+  long = length-woven_frame payload;
   code = λ r h.
       let is = encoded_is E payload r h full bytes in
       let code = is.0 in
-      subst (IsCodeWord 92 20 120) (sym (block-woven payload r h code.long)) code;
+      subst (IsCodeWord 92 20 120) (sym (block-woven_frame payload r h code.long)) code;
   parts = λ r h.
       let is = encoded_is E payload r h full bytes in
       let code = is.0 in
-      part_to r payload (block r (woven payload)) (ap (take 72) (block-woven payload r h code.long) ∙ is.1);
+      part_to r payload (block r (woven_frame payload)) (ap (take 72) (block-woven_frame payload r h code.long) ∙ is.1);
 }
 
-bytes-woven :
+bytes-woven_frame :
     (E : HasOneEncoded) (payload : List ℕ) → length payload ≡ 432 → ((i : ℕ) → get_or payload i 0 < 256) → (i : ℕ)
-    → get_or (woven payload) i 0 < 256
-bytes-woven E payload full bytes i = elim (cases_lt i 552) [
+    → get_or (woven_frame payload) i 0 < 256
+bytes-woven_frame E payload full bytes i = elim (cases_lt i 552) [
   | inl inside ↦
       let is = encoded_is E payload (i % 6) (omega arith) full bytes in
       let code = is.0 in
-      let e = get_or-woven payload i inside in
+      let e = get_or-woven_frame payload i inside in
       let fits = code.bytes (i / 6) in
       omega arith
   | inr behind ↦
-      let l = length-woven payload in
-      let e = get_or_past (woven payload) i 0 (omega arith) in
+      let l = length-woven_frame payload in
+      let e = get_or_past (woven_frame payload) i 0 (omega arith) in
       omega arith
 ]
 
 pub is_the_frame : HasOneEncoded → IsTheFrame
 is_the_frame E = record {
   only = only_frame E;
-  made = λ payload full bytes. (made_frame E payload full bytes, bytes-woven E payload full bytes);
-  long = length-woven;
+  made = λ payload full bytes. (made_frame E payload full bytes, bytes-woven_frame E payload full bytes);
+  long = length-woven_frame;
 }
 
 -- payloads, counts and lost blocks of frames
@@ -114,12 +115,12 @@ near_is :
     (C : IsCorrected) (air : List ℕ) (r : ℕ) (word : List ℕ)
     → (corrected_block air r ≡ Some word) ↔ IsNear 92 20 120 (block r air) word
 unfolding corrected_block
-near_is C air r word = C.nearest 92 20 120 (block r air) word uplink
+near_is C air r word = C.nearest 92 20 120 (block r air) word uplink_instance
 
 none_is :
     (C : IsCorrected) (air : List ℕ) (r : ℕ) → (corrected_block air r ≡ None) ↔ ¬ IsCorrectable 92 20 120 (block r air)
 unfolding corrected_block
-none_is C air r = C.none 92 20 120 (block r air) uplink
+none_is C air r = C.none 92 20 120 (block r air) uplink_instance
 
 long_word :
     (C : IsCorrected) (air : List ℕ) (r : ℕ) (word : List ℕ) → corrected_block air r ≡ Some word → length word ≡ 92
@@ -249,25 +250,25 @@ gives_payload C = record {
 pub frame_gives_payload : WovenGivesPayload → IsTheFrame → GivesPayload → FrameGivesPayload
 frame_gives_payload W T G payload full bytes =
     let made = T.made payload full bytes in
-    let gives = W payload (woven payload) made.0 in
-    let all : AllCorrectable (woven payload) = λ r h. let some = gives.0.parts r h in (some.0, some.1) in (
-      (G.payload (woven payload) payload).1 gives.0,
-      sym ((G.counts (woven payload) (replicate 6 0) all).1 gives.1),
-      (G.none_lost (woven payload)).1 all,
+    let gives = W payload (woven_frame payload) made.0 in
+    let all : AllCorrectable (woven_frame payload) = λ r h. let some = gives.0.parts r h in (some.0, some.1) in (
+      (G.payload (woven_frame payload) payload).1 gives.0,
+      sym ((G.counts (woven_frame payload) (replicate 6 0) all).1 gives.1),
+      (G.none_lost (woven_frame payload)).1 all,
     )
 
 pub near_frame_gives_payload : IsTheFrame → GivesPayload → NearFrameGivesPayload
 near_frame_gives_payload T G payload air full bytes near =
     let made = T.made payload full bytes in
-    let gives = near_gives_payload payload (woven payload) air made.0 near in
+    let gives = near_gives_payload payload (woven_frame payload) air made.0 near in
     let all : AllCorrectable air = λ r h. let some = gives.parts r h in (some.0, some.1) in (
       (G.payload air payload).1 gives,
-      sym ((G.counts air _ all).1 (near_counts payload (woven payload) air made.0 near)),
+      sym ((G.counts air _ all).1 (near_counts payload (woven_frame payload) air made.0 near)),
       (G.none_lost air).1 all,
     )
 
 pub burst_gives_payload : IsTheFrame → BurstIsSpread → NearFrameGivesPayload → BurstGivesPayload
 burst_gives_payload T B N payload air first full bytes long same =
-    let spread = B first air (woven payload) long (T.long payload) same in
+    let spread = B first air (woven_frame payload) long (T.long payload) same in
     (N payload air full bytes
-    (λ r h. le-leb (differences (block r air) (block r (woven payload))) (bound 20) (let few = spread r h in omega arith))).0
+    (λ r h. le-leb (differences (block r air) (block r (woven_frame payload))) (bound 20) (let few = spread r h in omega arith))).0

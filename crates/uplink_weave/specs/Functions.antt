@@ -4,23 +4,23 @@ use Rattle.std.specs.Prelude.{ℕ, ◌*◌, ◌/◌, ◌%◌, List, [], ◌∷�
 use Rattle.std.specs.Prelude.{find, Option, Some, None, option_map, unwrap_or, is_none}
 use Rattle.std.specs.List.{range_with_len}
 use Rattle.rs_code.specs.CodeWord.{differences}
-use Rattle.rs_code.specs.Functions.{encoded, corrected}
-use Rattle.uplink_weave.specs.Woven.{block, block_bytes, block_roots, first_root}
+use Rattle.rs_code.specs.Functions.{encoded_word, corrected_word}
+use Rattle.uplink_weave.specs.Woven.{block, block_bytes, block_roots, first_root, frame_bytes}
 
 -- the part of a payload that a block carries
 abbrev pub part : ℕ → List ℕ → List ℕ
 part r payload = take 72 (drop (72 * r) payload)
 
 -- the frame of a payload: byte 6k + r on the air is byte k of the code word that begins with part r
-unfoldable pub woven : List ℕ → List ℕ
-woven payload =
+unfoldable pub woven_frame : List ℕ → List ℕ
+woven_frame payload =
     map (λ place.
-    slice_index (encoded block_bytes block_roots first_root (part (place % 6) payload)) (place / 6))
-    (range_with_len 0 552)
+    slice_index (encoded_word block_bytes block_roots first_root (part (place % 6) payload)) (place / 6))
+    (range_with_len 0 frame_bytes)
 
 -- the code word near a block, where there is one
 unfoldable pub corrected_block : List ℕ → ℕ → Option (List ℕ)
-corrected_block air r = corrected block_bytes block_roots first_root (block r air)
+corrected_block air r = corrected_word block_bytes block_roots first_root (block r air)
 
 -- the first 72 bytes of each word, joined, where none is missing
 abbrev pub payload_of_words : List (Option (List ℕ)) → Option (List ℕ)

@@ -3,9 +3,10 @@ use Rattle.std.specs.Prelude.{◌≡◌, ◌↔◌, ℕ, ◌+◌, ◌<◌, ◌�
 use Rattle.std.specs.Prelude.{replicate, map, IsTrue, Some, None}
 use Rattle.std.specs.List.{range_with_len}
 use Rattle.rs_code.specs.CodeWord.{are_near, differences}
-use Rattle.uplink_weave.specs.Woven.{block, block_roots, IsWoven, AllCorrectable, HasPayload}
-use Rattle.uplink_weave.specs.Woven.{HasCounts, IsLostBlock}
-use Rattle.uplink_weave.specs.Functions.{woven, payload_in, counts_in, lost_block_in}
+use Rattle.uplink_frame.specs.UplinkFrame.{payload_length}
+use Rattle.uplink_weave.specs.Woven.{block, block_roots, frame_bytes, IsWoven, AllCorrectable}
+use Rattle.uplink_weave.specs.Woven.{HasCounts, HasPayload, IsLostBlock}
+use Rattle.uplink_weave.specs.Functions.{woven_frame, payload_in, counts_in, lost_block_in}
 
 -- a woven frame has the payload that it is woven of, and no byte of it is to be changed
 abbrev pub WovenGivesPayload : Type 0
@@ -16,8 +17,8 @@ WovenGivesPayload =
 -- a frame whose blocks are near those of a woven frame has the payload of that frame
 abbrev pub NearGivesPayload : Type 0
 NearGivesPayload =
-    (payload woven air : List ℕ) → IsWoven payload woven
-    → ((r : ℕ) → r < 6 → IsTrue (are_near block_roots (block r air) (block r woven)))
+    (payload woven_frame air : List ℕ) → IsWoven payload woven_frame
+    → ((r : ℕ) → r < 6 → IsTrue (are_near block_roots (block r air) (block r woven_frame)))
     → HasPayload air payload
 
 -- a frame has at most one payload, one list of counts and one first lost block
@@ -30,18 +31,18 @@ pub record IsUnique : Type 0 where
 -- frames that differ only inside 60 consecutive places differ in at most ten places of each block
 abbrev pub BurstIsSpread : Type 0
 BurstIsSpread =
-    (first : ℕ) (air other : List ℕ) → length air ≡ 552 → length other ≡ 552
+    (first : ℕ) (air other : List ℕ) → length air ≡ frame_bytes → length other ≡ frame_bytes
     → ((place : ℕ) → (place < first) ⊎ (first + 60 ≤ place) →
     slice_index air place ≡ slice_index other place)
     → (r : ℕ) → r < 6 → differences (block r air) (block r other) ≤ 10
 
--- `woven` gives the frame that is woven of a payload, and there is no other
+-- `woven_frame` gives the frame that is woven of a payload, and there is no other
 pub record IsTheFrame : Type 0 where
-  pub only : (payload air : List ℕ) → IsWoven payload air → air ≡ woven payload
+  pub only : (payload air : List ℕ) → IsWoven payload air → air ≡ woven_frame payload
   pub made :
-      (payload : List ℕ) → length payload ≡ 432 → ((i : ℕ) → slice_index payload i < 256)
-      → IsWoven payload (woven payload) × ((i : ℕ) → slice_index (woven payload) i < 256)
-  pub long : (payload : List ℕ) → length (woven payload) ≡ 552
+      (payload : List ℕ) → length payload ≡ payload_length → ((i : ℕ) → slice_index payload i < 256)
+      → IsWoven payload (woven_frame payload) × ((i : ℕ) → slice_index (woven_frame payload) i < 256)
+  pub long : (payload : List ℕ) → length (woven_frame payload) ≡ frame_bytes
 
 -- the functions of a frame give its payload, its counts and its first lost block, and give none
 -- exactly where there is none
@@ -56,27 +57,27 @@ pub record GivesPayload : Type 0 where
 -- the frame of a payload has that payload, and no byte of it is to be changed
 abbrev pub FrameGivesPayload : Type 0
 FrameGivesPayload =
-    (payload : List ℕ) → length payload ≡ 432 → ((i : ℕ) → slice_index payload i < 256)
-    → (payload_in (woven payload) ≡ Some payload) × (counts_in (woven payload) ≡ replicate 6 0)
-    × (lost_block_in (woven payload) ≡ None)
+    (payload : List ℕ) → length payload ≡ payload_length → ((i : ℕ) → slice_index payload i < 256)
+    → (payload_in (woven_frame payload) ≡ Some payload) × (counts_in (woven_frame payload) ≡ replicate 6 0)
+    × (lost_block_in (woven_frame payload) ≡ None)
 
 -- a frame whose blocks are near those of the frame of a payload has that payload, and each count is
 -- the number of places in which its block differs
 abbrev pub NearFrameGivesPayload : Type 0
 NearFrameGivesPayload =
-    (payload air : List ℕ) → length payload ≡ 432 → ((i : ℕ) → slice_index payload i < 256)
-    → ((r : ℕ) → r < 6 → IsTrue (are_near block_roots (block r air) (block r (woven payload))))
+    (payload air : List ℕ) → length payload ≡ payload_length → ((i : ℕ) → slice_index payload i < 256)
+    → ((r : ℕ) → r < 6 → IsTrue (are_near block_roots (block r air) (block r (woven_frame payload))))
     → (payload_in air ≡ Some payload)
     × (counts_in air
-    ≡ map (λ r. differences (block r air) (block r (woven payload))) (range_with_len 0 6))
+    ≡ map (λ r. differences (block r air) (block r (woven_frame payload))) (range_with_len 0 6))
     × (lost_block_in air ≡ None)
 
 -- a frame that differs from the frame of a payload only inside 60 consecutive places has that
 -- payload
 abbrev pub BurstGivesPayload : Type 0
 BurstGivesPayload =
-    (payload air : List ℕ) (first : ℕ) → length payload ≡ 432
-    → ((i : ℕ) → slice_index payload i < 256) → length air ≡ 552
+    (payload air : List ℕ) (first : ℕ) → length payload ≡ payload_length
+    → ((i : ℕ) → slice_index payload i < 256) → length air ≡ frame_bytes
     → ((place : ℕ) → (place < first) ⊎ (first + 60 ≤ place) →
-    slice_index air place ≡ slice_index (woven payload) place)
+    slice_index air place ≡ slice_index (woven_frame payload) place)
     → payload_in air ≡ Some payload

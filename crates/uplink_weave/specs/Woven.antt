@@ -3,6 +3,7 @@ use Rattle.std.specs.Prelude.{◌≡◌, ℕ, ◌+◌, ◌*◌, ◌<◌}
 use Rattle.std.specs.Prelude.{List, [], length, slice_index, slice_index_or, map}
 use Rattle.std.specs.List.{range_with_len}
 use Rattle.rs_code.specs.CodeWord.{IsCodeWord, IsNear, IsCorrectable, differences}
+use Rattle.uplink_frame.specs.UplinkFrame.{payload_length}
 
 -- the code of the blocks: their bytes, how many roots it has, and the power of 2 that is the first
 -- root
@@ -15,6 +16,10 @@ block_roots = 20
 abbrev pub first_root : ℕ
 first_root = 120
 
+-- the bytes of a frame on the air: six blocks
+abbrev pub frame_bytes : ℕ
+frame_bytes = 552
+
 -- a block of a frame: byte k of block r is byte 6k + r on the air
 unfoldable pub block : ℕ → List ℕ → List ℕ
 block r air = map (λ k. slice_index air (6 * k + r)) (range_with_len 0 block_bytes)
@@ -26,8 +31,8 @@ BeginsWithPart r payload word =
 
 -- a frame is woven of a payload
 pub record IsWoven (payload air : List ℕ) : Type 0 where
-  pub full : length payload ≡ 432
-  pub long : length air ≡ 552
+  pub full : length payload ≡ payload_length
+  pub long : length air ≡ frame_bytes
   pub code : (r : ℕ) → r < 6 → IsCodeWord block_bytes block_roots first_root (block r air)
   pub parts : (r : ℕ) → r < 6 → BeginsWithPart r payload (block r air)
 
@@ -44,7 +49,7 @@ AreCorrected air words =
 
 -- a frame has a payload: the beginnings of code words near its blocks
 pub record HasPayload (air payload : List ℕ) : Type 0 where
-  pub full : length payload ≡ 432
+  pub full : length payload ≡ payload_length
   pub parts :
       (r : ℕ) → r < 6
       → (word : List ℕ) × IsNear block_bytes block_roots first_root (block r air) word

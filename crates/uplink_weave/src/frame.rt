@@ -1,6 +1,6 @@
 //! Frames on the air, and their payloads.
 ghost use Rattle.std.specs.Prelude.{◌≡◌, ◌↔◌, ℕ, List, Some, None, is_ok, IsTrue, IfOk, IfErr, OnOk, OnErr};
-ghost use Rattle.uplink_weave.specs.Functions.{woven, payload_in, counts_in, lost_block_in};
+ghost use Rattle.uplink_weave.specs.Functions.{woven_frame, payload_in, counts_in, lost_block_in};
 ghost use Rattle.uplink_weave.specs.Woven.{AllCorrectable, AreCorrected, HasCounts, HasPayload, IsLostBlock, IsWoven};
 
 use crate::blocks::{read_block, read_part, write_block, write_part};
@@ -17,7 +17,7 @@ pub struct Lost {
 pub fn weave(payload: &[u8; 432], air: &mut [u8; 552])
     ensures woven { IsWoven payload.now air.new }
     ensures only { (other : List ℕ) → IsWoven payload.now other → other ≡ air.new }
-    ensures function { air.new ≡ woven payload.now }
+    ensures function { air.new ≡ woven_frame payload.now }
 {
     woven_is_the_frame();
     let code = UplinkCode::new();

@@ -1,12 +1,13 @@
 //! A payload that goes through the air.
 ghost use Rattle.std.specs.Prelude.{◌≡◌, ◌<◌, Ok};
+ghost use Rattle.uplink_weave.specs.Woven.{frame_bytes};
 
 use uplink_weave::{Lost, burst_gives_payload, unweave, weave};
 
 /// Sends a payload as a frame in which one byte is heard wrong, and gives what is received. It is
 /// the payload: no block is lost.
 pub fn payload_through_air(payload: &[u8; 432], place: usize, heard: u8) -> Result<[u8; 432], Lost>
-    requires { place < 552 }
+    requires { place < frame_bytes }
     ensures { result ≡ Ok payload.now }
 {
     burst_gives_payload();

@@ -195,9 +195,9 @@ fn an_apdu_with_nine_bytes_begins_with_06_80(rt: HostRuntime) -> Result<(), Fail
     // hours and minutes of a text at 12:34, and a payload of nine bytes
     let body = [0x06, 0x74, 0x32, 0x20, 1, 2, 3, 4, 5, 6, 7, 8, 9];
     let mut data = AppData::new();
-    assert_eq!(rt; data.used(), 0);
+    assert_eq!(rt; data.used_bytes(), 0);
     assert_eq!(rt; data.push(0, &body), Ok(()));
-    assert_eq!(rt; data.used(), 15);
+    assert_eq!(rt; data.used_bytes(), 15);
     let mut payload = [0xFF; 432];
     data.finish(&mut payload);
     assert!(rt; payload[..8] == [0xFF; 8]);
@@ -226,17 +226,17 @@ fn there_is_room_up_to_the_last_byte(rt: HostRuntime) {
     let body = [0; 423];
     let mut data = AppData::new();
     assert_eq!(rt; data.push(0, &body), Err(NoRoom));
-    assert_eq!(rt; data.used(), 0);
+    assert_eq!(rt; data.used_bytes(), 0);
     assert_eq!(rt; data.push(0, &body[..209]), Ok(()));
-    assert_eq!(rt; data.used(), 211);
+    assert_eq!(rt; data.used_bytes(), 211);
     assert_eq!(rt; data.push(1, &body[..212]), Err(NoRoom));
-    assert_eq!(rt; data.used(), 211);
+    assert_eq!(rt; data.used_bytes(), 211);
     assert_eq!(rt; data.push(1, &body[..211]), Ok(()));
-    assert_eq!(rt; data.used(), 424);
+    assert_eq!(rt; data.used_bytes(), 424);
     assert_eq!(rt; data.push(2, &[]), Err(NoRoom));
     let mut all = AppData::new();
     assert_eq!(rt; all.push(0, &body[..422]), Ok(()));
-    assert_eq!(rt; all.used(), 424);
+    assert_eq!(rt; all.used_bytes(), 424);
 }
 
 #[test]

@@ -65,13 +65,13 @@ pub states-end : (block state last : ℕ) → 6 ≡ block → (changes block (6 
 states-end block state last h left = let none = changes-none block state h in cc
 
 -- one change more is made of a frame
-pub frame_after-next : (items : List (ℕ × ℕ)) (frame : List ℕ) (i place : ℕ) → i < length items → place ≡ (get_or items i (0, 0)).0
+pub frame_with_changes-next : (items : List (ℕ × ℕ)) (frame : List ℕ) (i place : ℕ) → i < length items → place ≡ (get_or items i (0, 0)).0
     → frame_with_changes (drop (i + 1) items) (set frame place (bit_xor (get_or frame place 0) (get_or items i (0, 0)).1)) ≡ frame_with_changes (drop i items) frame
 unfolding frame_with_changes
-frame_after-next items frame i place h is =
+frame_with_changes-next items frame i place h is =
     rw (is, drop-cons items i (0, 0) h, add-one i) refl
 
 -- after the last change
-pub frame_after-end : (items : List (ℕ × ℕ)) (frame : List ℕ) (i : ℕ) → length items ≤ i → frame_with_changes (drop i items) frame ≡ frame
+pub frame_with_changes-end : (items : List (ℕ × ℕ)) (frame : List ℕ) (i : ℕ) → length items ≤ i → frame_with_changes (drop i items) frame ≡ frame
 unfolding frame_with_changes
-frame_after-end items frame i h = rw (drop_of_length-le items h) refl
+frame_with_changes-end items frame i h = rw (drop_of_length-le items h) refl

@@ -57,7 +57,7 @@ unfoldable pub blanks : ℕ → List ℕ → Part
 blanks moment [] = nothing
 blanks moment (number ∷ numbers) = step (Blanks moment (number ∷ numbers))
 
--- So many blocks, the first of them this one, behind those that are listed so far. Where a draw is
+-- So many blocks, the first of them this one, after those that are listed so far. Where a draw is
 -- even, the block is given at once, and else it is listed. In the end the list is given as blank.
 unfoldable pub blocks : ℕ → List ℕ → ℕ → ℕ → Part
 blocks moment listed number zero = blanks moment listed

@@ -1,5 +1,6 @@
 //! What is changed of a frame before it is heard.
 ghost use Rattle.std.specs.Prelude.{◌≡◌, ◌<◌, [], ◌∷◌, ◌++◌, All, IfOk, length};
+ghost use Rattle.uplink_weave.specs.Woven.{frame_bytes};
 ghost use Rattle.workload.specs.Hearings.{frame_with_changes};
 
 use std::alloc::{AllocError, Global};
@@ -31,8 +32,8 @@ impl Changes {
 
     /// Changes a frame of 552 bytes: each byte is added to the one at its place without carry.
     pub fn add_to(&self, frame: &mut [u8])
-        requires places { All (λ change. change.0 < 552) self.now }
-        requires frame { length frame.old ≡ 552 }
+        requires places { All (λ change. change.0 < frame_bytes) self.now }
+        requires frame { length frame.old ≡ frame_bytes }
         ensures { frame.new ≡ frame_with_changes self.now frame.old }
     {
         for &(place, byte) in self.items.as_slice() {

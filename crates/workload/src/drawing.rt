@@ -1,6 +1,7 @@
 //! The parts of a minute, each made with draws.
 ghost use Rattle.std.specs.Prelude.{◌≡◌, ◌+◌, ◌<◌, [], ◌∷◌, ◌++◌, codes, flat_map, option_to_list};
 ghost use Rattle.std.specs.Prelude.{All, IfOk, length};
+ghost use Rattle.uplink_weave.specs.Woven.{block_bytes};
 ghost use Rattle.workload.specs.Draws.{draws};
 ghost use Rattle.workload.specs.Texts.{report, word};
 ghost use Rattle.workload.specs.Blocks.{cells_of};
@@ -149,7 +150,7 @@ fn push_changes(
 ) -> Result<(), AllocError>
     requires block { block < 6 }
     requires count { count < 11 }
-    requires first { first < 92 }
+    requires first { first < block_bytes }
     ensures { IfOk result (λ _. changes.new ≡ changes.old ++ block_changes block count first byte) }
 {
     for t in 0..count {

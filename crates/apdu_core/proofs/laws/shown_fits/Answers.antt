@@ -5,7 +5,7 @@ use Rattle.fisb_time.specs.declared.form.TimeForm.{TimeForm}
 use Rattle.fisb_time.specs.declared.form.TimeForm.TheVariants.{Minute, Second, DayMinute, DaySecond}
 use Rattle.fisb_time.specs.Moment.{IsMoment}
 use Rattle.fisb_time.specs.CivilDate.{CivilDate, IsDateOf, date_of}
-use Rattle.fisb_time.specs.TimeFields.{shown}
+use Rattle.fisb_time.specs.TimeFields.{shown_fields}
 use Rattle.apdu_core.specs.Spelling.{FitsTime}
 use Rattle.apdu_core.proofs.laws.shown_fits.Goals as goal
 
@@ -16,7 +16,7 @@ month_fits date h = omega arith
 day_fits : (date : CivilDate) → IsCivilDate (pos date.year) date.month date.day → date.day ≤ 31
 day_fits date h = grind (arith, nat_tests)
 
-fits : ((moment : ℕ) → IsMoment moment → IsDateOf moment (date_of moment)) → (form : TimeForm) (moment : ℕ) → IsMoment moment → FitsTime form (shown form moment)
+fits : ((moment : ℕ) → IsMoment moment → IsDateOf moment (date_of moment)) → (form : TimeForm) (moment : ℕ) → IsMoment moment → FitsTime form (shown_fields form moment)
 fits dates Minute m range = record {
   month = omega arith;
   day = omega arith;

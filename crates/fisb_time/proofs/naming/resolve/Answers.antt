@@ -4,7 +4,7 @@ use Rattle.std.proofs.Common.{ℕ, refl, sym, IsSome, arith}
 use Rattle.std.proofs.lemmas.Grind.{common_steps}
 use Rattle.fisb_time.specs.Naming.{IsCandidate}
 use Rattle.fisb_time.proofs.TimeLemmas.{candidate_time}
-use Rattle.fisb_time.proofs.NamingLemmas.{named-none, named-by, none-by}
+use Rattle.fisb_time.proofs.NamingLemmas.{named_moment-none, named_moment-by, none-by}
 use Rattle.fisb_time.proofs.naming.resolve.Goals as goal
 
 no_candidate :
@@ -21,7 +21,7 @@ returns-then-not-is_time-clause-found c m h = absurd (no_candidate c m h)
 
 pub returns-then-not-is_time-clause-value : goal.returns-then-not-is_time-clause-value
 returns-then-not-is_time-clause-value c =
-    sym (named-none c.args.form c.args.fields.now c.args.received (no_candidate c))
+    sym (named_moment-none c.args.form c.args.fields.now c.args.received (no_candidate c))
 
 pub returns-clause-names : goal.returns-clause-names
 returns-clause-names c = grind (arith, common_steps)
@@ -37,5 +37,5 @@ returns-clause-none c = (
 
 pub returns-clause-value : goal.returns-clause-value
 returns-clause-value c =
-    named-by c.args.form c.args.fields.now c.args.received c.new.result
+    named_moment-by c.args.form c.args.fields.now c.args.received c.new.result
     (returns-clause-names c) ((returns-clause-none c).0)

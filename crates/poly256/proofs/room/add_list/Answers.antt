@@ -1,10 +1,10 @@
 use Rattle.std.proofs.Common.{arith, ap, sym, ◌∙◌}
 use Rattle.poly256.specs.Polynomial.{sum_of}
-use Rattle.poly256.proofs.Rooms.{raised-zero, list_step, list_end}
+use Rattle.poly256.proofs.Rooms.{raised_coefficients-zero, list_step, list_end}
 use Rattle.poly256.proofs.room.add_list.Goals as goal
 
 pub loop-i-init : goal.loop-i-init
-loop-i-init c = ap (sum_of c.args.room.now) (raised-zero c.args.list.now)
+loop-i-init c = ap (sum_of c.args.room.now) (raised_coefficients-zero c.args.list.now)
 
 pub loop-i-preserved : goal.loop-i-preserved
 loop-i-preserved c =

@@ -1,9 +1,7 @@
 use Rattle.std.proofs.Common.{arith, refl}
 use Rattle.rs_code.specs.CodeWord.{IsInstance}
+use Rattle.rs_code.specs.Instances.{uplink_instance}
 use Rattle.rs_code.proofs.laws.distances.Goals as goal
-
-uplink : IsInstance 92 20 120
-uplink = record { even = refl; below = omega arith; short = omega arith; high = omega arith }
 
 basic : IsInstance 30 12 120
 basic = record { even = refl; below = omega arith; short = omega arith; high = omega arith }
@@ -13,7 +11,7 @@ long = record { even = refl; below = omega arith; short = omega arith; high = om
 
 pub returns : goal.returns
 returns c = record {
-  uplink = λ word other code code' apart. c.minimum_distance.ensures 92 20 120 word other uplink code code' apart;
+  uplink = λ word other code code' apart. c.minimum_distance.ensures 92 20 120 word other uplink_instance code code' apart;
   basic = λ word other code code' apart. c.minimum_distance.ensures 30 12 120 word other basic code code' apart;
   long = λ word other code code' apart. c.minimum_distance.ensures 48 14 120 word other long code code' apart;
 }

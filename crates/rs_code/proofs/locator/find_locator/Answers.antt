@@ -1,7 +1,7 @@
 use Rattle.std.proofs.Common.{◌≡◌, ◌<◌, ◌+◌, ◌/◌, length, arith, get_or, sym, ◌∙◌, subst, length-set, rules}
 use Rattle.list_members.specs.Places.{get_or-zeros}
-use Rattle.rs_code.specs.Mending.{paired, IsLocator, IsEarlier}
-use Rattle.rs_code.proofs.Pairing.{paired-front}
+use Rattle.rs_code.specs.Mending.{paired_sum, IsLocator, IsEarlier}
+use Rattle.rs_code.proofs.Pairing.{paired_sum-front}
 use Rattle.rs_code.proofs.Locators.{IsLocator-one, IsEarlier-none, IsLocator-same}
 use Rattle.rs_code.proofs.locator.find_locator.Goals.{then-byte-ne0, else-byte-ne0}
 use Rattle.rs_code.proofs.locator.find_locator.Goals as goal
@@ -20,7 +20,7 @@ pub lengthen-requires : goal.lengthen-requires
 lengthen-requires g c =
     let inside = c.loop-at-test.true in
     let room = c.requires.room in
-    let off = sym (paired-front c.field_laws.ensures (c.loop-at.degree + 1) c.loop-at.locator (λ k. get_or c.args.sums.now (c.loop-at.at + k) 0)
+    let off = sym (paired_sum-front c.field_laws.ensures (c.loop-at.degree + 1) c.loop-at.locator (λ k. get_or c.args.sums.now (c.loop-at.at + k) 0)
     (λ k h. c.loop-at.invariant.locator.past k (omega arith)))
     ∙ sym c.discrepancy-off.ensures.value in
     let some : 0 < c.discrepancy-off.result = let n = c.if-byte-ne0.true in let e = c.byte.ensures in omega arith in (
@@ -57,8 +57,8 @@ loop-at-preserved g c =
             degree = omega arith;
           })
       | else-byte-ne0 w ↦
-          let none : paired c.loop-at.locator (λ k. get_or c.args.sums.now (c.loop-at.at + k) 0) ≡ 0 =
-          sym (paired-front c.field_laws.ensures (c.loop-at.degree + 1) c.loop-at.locator (λ k. get_or c.args.sums.now (c.loop-at.at + k) 0)
+          let none : paired_sum c.loop-at.locator (λ k. get_or c.args.sums.now (c.loop-at.at + k) 0) ≡ 0 =
+          sym (paired_sum-front c.field_laws.ensures (c.loop-at.degree + 1) c.loop-at.locator (λ k. get_or c.args.sums.now (c.loop-at.at + k) 0)
           (λ k h. c.loop-at.invariant.locator.past k (omega arith)))
           ∙ sym c.discrepancy-off.ensures.value ∙ sym c.byte.ensures ∙ w.if-byte-ne0.false in
           rw (w.locator-is, w.earlier-is, w.last-is, w.degree-is)

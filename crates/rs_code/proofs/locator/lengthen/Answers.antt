@@ -1,9 +1,9 @@
 use Rattle.std.proofs.Common.{◌≡◌, ◌<◌, ◌+◌, ◌-◌, ℕ, List, length, take, arith, get_or, replicate, ap, sym, ◌∙◌, subst}
 use Rattle.std.proofs.lemmas.List.{length-replicate}
 use Rattle.list_members.specs.Places.{get_or-zeros}
-use Rattle.poly256.specs.Polynomial.{sum_of, raised, scaled}
+use Rattle.poly256.specs.Polynomial.{sum_of, raised_coefficients, scaled_coefficients}
 use Rattle.rs_code.specs.Mending.{IsLocator}
-use Rattle.rs_code.proofs.Pairing.{paired-fits}
+use Rattle.rs_code.proofs.Pairing.{paired_sum-fits}
 use Rattle.rs_code.proofs.Locators.{IsLocator-begin, IsLocator-step, IsEarlier-next}
 use Rattle.rs_code.proofs.locator.lengthen.Goals as goal
 
@@ -11,7 +11,7 @@ pub loop-place-init : goal.loop-place-init
 loop-place-init g c =
     let F = c.field_laws.ensures in
     let off : c.args.off < 256 =
-    subst (λ (x : ℕ). x < 256) c.requires.off (paired-fits F c.args.locator.now (λ k. get_or c.args.sums.now (c.args.at + k) 0)) in
+    subst (λ (x : ℕ). x < 256) c.requires.off (paired_sum-fits F c.args.locator.now (λ k. get_or c.args.sums.now (c.args.at + k) 0)) in
     let room : c.args.degree < length c.args.locator.now =
     let l = c.told-locator in let r = c.requires.room in let h = c.requires.degree in omega arith in
     record {
@@ -19,9 +19,9 @@ loop-place-init g c =
       locator =
           subst (λ (w : List ℕ). IsLocator w c.args.sums.now (c.args.at + 1) c.args.degree)
           (sym (c.add_product-2.ensures
-          ∙ ap (λ (w : List ℕ). sum_of w (raised 0 (scaled c.div.result (take c.args.degree c.args.earlier.now))))
+          ∙ ap (λ (w : List ℕ). sum_of w (raised_coefficients 0 (scaled_coefficients c.div.result (take c.args.degree c.args.earlier.now))))
           (c.add_product.ensures
-          ∙ ap (λ (a : ℕ). sum_of (replicate g.row.N 0) (raised (c.args.at + 1 - c.args.degree) (scaled a (take (c.args.degree + 1) c.args.locator.now))))
+          ∙ ap (λ (a : ℕ). sum_of (replicate g.row.N 0) (raised_coefficients (c.args.at + 1 - c.args.degree) (scaled_coefficients a (take (c.args.degree + 1) c.args.locator.now))))
           c.of.ensures.value)))
           (IsLocator-begin F c.degree_laws.ensures (replicate g.row.N 0) c.args.locator.now c.args.earlier.now c.args.sums.now c.args.degree c.args.at c.args.last
           c.args.off c.div.result (get_or-zeros g.row.N) room c.requires.locator c.requires.earlier c.requires.degree off c.requires.off

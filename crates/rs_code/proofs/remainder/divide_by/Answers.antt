@@ -1,12 +1,12 @@
 use Rattle.std.proofs.Common.{◌≡◌, ◌<◌, ◌+◌, ◌-◌, ◌++◌, ℕ, List, length, get_or, drop, arith, ap, ap₂, ◌∙◌, subst, length-append}
 use Rattle.std.proofs.lemmas.List.{get_or-take}
-use Rattle.poly256.specs.Polynomial.{sum_of, scaled, raised}
+use Rattle.poly256.specs.Polynomial.{sum_of, scaled_coefficients, raised_coefficients}
 use Rattle.rs_code.specs.CodeWord.{power_sum}
 use Rattle.rs_code.proofs.Dividing.{division-step, multiple-zero}
 use Rattle.rs_code.proofs.remainder.divide_by.Goals as goal
 
 pub loop-place-preserved : goal.loop-place-preserved
-unfolding raised
+unfolding raised_coefficients
 loop-place-preserved c =
     let inside = c.loop-place-test.true in
     let long = c.loop-place.invariant.long in
@@ -20,9 +20,9 @@ loop-place-preserved c =
           let d = c.add_product.auto.room in omega arith);
       sums = λ j root.
           ap (λ (w : List ℕ). power_sum (drop (c.loop-place.place + 1) (c.split_at_mut-front.result.0.now ++ w)) j)
-          (c.add_product.ensures ∙ ap₂ (λ (xs : List ℕ) (b : ℕ). sum_of xs (scaled b c.args.generator.now)) c.split_at_mut-front.ensures.back (c.of.ensures.value ∙ byte))
+          (c.add_product.ensures ∙ ap₂ (λ (xs : List ℕ) (b : ℕ). sum_of xs (scaled_coefficients b c.args.generator.now)) c.split_at_mut-front.ensures.back (c.of.ensures.value ∙ byte))
           ∙ division-step c.field_laws.ensures c.degree_laws.ensures c.loop-place.word c.split_at_mut-front.result.0.now
-          (scaled (get_or c.loop-place.word c.loop-place.place 0) c.args.generator.now) c.loop-place.place j
+          (scaled_coefficients (get_or c.loop-place.word c.loop-place.place 0) c.args.generator.now) c.loop-place.place j
           (let l = c.degree_laws.ensures.scaled_length (get_or c.loop-place.word c.loop-place.place 0) c.args.generator.now in omega arith) c.split_at_mut-front.ensures.front
           (multiple-zero c.field_laws.ensures c.degree_laws.ensures (get_or c.loop-place.word c.loop-place.place 0) j c.args.generator.now
           (subst (λ (x : ℕ). x < 256) (c.of.ensures.value ∙ byte) c.of.ensures.fits) root)

@@ -1,6 +1,6 @@
 use Rattle.std.proofs.Common.{◌≡◌, ◌+◌, ◌-◌, ◌++◌, ℕ, List, length, get_or, drop, arith, ap, ap₂, sym, ◌∙◌, length-append}
 use Rattle.std.proofs.lemmas.List.{get_or-take, take_at}
-use Rattle.poly256.specs.Polynomial.{sum_of, scaled}
+use Rattle.poly256.specs.Polynomial.{sum_of, scaled_coefficients}
 use Rattle.rs_code.specs.CodeWord.{power_sum}
 use Rattle.rs_code.specs.UplinkRows.{uplink_generator}
 use Rattle.rs_code.proofs.Dividing.{division-step, multiple-zero}
@@ -21,9 +21,9 @@ loop-place-preserved c =
           let d = c.add_row.auto.list in omega arith);
       sums = λ j low high.
           ap (λ (w : List ℕ). power_sum (drop (c.loop-place.place + 1) (c.split_at_mut-front.result.0.now ++ w)) j)
-          (c.add_row.ensures ∙ ap₂ (λ (xs : List ℕ) (b : ℕ). sum_of xs (scaled b uplink_generator)) c.split_at_mut-front.ensures.back byte)
+          (c.add_row.ensures ∙ ap₂ (λ (xs : List ℕ) (b : ℕ). sum_of xs (scaled_coefficients b uplink_generator)) c.split_at_mut-front.ensures.back byte)
           ∙ division-step c.field_laws.ensures c.degree_laws.ensures c.loop-place.word c.split_at_mut-front.result.0.now
-          (scaled (get_or c.loop-place.word c.loop-place.place 0) uplink_generator) c.loop-place.place j
+          (scaled_coefficients (get_or c.loop-place.word c.loop-place.place 0) uplink_generator) c.loop-place.place j
           (let l = c.degree_laws.ensures.scaled_length (get_or c.loop-place.word c.loop-place.place 0) uplink_generator in let g = length-uplink_generator in omega arith) c.split_at_mut-front.ensures.front
           (multiple-zero c.field_laws.ensures c.degree_laws.ensures (get_or c.loop-place.word c.loop-place.place 0) j uplink_generator
           (let f = c.type_inv.word c.loop-place.place in

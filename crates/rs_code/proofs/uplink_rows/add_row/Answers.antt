@@ -2,7 +2,7 @@ use Rattle.std.proofs.Common.{◌≡◌, ◌*◌, ◌+◌, ◌/◌, ◌%◌, ◌
 use Rattle.std.specs.Int.Bits.{bit_xor, xor_zero_r}
 use Rattle.std.proofs.lemmas.Bool.{cases_lt}
 use Rattle.std.proofs.lemmas.List.{ext_get_or, get_or_past}
-use Rattle.poly256.specs.Polynomial.{element_product, sum_of, scaled}
+use Rattle.poly256.specs.Polynomial.{element_product, sum_of, scaled_coefficients}
 use Rattle.rs_code.specs.UplinkRows.{uplink_generator}
 use Rattle.rs_code.proofs.Places.{set_grows, set_keeps}
 use Rattle.rs_code.proofs.UplinkTable.{uplink_multiple, length-uplink_generator}
@@ -32,9 +32,9 @@ returns c =
     let t = c.loop-i-test.false in
     let g = length-uplink_generator in
     let s = c.degree_laws.ensures.scaled_length c.args.byte uplink_generator in
-    let l : length (sum_of c.args.list.now (scaled c.args.byte uplink_generator)) ≡ length c.args.list.now =
-    c.degree_laws.ensures.sum_length c.args.list.now (scaled c.args.byte uplink_generator) (omega arith) in
-    ext_get_or 0 c.loop-i.list (sum_of c.args.list.now (scaled c.args.byte uplink_generator)) (c.loop-i.invariant.long ∙ sym l)
+    let l : length (sum_of c.args.list.now (scaled_coefficients c.args.byte uplink_generator)) ≡ length c.args.list.now =
+    c.degree_laws.ensures.sum_length c.args.list.now (scaled_coefficients c.args.byte uplink_generator) (omega arith) in
+    ext_get_or 0 c.loop-i.list (sum_of c.args.list.now (scaled_coefficients c.args.byte uplink_generator)) (c.loop-i.invariant.long ∙ sym l)
     (λ k h.
     elim (cases_lt k 20) [
       | inl inside ↦ c.loop-i.invariant.written k (omega arith)
@@ -46,5 +46,5 @@ returns c =
           ∙ c.field_laws.ensures.product_zero_right c.args.byte)
           ∙ xor_zero_r (get_or c.args.list.now k 0))
     ]
-    ∙ sym (c.degree_laws.ensures.sum_coefficient c.args.list.now (scaled c.args.byte uplink_generator) k
+    ∙ sym (c.degree_laws.ensures.sum_coefficient c.args.list.now (scaled_coefficients c.args.byte uplink_generator) k
     ∙ ap (bit_xor (get_or c.args.list.now k 0)) (c.degree_laws.ensures.scaled_coefficient c.args.byte uplink_generator k)))

@@ -1,6 +1,6 @@
 use Rattle.std.proofs.Common.{ap, ◌∙◌, sym, option_map}
 use Rattle.std.specs.String.{string_bytes}
-use Rattle.dlac_text.specs.Plain.{unplained}
+use Rattle.dlac_text.specs.Plain.{text_of_plain}
 use Rattle.script_core.proofs.ReportTexts.{report_of_text, report_of_other}
 use Rattle.script_core.proofs.reading.read_report.Goals as goal
 
@@ -9,8 +9,8 @@ returns-in_default-clause-syntax c = λ e. report_of_other c.args.bytes.now c.in
 
 pub returns-in-Ok-Some-clause-report : goal.returns-in-Ok-Some-clause-report
 returns-in-Ok-Some-clause-report c =
-    report_of_text c.args.bytes.now c.in-Ok.ensures.cases.1 ∙ ap unplained (sym c.in-Ok.ensures.cases.0) ∙ sym c.in-Ok-Some.ensures ∙ ap (option_map string_bytes) c.in-Ok-Some.field-0-is
+    report_of_text c.args.bytes.now c.in-Ok.ensures.cases.1 ∙ ap text_of_plain (sym c.in-Ok.ensures.cases.0) ∙ sym c.in-Ok-Some.ensures ∙ ap (option_map string_bytes) c.in-Ok-Some.field-0-is
 
 pub returns-in-Ok-None-clause-syntax : goal.returns-in-Ok-None-clause-syntax
 returns-in-Ok-None-clause-syntax c =
-    λ e. report_of_text c.args.bytes.now c.in-Ok.ensures.cases.1 ∙ ap unplained (sym c.in-Ok.ensures.cases.0) ∙ sym c.in-Ok-None.ensures ∙ ap (option_map string_bytes) c.in-Ok-None.field-0-is
+    λ e. report_of_text c.args.bytes.now c.in-Ok.ensures.cases.1 ∙ ap text_of_plain (sym c.in-Ok.ensures.cases.0) ∙ sym c.in-Ok-None.ensures ∙ ap (option_map string_bytes) c.in-Ok-None.field-0-is

@@ -1,7 +1,7 @@
 use Rattle.std.proofs.Common.{◌≡◌, ◌≢◌, ◌⊎◌, ℕ, ◌+◌, ◌<◌, ◌≤◌, List, length, slice_index, slice_set, Option, Some, None, Ok}
 use Rattle.std.proofs.Common.{arith, inl, inr, ap, ◌∙◌}
 use Rattle.std.proofs.lemmas.List.{get_or-set_other, length-set}
-use Rattle.uplink_weave.specs.Functions.{payload_in, woven}
+use Rattle.uplink_weave.specs.Functions.{payload_in, woven_frame}
 use Rattle.uplink_weave.specs.Laws.{BurstGivesPayload}
 use Rattle.uses.proofs.air.payload_through_air.Goals as goal
 
@@ -11,7 +11,7 @@ apart place other (inr above) = omega arith
 
 -- a frame in which one byte is another differs only inside 60 places in a row
 came : BurstGivesPayload → (payload air : List ℕ) (place heard : ℕ) → length payload ≡ 432
-    → ((i : ℕ) → slice_index payload i < 256) → length air ≡ 552 → air ≡ woven payload
+    → ((i : ℕ) → slice_index payload i < 256) → length air ≡ 552 → air ≡ woven_frame payload
     → payload_in (slice_set air place heard) ≡ Some payload
 came law payload air place heard full bytes long is =
     law payload (slice_set air place heard) place full bytes (length-set air place heard ∙ long)

@@ -1,7 +1,7 @@
 use Rattle.std.proofs.Common.{◌≡◌, None, refl, ap, ◌∙◌, map, length, rules}
 use Rattle.uplink_frame.specs.UplinkFrame.{fisb_frame, payload_of, spelled_frames}
 use Rattle.uplink_frame.specs.Station.{header_of}
-use Rattle.uplink_weave.specs.Functions.{woven}
+use Rattle.uplink_weave.specs.Functions.{woven_frame}
 use Rattle.ground_core.specs.Item.{body_of}
 use Rattle.segment_core.specs.Store.{last_above}
 use Rattle.ground_core.specs.StandsFor.{history_clock}
@@ -35,7 +35,7 @@ returns-clause-frame c table station history s =
       moment = refl;
       slot = refl;
       bodies = c.air-bodies.ensures.number ∙ bodies_are _ sent pieces;
-      used = c.used.ensures.used ∙ ap (λ f. length (spelled_frames f)) frames ∙ used_is c.apdu_reads_back.ensures.size sent;
-      air = c.air_of.ensures ∙ ap (λ f. woven (payload_of (header_of c.args.self.now.station c.args.slot) f)) frames
-          ∙ ap (λ p. woven (payload_of (header_of p c.args.slot) (map (λ x. fisb_frame (body_of x)) sent))) s.station_is;
+      used = c.used_bytes.ensures.used ∙ ap (λ f. length (spelled_frames f)) frames ∙ used_is c.apdu_reads_back.ensures.size sent;
+      air = c.air_of.ensures ∙ ap (λ f. woven_frame (payload_of (header_of c.args.self.now.station c.args.slot) f)) frames
+          ∙ ap (λ p. woven_frame (payload_of (header_of p c.args.slot) (map (λ x. fisb_frame (body_of x)) sent))) s.station_is;
     }

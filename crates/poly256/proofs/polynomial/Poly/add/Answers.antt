@@ -1,7 +1,7 @@
 use Rattle.std.proofs.Common.{◌∙◌, ◌≡◌, ◌≤◌, ℕ, List, length, replicate, arith, ap, ap₂}
-use Rattle.poly256.specs.Polynomial.{sum_of, trimmed}
+use Rattle.poly256.specs.Polynomial.{sum_of, trimmed_coefficients}
 use Rattle.poly256.proofs.ListSums.{sum_assoc, length-sum_at_most}
-use Rattle.poly256.proofs.Shapes.{written-trimmed}
+use Rattle.poly256.proofs.Shapes.{written-trimmed_coefficients}
 use Rattle.poly256.proofs.polynomial.Poly.add.Goals as goal
 
 pub returns-clause-value : goal.returns-clause-value
@@ -14,7 +14,7 @@ returns-clause-value g c =
     let fits : length (sum_of c.coefficients-first.result.now c.coefficients-second.result.now) ≤ c.max.result =
     length-sum_at_most c.coefficients-first.result.now c.coefficients-second.result.now c.max.result
     (omega (arith, c.max.ensures)) (omega (arith, c.max.ensures)) in
-    c.kept.ensures.value
-    ∙ written-trimmed g.row.CAP c.max.result c.add_list-2.new.room
+    c.keep.ensures.value
+    ∙ written-trimmed_coefficients g.row.CAP c.max.result c.add_list-2.new.room
     (sum_of c.coefficients-first.result.now c.coefficients-second.result.now) both fits
-    ∙ ap₂ (λ (xs ys : List ℕ). trimmed (sum_of xs ys)) c.coefficients-first.ensures.value c.coefficients-second.ensures.value
+    ∙ ap₂ (λ (xs ys : List ℕ). trimmed_coefficients (sum_of xs ys)) c.coefficients-first.ensures.value c.coefficients-second.ensures.value

@@ -1,6 +1,6 @@
 use Rattle.std.proofs.Common.{◌∙◌, ◌≡◌, ◌≤◌, ◌+◌, ℕ, List, length, arith, ap, ap₂, min}
-use Rattle.poly256.specs.Polynomial.{list_product, trimmed}
-use Rattle.poly256.proofs.Shapes.{written-trimmed, length-product_fits}
+use Rattle.poly256.specs.Polynomial.{list_product, trimmed_coefficients}
+use Rattle.poly256.proofs.Shapes.{written-trimmed_coefficients, length-product_fits}
 use Rattle.poly256.proofs.polynomial.Poly.mul.Goals as goal
 
 pub returns-clause-value : goal.returns-clause-value
@@ -12,7 +12,7 @@ returns-clause-value g c =
     length-product_fits c.coefficients-first.result.now c.coefficients-second.result.now g.row.CAP
     (λ h h'. let room : length c.args.self.now + length c.args.other.now ≤ g.row.CAP + 1 = c.requires (omega arith) (omega arith) in
     omega arith) in
-    c.kept.ensures.value
-    ∙ written-trimmed g.row.CAP c.min.result c.add_product.new.room
+    c.keep.ensures.value
+    ∙ written-trimmed_coefficients g.row.CAP c.min.result c.add_product.new.room
     (list_product c.coefficients-first.result.now c.coefficients-second.result.now) c.add_product.ensures (omega (arith, c.min.ensures))
-    ∙ ap₂ (λ (xs ys : List ℕ). trimmed (list_product xs ys)) c.coefficients-first.ensures.value c.coefficients-second.ensures.value
+    ∙ ap₂ (λ (xs ys : List ℕ). trimmed_coefficients (list_product xs ys)) c.coefficients-first.ensures.value c.coefficients-second.ensures.value

@@ -1,8 +1,8 @@
 use Rattle.std.proofs.Common.{◌∙◌, length, arith}
-use Rattle.poly256.proofs.Shapes.{written-trimmed}
+use Rattle.poly256.proofs.Shapes.{written-trimmed_coefficients}
 use Rattle.poly256.proofs.polynomial.Poly.of.Goals as goal
 
 pub returns-clause-value : goal.returns-clause-value
 returns-clause-value g c =
-    c.kept.ensures.value
-    ∙ written-trimmed g.row.CAP (length c.args.coefficients.now) c.add_list.new.room c.args.coefficients.now c.add_list.ensures (omega arith)
+    c.keep.ensures.value
+    ∙ written-trimmed_coefficients g.row.CAP (length c.args.coefficients.now) c.add_list.new.room c.args.coefficients.now c.add_list.ensures (omega arith)

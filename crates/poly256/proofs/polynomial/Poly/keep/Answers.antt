@@ -1,5 +1,5 @@
 use Rattle.poly256.proofs.Shapes.{kept-shape}
-use Rattle.poly256.proofs.polynomial.Poly.kept.Goals as goal
+use Rattle.poly256.proofs.polynomial.Poly.keep.Goals as goal
 
 pub invariant_of-result : goal.invariant_of-result
 invariant_of-result g c =
