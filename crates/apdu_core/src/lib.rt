@@ -6,8 +6,6 @@ mod fault;
 mod laws;
 mod reading;
 mod sizes;
-#[cfg(test)]
-mod tests;
 mod unit;
 mod writing;
 

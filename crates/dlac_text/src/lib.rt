@@ -22,6 +22,3 @@ pub use laws::{
 pub use printing::{plain, unplain};
 pub use report_text::Report;
 pub use text_fault::TextFault;
-
-#[cfg(test)]
-mod tests;

@@ -16,6 +16,3 @@ pub use lists::{Bytes, Numbers};
 pub use memory::{MemorySink, MemorySource};
 pub use pieces::PieceSource;
 pub use standard::{StdSink, StdSource};
-
-#[cfg(test)]
-mod tests;

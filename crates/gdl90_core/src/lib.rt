@@ -9,8 +9,6 @@ pub mod laws;
 mod piece_bytes;
 mod pieces;
 mod remainders;
-#[cfg(test)]
-mod tests;
 mod uplink;
 
 pub use check_sequence::fcs;

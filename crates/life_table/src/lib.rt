@@ -15,6 +15,3 @@ pub use laws::{longest_is_greatest, tables_keep_rules};
 pub use products::{CONUS_RADAR, REGIONAL_RADAR, TEXT_PRODUCT};
 pub use rows::{RadarRow, TextRow};
 pub use table::LifeTable;
-
-#[cfg(test)]
-mod tests;

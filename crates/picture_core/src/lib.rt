@@ -14,6 +14,3 @@ pub use entry::Entry;
 pub use key::{Key, order_of_keys};
 pub use picture::Picture;
 pub use shown::Shown;
-
-#[cfg(test)]
-mod tests;

@@ -4,8 +4,6 @@
 mod laws;
 mod polynomial;
 mod room;
-#[cfg(test)]
-mod tests;
 
 pub use laws::{degree_laws, end_zero_laws, few_roots, ring_laws, value_laws};
 pub use polynomial::Poly;

@@ -1,5 +1,5 @@
 -- The number of a key stands in the order of the key's fields.
-use Rattle.std.proofs.Common.{◌≡◌, ℕ, ◌+◌, ◌*◌, ◌<◌, refl, sym, ap, ◌∙◌, arith}
+use Rattle.std.proofs.Common.{◌≡◌, ℕ, ◌+◌, ◌*◌, ◌<◌, Bool, true, false, refl, ap, ◌∙◌, arith}
 use Rattle.std.specs.declared.cmp.Ordering.{Ordering}
 use Rattle.std.specs.declared.cmp.Ordering.TheVariants.{Less, Equal, Greater}
 use Rattle.std.specs.Ordering.{nat_cmp, ordering_then}
@@ -9,13 +9,12 @@ use Rattle.bit_fields.specs.BitsBack.{bit_below}
 use Rattle.radar_core.specs.Keys.{block_key_cmp, key_number}
 use Rattle.radar_core.specs.declared.key.BlockKey.{BlockKey}
 
-after-scale : (x y m n : ℕ) → m < 256 → n < 256
+after-byte : (x y m n : ℕ) → m < 256 → n < 256
     → nat_cmp (x * 256 + m) (y * 256 + n) ≡ ordering_then (nat_cmp x y) (nat_cmp m n)
-after-scale x y m n small small' = grind (arith, nat_tests)
+after-byte x y m n small small' = grind (arith, nat_tests)
 
-after-south : (x y m n : ℕ) → m < 2 → n < 2
-    → nat_cmp (x * 256 + m) (y * 256 + n) ≡ ordering_then (nat_cmp x y) (nat_cmp m n)
-after-south x y m n small small' = grind (arith, nat_tests)
+small : (b : Bool) → bit b < 256
+small b = omega (arith, bit_below b)
 
 after-number : (x y m n : ℕ) → m < 4294967296 → n < 4294967296
     → nat_cmp (x * 4294967296 + m) (y * 4294967296 + n) ≡ ordering_then (nat_cmp x y) (nat_cmp m n)
@@ -32,9 +31,9 @@ keys-numbered a b scale scale' number number' =
     after-number ((a.product * 256 + a.scale) * 256 + bit a.south) ((b.product * 256 + b.scale) * 256 + bit b.south) a.number
     b.number number number'
     ∙ ap (λ (o : Ordering). ordering_then o (nat_cmp a.number b.number))
-    (after-south (a.product * 256 + a.scale) (b.product * 256 + b.scale) (bit a.south) (bit b.south) (bit_below a.south) (bit_below b.south)
+    (after-byte (a.product * 256 + a.scale) (b.product * 256 + b.scale) (bit a.south) (bit b.south) (small a.south) (small b.south)
     ∙ ap (λ (o : Ordering). ordering_then o (nat_cmp (bit a.south) (bit b.south)))
-    (after-scale a.product b.product a.scale b.scale scale scale'))
+    (after-byte a.product b.product a.scale b.scale scale scale'))
     ∙ then-then (ordering_then (nat_cmp a.product b.product) (nat_cmp a.scale b.scale)) (nat_cmp (bit a.south) (bit b.south))
     (nat_cmp a.number b.number)
     ∙ then-then (nat_cmp a.product b.product) (nat_cmp a.scale b.scale)
@@ -44,17 +43,3 @@ pub number-order : (a b : BlockKey) (m n : ℕ) (o : Ordering) → m ≡ key_num
     → a.number < 4294967296 → b.number < 4294967296 → o ≡ nat_cmp m n → o ≡ block_key_cmp a b
 number-order a b m n o is is' scale scale' number number' compared =
     rw (compared, is, is') (keys-numbered a b scale scale' number number')
-
-itself : (n : ℕ) → nat_cmp n n ≡ Equal
-itself n = grind (arith, nat_tests)
-
--- where the other fields are the same, the numbers decide
-pub beside-order : (a b : BlockKey) (o : Ordering) → a.product ≡ b.product → a.scale ≡ b.scale → a.south ≡ b.south
-    → o ≡ nat_cmp a.number b.number → o ≡ block_key_cmp a b
-beside-order a b o product scale south is =
-    let third : ordering_then (nat_cmp (bit a.south) (bit b.south)) (nat_cmp a.number b.number) ≡ nat_cmp a.number b.number =
-    (rw south (ap (λ p. ordering_then p (nat_cmp a.number b.number)) (itself (bit b.south)))) in
-    rw (product, scale) (is ∙ sym (ap (λ p. ordering_then p (ordering_then (nat_cmp b.scale b.scale)
-    (ordering_then (nat_cmp (bit a.south) (bit b.south)) (nat_cmp a.number b.number)))) (itself b.product)
-    ∙ ap (λ p. ordering_then p (ordering_then (nat_cmp (bit a.south) (bit b.south)) (nat_cmp a.number b.number))) (itself b.scale)
-    ∙ third))

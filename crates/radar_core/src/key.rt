@@ -1,5 +1,5 @@
 //! What names a block.
-ghost use Rattle.std.specs.Prelude.{◌≡◌, ◌+◌, ◌*◌, ◌<◌, true};
+ghost use Rattle.std.specs.Prelude.{◌≡◌, ◌+◌, ◌*◌, ◌<◌};
 ghost use Rattle.std.specs.Cmp.{partial_order_from_own_ties, partial_order_from_total};
 ghost use Rattle.std.specs.Cmp.Rules.{comparing};
 ghost use Rattle.std.specs.Ordering.{as_partial_cmp};
@@ -36,14 +36,6 @@ impl BlockKey {
         let area = (u64::from(self.product) * 256 + u64::from(self.scale)) * 256;
         (area + u64::from(self.south)) * 4_294_967_296 + u64::from(self.number)
     }
-
-    /// Whether the keys differ in their numbers at most, as most that are compared do.
-    fn is_beside(&self, other: &BlockKey) -> bool
-        ensures { result ≡ true → (self.now.product ≡ other.now.product)
-            × (self.now.scale ≡ other.now.scale) × (self.now.south ≡ other.now.south) }
-    {
-        self.product == other.product && self.scale == other.scale && self.south == other.south
-    }
 }
 
 impl Ord for BlockKey {
@@ -56,11 +48,7 @@ impl Ord for BlockKey {
     ghost matches_eq = { Prim.search (comparing, rules) };
 
     fn cmp(&self, other: &BlockKey) -> Ordering {
-        if self.is_beside(other) {
-            self.number.cmp(&other.number)
-        } else {
-            self.as_number().cmp(&other.as_number())
-        }
+        self.as_number().cmp(&other.as_number())
     }
 }
 

@@ -12,8 +12,6 @@ mod part;
 mod reading;
 mod run;
 mod runs;
-#[cfg(test)]
-mod tests;
 
 pub use blanks::write_blank;
 pub use cells::Cells;

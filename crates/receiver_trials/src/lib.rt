@@ -4,6 +4,8 @@
 #[cfg(test)]
 mod many_reports;
 #[cfg(test)]
+mod passed_on;
+#[cfg(test)]
 mod random;
 #[cfg(test)]
 mod tests;

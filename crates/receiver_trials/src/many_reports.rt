@@ -95,6 +95,14 @@ fn hear_four_hundred(receiver: &mut Receiver, alloc: Global, first: u8) -> Resul
     Ok(())
 }
 
+/// Hears five times as many.
+fn hear_two_thousand(receiver: &mut Receiver, alloc: Global) -> Result<(), Fail> {
+    for first in 1..6 {
+        hear_four_hundred(receiver, alloc, first)?;
+    }
+    Ok(())
+}
+
 #[test]
 fn a_payload_of_twelve_reports_is_heard_whole(rt: HostRuntime) -> Result<(), Fail> {
     let mut receiver = new_receiver(rt.alloc())?;
@@ -111,9 +119,7 @@ fn a_payload_of_twelve_reports_is_heard_whole(rt: HostRuntime) -> Result<(), Fai
 #[test]
 fn two_thousand_reports_are_kept_and_shown(rt: HostRuntime) -> Result<(), Fail> {
     let mut receiver = new_receiver(rt.alloc())?;
-    for first in 1..6 {
-        hear_four_hundred(&mut receiver, rt.alloc(), first)?;
-    }
+    hear_two_thousand(&mut receiver, rt.alloc())?;
     assert_eq!(rt; entries_at(&receiver, rt.alloc(), NOW + 1)?, 2000);
     assert_eq!(rt; entries_at(&receiver, rt.alloc(), 1_700_007_180)?, 1000);
     Ok(())

@@ -3,7 +3,7 @@ use dlac_text::plain;
 use fisb_time::Moment;
 use life_table::LifeTable;
 use picture_core::{Entry, Shown};
-use receiver_core::{HearFault, Heard, Receiver, ShowFault, Unread, UnreadReason};
+use receiver_core::{HearFault, Heard, Receiver, ShowFault, UnreadReason};
 use std::alloc::Global;
 use std::test::Fail;
 use uplink_frame::read_header;
@@ -15,6 +15,9 @@ pub(crate) const NOW: u64 = 1_700_000_002;
 const NO_POSITION: &str = "000000000000a000";
 
 const SITE_3: &str = "000000000000a030";
+
+/// The header with application data that are not valid.
+const NOT_VALID: &str = "0000000000008000";
 
 /// A frame with the report `METAR KSEA` of 22:13.
 pub(crate) const METAR_KSEA: &str = "0680067458d03455014a02d3141000";
@@ -98,7 +101,7 @@ pub(crate) fn hear_bytes(
     Ok(receiver.hear_payload(moment, &payload)?)
 }
 
-fn hear_digits(
+pub(crate) fn hear_digits(
     alloc: Global,
     receiver: &mut Receiver,
     seconds: u64,
@@ -182,16 +185,21 @@ pub(crate) fn first_wrong_of_new(alloc: Global, steps: &[Step]) -> Result<Option
     first_wrong(alloc, &mut receiver, steps)
 }
 
+/// Whether a payload with a report is heard with its own header, in slot 0, and with nothing corrected.
+fn has_its_header(alloc: Global, receiver: &mut Receiver) -> Result<bool, Fail> {
+    let moment = moment_of(NOW)?;
+    let data = bytes_of(alloc, METAR_KSEA)?;
+    let payload = payload_of(NO_POSITION, data.as_slice())?;
+    let answer = receiver.hear_payload(moment, &payload)?;
+    let header = answer.header;
+    let is_valid = header.app_valid && !header.position_valid && header.slot == 0;
+    Ok(is_valid && header == read_header(&payload) && answer.corrected == [0; 6])
+}
+
 #[test]
 fn the_header_of_a_payload_is_answered(rt: HostRuntime) -> Result<(), Fail> {
     let mut receiver = new_receiver(rt.alloc())?;
-    let data = bytes_of(rt.alloc(), METAR_KSEA)?;
-    let payload = payload_of(NO_POSITION, data.as_slice())?;
-    let answer = receiver.hear_payload(moment_of(NOW)?, &payload)?;
-    assert!(rt; answer.header == read_header(&payload));
-    assert!(rt; answer.header.app_valid && !answer.header.position_valid);
-    assert_eq!(rt; answer.header.slot, 0);
-    assert_eq!(rt; answer.corrected, [0; 6]);
+    assert!(rt; has_its_header(rt.alloc(), &mut receiver)?);
     Ok(())
 }
 
@@ -272,42 +280,19 @@ fn headers_that_are_just_in_order_are_read(rt: HostRuntime) -> Result<(), Fail> 
     Ok(())
 }
 
+/// Whether a payload with a report is refused for want of application data.
+fn has_no_application(alloc: Global, receiver: &mut Receiver) -> Result<bool, Fail> {
+    let moment = moment_of(NOW)?;
+    let data = bytes_of(alloc, METAR_KSEA)?;
+    let payload = payload_of(NOT_VALID, data.as_slice())?;
+    Ok(receiver.hear_payload(moment, &payload).err() == Some(HearFault::NoApplication))
+}
+
 #[test]
 fn nothing_is_heard_without_valid_application_data(rt: HostRuntime) -> Result<(), Fail> {
     let mut receiver = new_receiver(rt.alloc())?;
-    let data = bytes_of(rt.alloc(), METAR_KSEA)?;
-    let payload = payload_of("0000000000008000", data.as_slice())?;
-    let answer = receiver.hear_payload(moment_of(NOW)?, &payload);
-    assert!(rt; answer.err() == Some(HearFault::NoApplication));
+    assert!(rt; has_no_application(rt.alloc(), &mut receiver)?);
     assert_eq!(rt; entries_at(&receiver, rt.alloc(), NOW)?, 0);
-    Ok(())
-}
-
-/// Whether these parts are one of a frame of type 2 and one of product 8, of four bytes each.
-fn are_of_another_type_and_product(parts: &[Unread]) -> bool {
-    match parts {
-        [first, second] => {
-            first.reason == UnreadReason::Kind
-                && first.kind == 2
-                && first.product == 0
-                && first.length == 4
-                && second.reason == UnreadReason::Product
-                && second.kind == 0
-                && second.product == 8
-                && second.length == 4
-        }
-        _ => false,
-    }
-}
-
-#[test]
-fn frames_of_other_types_and_products_are_passed_on(rt: HostRuntime) -> Result<(), Fail> {
-    let alloc = rt.alloc();
-    let mut receiver = new_receiver(alloc)?;
-    let data = "0202aabbccdd0200002058d0";
-    let answer = hear_digits(alloc, &mut receiver, NOW, "000000000001a530", data)?;
-    assert!(rt; are_of_another_type_and_product(answer.unread.all()));
-    assert_eq!(rt; entries_at(&receiver, alloc, NOW)?, 0);
     Ok(())
 }
 
@@ -353,33 +338,57 @@ pub(crate) fn has_reports(
 /// The version of most reports.
 pub(crate) const SHOWN: u64 = 1_699_999_980;
 
+/// Whether these steps are answered, and the picture then has these reports.
+fn has_reports_after(
+    alloc: Global,
+    receiver: &mut Receiver,
+    steps: &[Step],
+    seconds: u64,
+    wanted: &[(&str, u64)],
+) -> Result<bool, Fail> {
+    if first_wrong(alloc, receiver, steps)?.is_some() {
+        return Ok(false);
+    }
+    has_reports(receiver, alloc, seconds, wanted)
+}
+
+/// A report, an older one, and one of the same version.
+const OF_ONE_KEY: [Step; 3] = [
+    Step::Hear(NOW, METAR_KSEA),
+    Step::Hear(NOW, OLDER),
+    Step::Hear(NOW, EQUAL),
+];
+
+/// Two of other keys.
+const OF_OTHER_KEYS: [Step; 2] = [Step::Hear(NOW, TAF_KSEA), Step::Hear(NOW, METAR_KPDX)];
+
+/// A newer one of the first key.
+const NEWER: [Step; 1] = [Step::Hear(NOW + 60, SPECI_KSEA)];
+
+const ONE_REPORT: [(&str, u64); 1] = [("METAR KSEA", SHOWN)];
+
+const THREE_REPORTS: [(&str, u64); 3] = [
+    ("METAR KPDX", SHOWN),
+    ("METAR KSEA", SHOWN),
+    ("TAF KSEA", SHOWN),
+];
+
+const WITH_NEWER: [(&str, u64); 3] = [
+    ("METAR KPDX", SHOWN),
+    ("SPECI KSEA", SHOWN + 60),
+    ("TAF KSEA", SHOWN),
+];
+
 #[test]
 fn the_newest_version_of_a_key_is_kept(rt: HostRuntime) -> Result<(), Fail> {
     let alloc = rt.alloc();
     let mut receiver = new_receiver(alloc)?;
-    let steps = [
-        Step::Hear(NOW, METAR_KSEA),
-        Step::Hear(NOW, OLDER),
-        Step::Hear(NOW, EQUAL),
-    ];
-    assert_eq!(rt; first_wrong(alloc, &mut receiver, &steps)?, None);
-    assert!(rt; has_reports(&receiver, alloc, NOW, &[("METAR KSEA", SHOWN)])?);
-    let steps = [Step::Hear(NOW, TAF_KSEA), Step::Hear(NOW, METAR_KPDX)];
-    assert_eq!(rt; first_wrong(alloc, &mut receiver, &steps)?, None);
-    let reports = [
-        ("METAR KPDX", SHOWN),
-        ("METAR KSEA", SHOWN),
-        ("TAF KSEA", SHOWN),
-    ];
-    assert!(rt; has_reports(&receiver, alloc, NOW, &reports)?);
-    let steps = [Step::Hear(NOW + 60, SPECI_KSEA)];
-    assert_eq!(rt; first_wrong(alloc, &mut receiver, &steps)?, None);
-    let reports = [
-        ("METAR KPDX", SHOWN),
-        ("SPECI KSEA", SHOWN + 60),
-        ("TAF KSEA", SHOWN),
-    ];
-    assert!(rt; has_reports(&receiver, alloc, NOW + 60, &reports)?);
+    let kept = has_reports_after(alloc, &mut receiver, &OF_ONE_KEY, NOW, &ONE_REPORT)?;
+    assert!(rt; kept, "one key");
+    let joined = has_reports_after(alloc, &mut receiver, &OF_OTHER_KEYS, NOW, &THREE_REPORTS)?;
+    assert!(rt; joined, "other keys");
+    let newer = has_reports_after(alloc, &mut receiver, &NEWER, NOW + 60, &WITH_NEWER)?;
+    assert!(rt; newer, "newer");
     Ok(())
 }
 
@@ -433,35 +442,5 @@ fn a_frame_of_zeros_has_no_application_data(rt: HostRuntime) -> Result<(), Fail>
     let mut receiver = new_receiver(rt.alloc())?;
     let answer = receiver.hear(moment_of(NOW)?, &[0; 552]);
     assert!(rt; answer.err() == Some(HearFault::NoApplication));
-    Ok(())
-}
-
-/// Whether this part of a frame of another type, of two bytes, is passed on.
-fn is_of_type(part: &Unread, kind: u8) -> bool {
-    part.reason == UnreadReason::Kind && part.kind == kind && part.product == 0 && part.length == 2
-}
-
-/// Whether these are parts of the types 1, 2 and so on.
-fn are_types_in_order(parts: &[Unread]) -> bool {
-    let mut kind = 1u8;
-    for part in parts {
-        if !is_of_type(part, kind) {
-            return false;
-        }
-        kind = kind.wrapping_add(1);
-    }
-    true
-}
-
-#[test]
-fn ten_unread_frames_are_passed_on_in_their_order(rt: HostRuntime) -> Result<(), Fail> {
-    let mut receiver = new_receiver(rt.alloc())?;
-    let mut data = Vec::new(rt.alloc());
-    for kind in 1..11 {
-        data.extend_from_slice(&[0x01, kind, 0x00, 0x00])?;
-    }
-    let answer = hear_bytes(&mut receiver, NOW, data.as_slice())?;
-    assert_eq!(rt; answer.unread.len(), 10);
-    assert!(rt; are_types_in_order(answer.unread.all()));
     Ok(())
 }

@@ -12,8 +12,6 @@ mod product;
 mod remainder;
 mod root_powers;
 mod rows;
-#[cfg(test)]
-mod tests;
 mod uplink_rows;
 mod values;
 mod wrong_places;

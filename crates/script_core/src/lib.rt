@@ -20,6 +20,3 @@ pub use reading::read_line;
 pub use refusal_core::{Reason, print_refused};
 pub use script_line::{Line, LineFault};
 pub use wrong::Wrong;
-
-#[cfg(test)]
-mod tests;

@@ -9,8 +9,6 @@ pub mod laws;
 mod piece_name;
 mod pieces;
 mod sizes;
-#[cfg(test)]
-mod tests;
 
 pub use arrived::{Arrived, Longest, Taken};
 pub use cutting::{is_segmented, part_at, part_count};

@@ -7,6 +7,3 @@ mod word;
 
 pub use key::{KeyFault, TextKey, key_of, order_of_text_keys};
 pub use word::Word;
-
-#[cfg(test)]
-mod tests;

@@ -7,8 +7,6 @@ mod lasting;
 pub mod laws;
 mod map;
 mod step;
-#[cfg(test)]
-mod tests;
 
 pub use duplicate::Duplicate;
 pub use ends::EndQueue;

@@ -6,8 +6,6 @@ mod app_data;
 mod header;
 mod laws;
 mod station;
-#[cfg(test)]
-mod tests;
 mod walk;
 
 pub use app_data::{AppData, NoRoom};

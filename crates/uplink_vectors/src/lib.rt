@@ -5,4 +5,10 @@
 #[cfg(test)]
 mod code_words;
 #[cfg(test)]
+mod codes;
+#[cfg(test)]
 mod frames;
+#[cfg(test)]
+mod polynomials;
+#[cfg(test)]
+mod woven;

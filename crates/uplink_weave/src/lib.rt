@@ -4,8 +4,6 @@
 mod blocks;
 mod frame;
 mod laws;
-#[cfg(test)]
-mod tests;
 
 pub use frame::{Lost, unweave, weave};
 pub use laws::{

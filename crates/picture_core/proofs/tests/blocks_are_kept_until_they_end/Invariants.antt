@@ -1,5 +1,0 @@
-use Rattle.std.proofs.Common.{◌≡◌, None}
-use Rattle.picture_core.proofs.tests.blocks_are_kept_until_they_end.Given as goal
-
-abbrev pub invariant-loop-number : goal.invariant-loop-number
-invariant-loop-number g l = l.picture.mark ≡ None

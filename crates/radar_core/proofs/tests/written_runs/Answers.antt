@@ -1,5 +1,0 @@
-use Rattle.std.proofs.Common.{arith}
-use Rattle.radar_core.proofs.tests.written_runs.Goals as goal
-
-pub write_runs-size-requires : goal.write_runs-size-requires
-write_runs-size-requires g c = record { scale = c.block.ensures.scale; number = omega (arith, c.block.ensures.number) }

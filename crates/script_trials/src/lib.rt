@@ -1,0 +1,5 @@
+//! Trials of `script_core`: lines as they are read and printed.
+#![tactic(auto)]
+
+#[cfg(test)]
+mod lines;
