@@ -7,7 +7,6 @@ use Rattle.std.proofs.Math.Seq.{drop-append-add}
 use Rattle.std.proofs.lemmas.List.Splits.{slice_split_first, slice_split_none, length-slice_split}
 use Rattle.std.proofs.lemmas.List.Sums.{fails_before_first, position_or_len_is}
 use Rattle.std.specs.List.{position_or_len}
-use Rattle.memchr.specs.Find.{IsFirstByte, is_byte}
 use Rattle.run_core.specs.Reading.{newline_in}
 use Rattle.run_core.specs.Lines.{parts_of}
 
@@ -96,21 +95,6 @@ parts-dropped from skipped xs ys is =
           ∙ ap (λ zs. zs ++ drop (from - skipped) ys) (drop_all (length xs) xs (omega arith))
           ∙ sym (drop-append-add xs ys (from - skipped)) ∙ ap (λ n. drop n (xs ++ ys)) whole)
     ]
-
--- the answer of a search for a newline
-pub searched-newline : (xs : List ℕ) (found : Option ℕ) → IsFirstByte (is_byte 10) xs found → found ≡ newline_in xs
-searched-newline xs None none = sym (at-none xs (let at = position_or_len_is (λ b. b == 10) xs (length xs) 0 (omega arith)
-    (λ k within. elim (cases_Bool (slice_index xs k == 10)) [
-      | inl here ↦ absurd (none k (omega arith) within here)
-      | inr not_here ↦ not_here
-    ]) (λ past. absurd (omega (arith, past))) in omega (arith, at)))
-searched-newline xs (Some e) found =
-    let at = position_or_len_is (λ b. b == 10) xs e 0 (let w = found.0.high in omega (arith, w))
-    (λ k within. elim (cases_Bool (slice_index xs k == 10)) [
-      | inl here ↦ absurd (found.0.before k (omega arith) within here)
-      | inr not_here ↦ not_here
-    ]) (λ within. found.1) in
-    sym (at-found xs (let w = found.0.high in omega (arith, at, w)) ∙ ap Some at)
 
 -- the first part ends before the first newline
 pub parts-cut : (e : ℕ) (xs more : List ℕ) → newline_in xs ≡ Some e

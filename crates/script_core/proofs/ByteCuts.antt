@@ -6,29 +6,7 @@ use Rattle.std.proofs.lemmas.Grind.{common_steps}
 use Rattle.std.proofs.lemmas.List.{drop-drop, take_all}
 use Rattle.std.proofs.lemmas.List.Splits.{slice_split_first, slice_split_none}
 use Rattle.std.proofs.lemmas.List.Sums.{fails_before_first, position_or_len_is}
-use Rattle.memchr.specs.Find.{IsFirstByte, is_byte}
 use Rattle.std.specs.List.{slice_split, position_or_len, position, before_first, after_first}
-
--- the answer of a search for the byte
-pub searched : (c : ℕ) (xs : List ℕ) (found : Option ℕ) → IsFirstByte (is_byte c) xs found
-    → found ≡ position (λ b. b == c) xs
-searched c xs None none =
-    let at = position_or_len_is (λ b. b == c) xs (length xs) 0 (omega arith)
-    (λ k within. elim (cases_Bool (slice_index xs k == c)) [
-      | inl here ↦ absurd (none k (omega arith) within here)
-      | inr not_here ↦ not_here
-    ]) (λ past. absurd (omega (arith, past))) in
-    let test : nat_lt (position_or_len (λ b. b == c) xs) (length xs) ≡ false = grind (arith, nat_tests) in
-    rw test refl
-searched c xs (Some place) found =
-    let within = found.0.high in
-    let at = position_or_len_is (λ b. b == c) xs place 0 (omega (arith, within))
-    (λ k before. elim (cases_Bool (slice_index xs k == c)) [
-      | inl here ↦ absurd (found.0.before k (omega arith) before here)
-      | inr not_here ↦ not_here
-    ]) (λ inside. found.1) in
-    let test : nat_lt (position_or_len (λ b. b == c) xs) (length xs) ≡ true = grind (arith, nat_tests) in
-    rw test (ap Some (sym at))
 
 pub found_at : (c place : ℕ) (xs : List ℕ) → Some place ≡ position (λ b. b == c) xs
     → (place ≡ position_or_len (λ b. b == c) xs) × (position_or_len (λ b. b == c) xs < length xs)
