@@ -1,4 +1,4 @@
-use Rattle.std.proofs.Common.{◌≡◌, ℕ, zero, suc, ◌<◌, List, [], ◌∷◌, length, slice_index_or, sym, subst, arith}
+use Rattle.std.proofs.Common.{ℕ, zero, suc, ◌<◌, List, [], ◌∷◌, length, slice_index_or, sym, subst, arith}
 use Rattle.wire_trials.proofs.ends.a_piece_source_gives_its_bytes_in_the_sizes_listed.Goals as goal
 
 abbrev listed : List ℕ
