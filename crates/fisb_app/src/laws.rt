@@ -11,7 +11,7 @@ use script_core::ranges_of_lines;
 use uplink_weave::near_frame_gives_payload;
 
 /// What a link promises is what it does, whatever bytes it reads. The pictures by the bytes that
-/// were heard are those that are told by what was given, sent and heard alone, as long as no block
+/// were heard are those that follow from what was given, sent and heard alone, as long as no block
 /// of a frame was heard with more than ten wrong bytes.
 pub fn promises_are_kept()
     ensures { Agrees (task_of link_work) (task_of promised_work) }
@@ -24,8 +24,8 @@ pub fn promises_are_kept()
     pictures_agree();
 }
 
-/// What a receiver promises is what it does. Whatever bytes it reads, its pictures are told by what
-/// a broadcast was given and sent, and by which of its frames were heard. The premise is that each
+/// What a receiver promises is what it does. Whatever bytes it reads, its pictures follow from what
+/// a broadcast was given and sent, and from which of its frames were heard. The premise is that each
 /// frame came from there in time, with at most ten wrong bytes in each block.
 pub fn origins_are_told()
     ensures { (origin : Origin) → IsOrigin origin

@@ -6,7 +6,7 @@ use Rattle.run_core.specs.Status.{code_of}
 use Rattle.run_core.specs.declared.status.Status.{Status}
 use Rattle.run_core.specs.declared.status.Status.TheVariants.{NoMemory}
 
--- where the words of the command line can't be had: the number of a want of memory, or else 1
+-- where the words of the command line can't be had: the number of out of memory, or else 1
 abbrev pub number_without_words : ErrorKind → ℕ
 number_without_words OutOfMemory = code_of NoMemory
 number_without_words _ = 1

@@ -19,7 +19,7 @@ use std::io::ErrorKind;
 
 /// Runs the command that the words name, and answers the number with which the program ends: that of
 /// the run's status, 0 or 2 to 7. If the words can't be had nothing is read, written or run, and the
-/// number is 7 for want of memory, or else 1.
+/// number is 7 for out of memory, or else 1.
 pub fn run_args<S: Source, K: Sink>(
     alloc: Global,
     args: io::Result<Args>,
@@ -99,10 +99,14 @@ fn words(alloc: Global, args: Args) -> Result<Vec<String>, AllocError>
 {
     let mut args = args;
     args.next();
-    args.collect(alloc)
+    let mut words = Vec::new(alloc);
+    for word in args {
+        words.push(word)?;
+    }
+    Ok(words)
 }
 
-/// The number with which the program ends if its words can't be had: that of a want of memory, or 1.
+/// The number with which the program ends if its words can't be had: that of out of memory, or 1.
 fn number_without_words(error: &io::Error) -> u8
     ensures { result ≡ number_without_words (error_kind error.now) }
 {

@@ -182,7 +182,7 @@ impl Ground {
         self.put(moment, item)
     }
 
-    /// Gives empty blocks of a version at a moment: each cell of them has intensity 0. They are told by their numbers, which
+    /// Gives empty blocks of a version at a moment: each cell of them has intensity 0. They are named by their numbers, which
     /// rise, in the area of a product, a scale and a hemisphere.
     ///
     /// # Errors
@@ -238,13 +238,13 @@ impl Ground {
         self.put_all(moment, &items)
     }
 
-    /// Fills the frame of a slot at a moment with the front of what waits, as far as it fits; what is aired waits last from
+    /// Fills the frame of a slot at a moment with the first of what waits, as far as it fits; what is aired waits last from
     /// then on. It takes no memory. What it airs is what the definitions air, so no segment waits for ever
     /// (`no_starvation`).
     ///
     /// # Errors
     ///
-    /// `Clock` exactly where the moment is below that of the last accepted call, which is told; nothing is changed then.
+    /// `Clock` exactly where the moment is below that of the last accepted call, which the fault has; nothing is changed then.
     pub fn fill(&mut self, moment: Moment, slot: u8) -> Result<AirFrame, FillFault>
         requires { slot < 32 }
 

@@ -1,5 +1,5 @@
 -- What stands in lists that are made of other lists.
-use Rattle.std.proofs.Common.{◌≡◌, ℕ, zero, suc, Bool, true, ◌⊎◌, List, [], ◌∷◌, map, flat_map, filter, filter_map, length, not, ◌≤◌, Option, Some, None, slice_get, refl, sym, ap, subst, ◌∙◌, inl, inr, arith}
+use Rattle.std.proofs.Common.{◌≡◌, ℕ, zero, suc, Bool, true, ◌⊎◌, List, [], ◌∷◌, ◌++◌, map, flat_map, filter, filter_map, length, not, ◌≤◌, Option, Some, None, slice_get, refl, sym, ap, subst, ◌∙◌, inl, inr, arith}
 use Rattle.std.specs.List.{All, list_any, cons_option, sum_by}
 use Rattle.std.proofs.lemmas.List.Elements.{All-nil, All-cons}
 use Rattle.std.proofs.lemmas.Bool.{or_left, or_right, or_cases}
@@ -84,3 +84,10 @@ length_ones (x ∷ xs) = let more = length_ones xs in omega (arith, more, sum_by
 pub filter_shorter : {A : Type 0} (p : A → Bool) (xs : List A) → length (filter p xs) ≤ length xs
 filter_shorter p xs =
     let both = length-filter_both p (λ x. not (p x)) (λ x. refl) xs in omega (arith, both)
+
+pub heads : {A : Type 0} (x y : A) (xs ys : List A) → x ∷ xs ≡ y ∷ ys → (x ≡ y) × (xs ≡ ys)
+heads x y xs ys e = (cc, cc)
+
+pub slice_get_after : {A : Type 0} (xs ys : List A) (x : A) → slice_get (xs ++ x ∷ ys) (length xs) ≡ Some x
+slice_get_after [] ys x = refl
+slice_get_after (a ∷ xs) ys x = slice_get_after xs ys x

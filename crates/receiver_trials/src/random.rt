@@ -1,4 +1,4 @@
-//! Frames and payloads of pseudo-random bytes: a receiver answers each, and shows what it showed.
+//! Frames of pseudo-random bytes: a receiver answers each, and shows what it showed.
 
 use crate::tests::{
     METAR_KSEA, NOW, SHOWN, Step, first_wrong, has_reports, moment_of, new_receiver,
@@ -39,7 +39,7 @@ fn two_hundred_frames_at_random_are_heard_or_lost(rt: HostRuntime) -> Result<(),
     for _ in 0..200 {
         state = fill_at_random(&mut air, state);
         assert!(rt; is_heard_or_lost(&mut receiver, &air)?);
+        assert!(rt; has_reports(&receiver, alloc, NOW, &[("METAR KSEA", SHOWN)])?);
     }
-    assert!(rt; has_reports(&receiver, alloc, NOW, &[("METAR KSEA", SHOWN)])?);
     Ok(())
 }

@@ -29,7 +29,7 @@ pub enum Reason {
     /// The line names a 17th station.
     Station,
     /// The line's moment is below the greatest one of the lines acted on before it that concern the
-    /// same station, or the receiver as it does.
+    /// same station, or that concern the receiver, if it does.
     Clock {
         /// That greatest moment.
         kept: Moment,
