@@ -1,5 +1,5 @@
 -- A run that did not begin for want of memory.
-use Rattle.std.proofs.Common.{◌≡◌, ℕ, ◌++◌, List, [], Option, Some, None, IfSome, inl, refl, sym, append-nil, arith}
+use Rattle.std.proofs.Common.{ℕ, List, [], Option, Some, None, IfSome, inl, refl, sym, append-nil, arith}
 use Rattle.std.specs.Io.KnownBytes.{Consumes, Appends}
 use Rattle.fisb_wire.specs.Faults.{Rose}
 use Rattle.run_core.specs.Run.{Task, Ends, HasRun, IsDecided, IsJudged, stopped}

@@ -100,7 +100,7 @@ fn words(alloc: Global, args: Args) -> Result<Vec<String>, AllocError>
     let mut args = args;
     args.next();
     let mut words = Vec::new(alloc);
-    for word in args {
+    while let Some(word) = args.next() {
         words.push(word)?;
     }
     Ok(words)
