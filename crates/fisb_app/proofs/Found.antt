@@ -46,9 +46,6 @@ no-frame allowed moment found is = ap (frame_refusal allowed moment) is
 pub before : (one other : ℕ) → is_lt (nat_cmp one other) ≡ true → one < other
 before one other e = grind (arith, nat_tests)
 
-pub not-before : (one other : ℕ) → is_lt (nat_cmp one other) ≡ false → other ≤ one
-not-before one other e = grind (arith, nat_tests)
-
 pub too-early : (allowed moment : ℕ) (found : Option Frame) (frame : Frame) → found ≡ Some frame → moment < frame.moment → frame_refusal allowed moment found ≡ Some Early
 too-early allowed moment found frame is before =
     let early : nat_lt moment frame.moment ≡ true = search (rules, tests) in

@@ -19,7 +19,7 @@ use Rattle.fisb_app.specs.Reading.{receiver_refusal}
 use Rattle.fisb_app.specs.Output.{heard_text, heard_by, heard_payload}
 use Rattle.fisb_app.specs.Stands.{HasTried, HasUnheard}
 
-no-clock : (last : Option ℕ) (rest : Option HearRefusal) → option_or (option_map clock last) rest ≡ None → option_map Clock last ≡ None
+pub no-clock : (last : Option ℕ) (rest : Option HearRefusal) → option_or (option_map clock last) rest ≡ None → option_map Clock last ≡ None
 no-clock None rest e = refl
 no-clock (Some kept) rest e = cc
 

@@ -2,12 +2,12 @@
 use Rattle.std.proofs.Common.{◌≡◌, ◌≢◌, ℕ, ◌+◌, ◌-◌, ◌<◌, ◌≤◌, nat_lt, true, false, if◌then◌else◌, Bool, List, [], ◌∷◌, ◌++◌, length, Option, Some, None, option_map, Ok, refl, sym, ap, subst, ◌∙◌, arith, rules, tests, slice_get, get_or, ◌%◌, ◌/◌}
 use Rattle.std.specs.Option.{option_or}
 use Rattle.std.specs.List.{cons_option}
-use Rattle.std.proofs.lemmas.List.{length-map}
-use Rattle.list_members.specs.Tests.{zero_more}
+use Rattle.std.proofs.lemmas.List.{length-map, length_push}
+use Rattle.list_members.specs.ListMembers.{slice_get_after}
+use Rattle.list_members.specs.Tests.{or_none, zero_more}
 use Rattle.uplink_weave.specs.Functions.{part, woven_frame, payload_in, counts_in}
 use Rattle.rs_code.specs.Functions.{encoded_word}
 use Rattle.std.proofs.lemmas.List.FromFn.{length-map-range_with_len}
-use Rattle.list_members.specs.Tests.{or_none}
 use Rattle.ground_core.specs.Sent.{HistoriesGrow}
 use Rattle.life_table.specs.LifeTable.{LifeTable}
 use Rattle.segment_core.specs.Store.{last_above}
@@ -19,7 +19,7 @@ use Rattle.ground_core.specs.OnAir.{IsOnAir, history_clock}
 use Rattle.ground_core.specs.declared.air_frame.AirFrame.{AirFrame}
 use Rattle.receiver_core.specs.Reception.{Reception, received_picture}
 use Rattle.receiver_core.specs.Hearing as heard
-use Rattle.receiver_core.specs.Hearing.{HearRefusal, refusal_of_air, IsPictureOf}
+use Rattle.receiver_core.specs.Hearing.{refusal_of_air, IsPictureOf}
 use Rattle.receiver_core.specs.Answers.{HasHeard, HasTakenPayload}
 use Rattle.receiver_core.specs.declared.heard.Heard.{Heard}
 use Rattle.script_core.specs.Script.{Line, turn, hear, show}
@@ -34,20 +34,17 @@ use Rattle.fisb_app.specs.Reading.{station_clock_refusal, turn_refusal, frame_re
 use Rattle.fisb_app.specs.Stands.{Sends, Hears}
 use Rattle.fisb_app.specs.Make.{acted_unless, after_step, total, corrected_by, corrected_bytes, corrected_in, entries_by, last_frame, last_number, wrong_in}
 use Rattle.fisb_app.specs.Makes.{Makes, aired_one}
-use Rattle.fisb_app.proofs.Turning.{frames-more, length-last, aired-alike}
+use Rattle.fisb_app.proofs.Turning.{frames-more, aired-alike}
+use Rattle.fisb_app.proofs.Receiving.{no-clock}
 use Rattle.fisb_app.proofs.Changing.{changes-heard}
 use Rattle.fisb_app.proofs.Stepping.{IsNext, same-counts, acted-step, refused-step}
 
 -- the last one of a list
-at-end : {A : Type 0} (xs : List A) (x : A) → slice_get (xs ++ x ∷ []) (length xs) ≡ Some x
-at-end [] x = refl
-at-end (a ∷ more) x = at-end more x
-
 pub last-more : (xs : List Frame) (x : Frame) → last_frame (xs ++ x ∷ []) ≡ Some x
 last-more xs x =
-    let long = length-last xs x in
+    let long = length_push xs x in
     let place : length (xs ++ x ∷ []) - 1 ≡ length xs = omega (arith, long) in
-    ap (slice_get (xs ++ x ∷ [])) place ∙ at-end xs x
+    ap (slice_get (xs ++ x ∷ [])) place ∙ slice_get_after xs [] x
 
 pub turn-step : (table : LifeTable) (acted : List Line) (moment slot : ℕ)
     → after_step table acted (steps.Turn moment slot) ≡ acted_unless (turn_refusal (length (sent_frames table acted)) acted moment) (turn moment slot) acted
@@ -99,7 +96,7 @@ turn-made grow sends hears table acted moment slot old ground frame h s on =
       last = ap Some (aired-alike sent frame on) ∙ ap aired_one (sym (last-more (sent_frames table acted) sent)) ∙ ap (λ frames. aired_one (last_frame frames)) (sym more);
       counts = same-counts _ _
           (ap (λ (c : Counts). c.updates) h.counts ∙ zero_more _)
-          (ap (λ (c : Counts). c.turns + 1) h.counts ∙ sym (length-last (sent_frames table acted) sent) ∙ ap length (sym more))
+          (ap (λ (c : Counts). c.turns + 1) h.counts ∙ sym (length_push (sent_frames table acted) sent) ∙ ap length (sym more))
           (ap (λ (c : Counts). c.heard) h.counts)
           (ap (λ (c : Counts). c.corrected) h.counts ∙ zero_more _)
           (ap (λ (c : Counts). c.entries) h.counts ∙ zero_more _);
@@ -188,14 +185,10 @@ received-payload stands table past moment air answer (Some payload) is none free
   free = free;
 }
 
-free-clock : (last : Option ℕ) (rest : Option HearRefusal) → option_or (option_map heard.clock last) rest ≡ None → option_map Clock last ≡ None
-free-clock None rest e = refl
-free-clock (Some kept) rest e = cc
-
 pub received : (stands : List Reception → Type 0) (table : LifeTable) (past : List Reception) (moment : ℕ) (air : List ℕ) (answer : Heard)
     → HasHeard stands table past (refusal_of_air past moment air) moment (payload_in air) (counts_in air) (Ok answer) → IsReceived stands past moment air answer.corrected
 received stands table past moment air answer h =
-    received-payload stands table past moment air answer (payload_in air) refl h.accepted (free-clock (last_above (heard.clock_of past) moment) _ h.accepted) h.taken
+    received-payload stands table past moment air answer (payload_in air) refl h.accepted (no-clock (last_above (heard.clock_of past) moment) _ h.accepted) h.taken
 
 -- no frame is heard: none was sent, or it is late
 pub unheard-refused : (late moment : ℕ) (sent : Option Frame) (rest : Option Reason) → frame_refusal late moment sent ≢ None → (why : Reason) × (option_or (frame_refusal late moment sent) rest ≡ Some why)

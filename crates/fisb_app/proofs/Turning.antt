@@ -1,6 +1,6 @@
 -- A frame more that was sent.
-use Rattle.std.proofs.Common.{◌≡◌, ℕ, ◌+◌, Bool, List, [], ◌∷◌, ◌++◌, length, map, refl, sym, ap, ◌∙◌, arith}
-use Rattle.std.proofs.lemmas.List.{length-map}
+use Rattle.std.proofs.Common.{◌≡◌, ℕ, ◌+◌, Bool, List, [], ◌∷◌, ◌++◌, length, map, refl, sym, ap, ◌∙◌}
+use Rattle.std.proofs.lemmas.List.{length-map, map_push}
 use Rattle.life_table.specs.LifeTable.{LifeTable}
 use Rattle.ground_core.specs.Airing.{Frame, frame_after, used_room}
 use Rattle.ground_core.specs.OnAir.{IsOnAir}
@@ -15,14 +15,6 @@ pub frames-more : (table : LifeTable) (acted : List Line) (moment slot : ℕ)
     → sent_frames table (turn moment slot ∷ acted) ≡ sent_frames table acted ++ frame_after table (station_after acted) (events acted) moment slot ∷ []
 frames-more table acted moment slot = refl
 
-pub map-last : {A B : Type 0} (f : A → B) (xs : List A) (x : A) → map f (xs ++ x ∷ []) ≡ map f xs ++ f x ∷ []
-map-last f [] x = refl
-map-last f (a ∷ more) x = ap (λ rest. f a ∷ rest) (map-last f more x)
-
-pub length-last : {A : Type 0} (xs : List A) (x : A) → length (xs ++ x ∷ []) ≡ length xs + 1
-length-last [] x = refl
-length-last (a ∷ more) x = let rest = length-last more x in omega (arith, rest)
-
 pub aired-alike : (sent : Frame) (frame : AirFrame) → IsOnAir sent frame → record { moment = frame.moment; air = frame.air } ≡ aired_view sent
 aired-alike sent frame is =
     ap (λ m. record { moment = m; air = frame.air }) is.moment ∙ ap (λ a. record { moment = sent.moment; air = a }) is.air
@@ -35,7 +27,7 @@ kept-more table acted moment slot kept frame is on =
     let sent = frame_after table (station_after acted) (events acted) moment slot in
     ap (λ list. list ++ record { moment = frame.moment; air = frame.air } ∷ []) is
     ∙ ap (λ one. map aired_view (sent_frames table acted) ++ one ∷ []) (aired-alike sent frame on)
-    ∙ sym (map-last aired_view (sent_frames table acted) sent)
+    ∙ sym (map_push aired_view (sent_frames table acted) sent)
     ∙ ap (map aired_view) (sym (frames-more table acted moment slot))
 
 -- what is written of a frame is what the definitions say of it

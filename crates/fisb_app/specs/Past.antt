@@ -5,6 +5,7 @@ use Rattle.std.specs.Prelude.{option_map, slice_get, slice_index}
 use Rattle.std.specs.List.{cons_option, filter_map, list_any, range_with_len}
 use Rattle.std.specs.Option.{option_or}
 use Rattle.uplink_weave.specs.Functions.{woven_frame, payload_in}
+use Rattle.uplink_weave.specs.Woven.{frame_bytes}
 use Rattle.uplink_frame.specs.declared.station.StationId.{StationId}
 use Rattle.uplink_frame.specs.Station.{no_station, same_station}
 use Rattle.life_table.specs.LifeTable.{LifeTable}
@@ -80,7 +81,7 @@ byte_heard (one ∷ more) place sent = byte_heard more place (if one.0 == place 
 
 unfoldable pub air_heard : List (ℕ × ℕ) → List ℕ → List ℕ
 air_heard wrong air =
-    map (λ place. byte_heard wrong place (slice_index air place)) (range_with_len 0 552)
+    map (λ place. byte_heard wrong place (slice_index air place)) (range_with_len 0 frame_bytes)
 
 -- what was heard
 abbrev pub hearing_of : Line → Option Hearing

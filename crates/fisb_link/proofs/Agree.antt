@@ -22,7 +22,7 @@ use Rattle.fisb_link.specs.PicturesAgree.{PicturesAgree}
 use Rattle.fisb_link.proofs.Layers.{Layers, PictureLayers, AreAll, Setting}
 use Rattle.fisb_link.proofs.StationItems.{setting-of}
 use Rattle.fisb_link.proofs.WholeItems.{item-has_key}
-use Rattle.fisb_link.proofs.Complete.{new_entries, new_link, entries_of, contents-grow, brought, whole-brought, becoming-brought}
+use Rattle.fisb_link.proofs.Complete.{new_entries, new_link, entries_of, contents-grow, new_entries-brought, whole-brought, becoming-brought}
 
 -- what has been heard at a moment
 record Heard (table : LifeTable) (all : List Item) (sent : List Frame) (heard : List Hearing)
@@ -69,7 +69,7 @@ brought-promised : (table : LifeTable) (all : List Item) (sent : List Frame) (h 
     (new_entries table sent h past) (new_link all sent h past)
 brought-promised table all sent h past moment key heard e there own lives =
     let setting = heard.setting in
-    let by = brought table all sent h past e setting heard.are there in
+    let by = new_entries-brought table all sent h past e setting heard.are there in
     let item = by.item in
     let before = earlier table all sent h past moment heard in
     let item_lives = lives-on table all item e moment setting.items_are by.item_in by.there lives in
@@ -105,15 +105,15 @@ promised-brought table all sent h past moment key heard e there own lives =
     (not-true _ becomes.1))
 
 -- in one hearing one version of a key is one entry, since it is of one frame and so of one station
-untied : (table : LifeTable) (all : List Item) (sent : List Frame) (h : Hearing)
+new_entries-untied : (table : LifeTable) (all : List Item) (sent : List Frame) (h : Hearing)
     (past : List Hearing) (e f : Entry) → Setting table all sent
     → AreHeard table.late sent (h ∷ past) → IsIn e (new_entries table sent h past)
     → IsIn f (new_entries table sent h past)
     → e.key ≡ f.key → e.version ≡ f.version → e ≡ f
-untied table all sent h past e f setting are there there' keys versions =
+new_entries-untied table all sent h past e f setting are there there' keys versions =
     let items_are = setting.items_are in
-    let one = brought table all sent h past e setting are there in
-    let other = brought table all sent h past f setting are there' in
+    let one = new_entries-brought table all sent h past e setting are there in
+    let other = new_entries-brought table all sent h past f setting are there' in
     let i = one.item in
     let j = other.item in
     let frame : one.frame ≡ other.frame =
@@ -145,7 +145,7 @@ shown-agree table all sent (h ∷ past) moment key heard =
       there = brought-promised table all sent h past moment key heard;
       back = promised-brought table all sent h past moment key heard;
       untied = λ e f there there' own own' versions.
-          untied table all sent h past e f setting heard.are there there' (own ∙ sym own') versions;
+          new_entries-untied table all sent h past e f setting heard.are there there' (own ∙ sym own') versions;
     })
 
 pub pictures-agree : Layers → PicturesAgree

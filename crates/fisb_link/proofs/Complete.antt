@@ -115,11 +115,11 @@ pub record IsBrought (all : List Item) (sent : List Frame) (h : Hearing) (past :
   pub frame_is : slice_get sent h.frame ≡ Some frame
   pub of_station : item.station ≡ frame.station
 
-pub brought : (table : LifeTable) (all : List Item) (sent : List Frame) (h : Hearing)
+pub new_entries-brought : (table : LifeTable) (all : List Item) (sent : List Frame) (h : Hearing)
     (past : List Hearing) (e : Entry) → Setting table all sent
     → AreHeard table.late sent (h ∷ past) → IsIn e (new_entries table sent h past)
     → IsBrought all sent h past e
-brought table all sent h past e setting are there =
+new_entries-brought table all sent h past e setting are there =
     let before = files_heard table sent past in
     let now = files_now table sent h in
     let by = in_flat_map (whole_entries table) e (new_whole table sent h past) there in

@@ -177,9 +177,9 @@ pub last_second : link_picture default_table superseding_broadcast (at 0 1700000
 unfolding default_table text_payload text_key
 last_second = refl
 
-pub ended : link_picture default_table superseding_broadcast (at 0 1700000124 ∷ []) 1700007180 ≡ []
+pub older_ended : link_picture default_table superseding_broadcast (at 0 1700000124 ∷ []) 1700007180 ≡ []
 unfolding default_table text_payload text_key
-ended = refl
+older_ended = refl
 
 -- where the older one has ended the newer one goes on
 pub newer_lasts : link_picture default_table superseding_broadcast

@@ -7,6 +7,7 @@ use Rattle.std.proofs.lemmas.List.{map-append}
 use Rattle.std.proofs.lemmas.List.Folds.{list_any-append}
 use Rattle.list_members.specs.Membership.{IsIn}
 use Rattle.list_members.specs.Members.{IsIn-either}
+use Rattle.std.proofs.Math.Bool.{or-false}
 use Rattle.std.proofs.Math.Seq.{drop-cons}
 use Rattle.list_members.specs.ListMembers.{in_one, map_has}
 use Rattle.radar_core.specs.declared.key.BlockKey.{BlockKey}
@@ -27,10 +28,6 @@ use Rattle.ground_core.proofs.ListLemmas.{list_any-map}
 abbrev pub key_in_area : Area → ℕ → BlockKey
 key_in_area area n = block_key area.product area.scale area.south n
 
-or-none : (b : Bool) → (b || false) ≡ b
-or-none true = refl
-or-none false = refl
-
 pub keys_more : (area : Area) (xs : List ℕ) (n : ℕ) → area_keys area (xs ++ n ∷ []) ≡ area_keys area xs ++ key_in_area area n ∷ []
 keys_more area xs n = map-append (key_in_area area) xs (n ∷ [])
 
@@ -38,7 +35,7 @@ pub any_more : (p : BlockKey → Bool) (area : Area) (xs : List ℕ) (n : ℕ)
     → list_any p (area_keys area (xs ++ n ∷ [])) ≡ (list_any p (area_keys area xs) || p (key_in_area area n))
 any_more p area xs n =
     ap (list_any p) (keys_more area xs n) ∙ list_any-append p (area_keys area xs) (key_in_area area n ∷ [])
-    ∙ ap (λ b. list_any p (area_keys area xs) || b) (or-none (p (key_in_area area n)))
+    ∙ ap (λ b. list_any p (area_keys area xs) || b) (or-false (p (key_in_area area n)))
 
 -- one number more is put
 either : {X : Type 0} (a b : Bool) (put first : X) → (if b then put else (if a then put else first)) ≡ (if a || b then put else first)

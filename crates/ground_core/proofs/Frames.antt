@@ -1,6 +1,7 @@
 -- The frames of a broadcast: what they air, and what their payloads read back as.
 use Rattle.std.proofs.Common.{◌≡◌, ℕ, ◌+◌, ◌≤◌, List, [], ◌∷◌, ◌++◌, length, map, sum_by, is_some, refl, sym, ap, subst, ◌∙◌, inl, inr, arith}
 use Rattle.std.proofs.lemmas.List.Sums.{sum_by-cons}
+use Rattle.std.proofs.lemmas.Simd.{map-map}
 use Rattle.life_table.specs.LifeTable.{LifeTable}
 use Rattle.life_table.specs.Rules.{IsTable}
 use Rattle.apdu_core.specs.Laws.{ReadsBack}
@@ -70,10 +71,6 @@ body-is layers table s sound own small =
       bytes = (layers.apdus).bytes apdu (part.bytes sound.bytes);
     }
 
-map-map : (segments : List Segment) → map fisb_frame (map body_of segments) ≡ map (λ s. fisb_frame (body_of s)) segments
-map-map [] = refl
-map-map (s ∷ more) = ap (λ rest. fisb_frame (body_of s) ∷ rest) (map-map more)
-
 -- the frame of a fill
 new-frame : FrameLayers → (table : LifeTable) (station : StationId) (past : List StationEvent) (moment slot : ℕ) → IsTable table → FitsStation station
     → IsNext table station (history_of station past) (fill moment slot) → IsBroadcast table past
@@ -91,7 +88,7 @@ new-frame layers table station past moment slot is_table fits next is =
     let within = room-within found.0 frame.segments found.1 in
     subst IsBody (sym found.2) (body-is layers table found.0 (are.sound (found.0).item (aired.of_item).item_in) (aired.of_item).of_item (omega arith)) in
     let back = layers.bodies station slot (map body_of frame.segments) fits next.is_accepted (All-members IsBody (map body_of frame.segments) bodies) (omega arith) in
-    let same = map-map frame.segments in
+    let same = map-map fisb_frame body_of frame.segments in
     let spelled : length (spelled_frames (map fisb_frame (map body_of frame.segments))) ≡ frames_size (map body_of frame.segments) =
     layers.size (map body_of frame.segments) in
     let spelled_is : used_room frame ≡ length (spelled_frames (fisb_frames_of frame)) =

@@ -58,9 +58,9 @@ text_weather key version row chars = record {
 }
 
 -- what is not refused passed each test
-pub passed : (refusal : GiveRefusal) (test : Bool) (later : Option GiveRefusal) → cond test (Some refusal) later ≡ None → (test ≡ false) × (later ≡ None)
-passed refusal true later e = absurd (cc)
-passed refusal false later e = (refl, e)
+pub test-passed : (refusal : GiveRefusal) (test : Bool) (later : Option GiveRefusal) → cond test (Some refusal) later ≡ None → (test ≡ false) × (later ≡ None)
+test-passed refusal true later e = absurd (cc)
+test-passed refusal false later e = (refl, e)
 
 by_text : (cause : Option TextRefusal) (later : Option GiveRefusal) → text_fault_refusal cause later ≡ None → (cause ≡ None) × (later ≡ None)
 by_text None later e = (refl, e)
@@ -86,7 +86,7 @@ by_age : (version : ℕ) (kept : List (Option ℕ)) (later : Option GiveRefusal)
 by_age version [] later e = (tt, e)
 by_age version (None ∷ more) later e = let rest = by_age version more later e in ((tt, rest.0), rest.1)
 by_age version (Some kept ∷ more) later e =
-    let split = passed (not_newer kept) (nat_le version kept) (age_refusal version more later) e in
+    let split = test-passed (not_newer kept) (nat_le version kept) (age_refusal version more later) e in
     let rest = by_age version more later split.1 in
     ((leb-false version kept split.0, rest.0), rest.1)
 
@@ -100,9 +100,9 @@ pub record IsClear (moment : ℕ) (t : Timing) (kept : List (Option ℕ)) : Type
 pub by_version : (moment : ℕ) (t : Timing) (kept : List (Option ℕ)) (later : Option GiveRefusal) → version_refusal moment t kept later ≡ None
     → IsClear moment t kept × (later ≡ None)
 by_version moment t kept later e =
-    let by_form = passed coarse (not (shows t.form t.version)) _ e in
-    let by_lead = passed ahead (nat_lt (moment + 60) t.version) _ by_form.1 in
-    let by_life = passed expired (nat_le (t.version + t.life) moment) _ by_lead.1 in
+    let by_form = test-passed coarse (not (shows t.form t.version)) _ e in
+    let by_lead = test-passed ahead (nat_lt (moment + 60) t.version) _ by_form.1 in
+    let by_life = test-passed expired (nat_le (t.version + t.life) moment) _ by_lead.1 in
     let age = by_age t.version kept later by_life.1 in (
       record {
         shown = not-false (shows t.form t.version) by_form.0;
@@ -134,11 +134,11 @@ given-below version key before above item h has =
     (map_has (λ (item : Item). item.weather.version) item (filter (has_key key) before) (IsIn-filter (has_key key) item before h has))
 
 -- weather in segments that is not refused for its file has a number
-numbered : (segmented : Bool) (number : Option ℕ) → cond (segmented && is_none number) (Some no_file) None ≡ None → segmented ≡ true
+file-numbered : (segmented : Bool) (number : Option ℕ) → cond (segmented && is_none number) (Some no_file) None ≡ None → segmented ≡ true
     → (n : ℕ) × (number ≡ Some n)
-numbered true (Some n) e s = (n, refl)
-numbered true None e s = absurd (cc)
-numbered false number e s = absurd (cc)
+file-numbered true (Some n) e s = (n, refl)
+file-numbered true None e s = absurd (cc)
+file-numbered false number e s = absurd (cc)
 
 -- a text with a key is not empty
 no_key_of_nothing : (table : LifeTable) → text_key table [] ≡ Err few_words
@@ -207,7 +207,7 @@ text-given layers table before moment version chars key row is_table moment_is s
       sound = text-sound layers table version chars key row is_table moment_is sendable key_is row_is (clear.0).shown;
       not_ahead = (clear.0).not_ahead;
       not_expired = (clear.0).alive;
-      number = λ s. numbered (is_segmented w) (number_for table moment before w) clear.1 s;
+      number = λ s. file-numbered (is_segmented w) (number_for table moment before w) clear.1 s;
       newer = λ item e old h has.
           given-below version (text_report key) before ((clear.0).newer).0 item old
           (subst (λ (x : Entry). has_key x.key item ≡ true) (in_one e (entry_of key version row.life chars) h) has);

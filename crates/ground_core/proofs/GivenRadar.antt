@@ -39,7 +39,7 @@ use Rattle.ground_core.specs.Broadcast.{IsAccepted}
 use Rattle.ground_core.specs.Refusal.{bad_block, given_versions, timing, radar_refusal, is_block, are_blanks, rise, most_blanks, give_refusal}
 use Rattle.ground_core.specs.Sound.{IsSound, IsGiven, AreGiven}
 use Rattle.ground_core.proofs.ListLemmas.{Each}
-use Rattle.ground_core.proofs.Given.{IsAbove, IsClear, by_version, passed, given-below}
+use Rattle.ground_core.proofs.Given.{IsAbove, IsClear, by_version, test-passed, given-below}
 use Rattle.ground_core.proofs.Rising.{Rises, rises, increasing, rises_behind, below_behind}
 
 -- what the crates below promise of radar
@@ -157,7 +157,7 @@ by_radar : (moment version : ℕ) (named : Bool) (kept : List (Option ℕ)) (fou
     → IsPassed moment version named kept found
 by_radar moment version named kept None e = absurd (cc)
 by_radar moment version named kept (Some row) e =
-    let test = passed bad_block (not named) _ e in
+    let test = test-passed bad_block (not named) _ e in
     record {
       row = row;
       row_is = refl;

@@ -120,8 +120,8 @@ module _ (same : KeysAreTold) (table : LifeTable) (station : StationId) (moment 
       (kept-rival table moment w j given.sound given.not_expired t product version)
       (sym number ∙ own)
 
-  pushed : AreSo table station (before ++ new ∷ [])
-  pushed = record {
+  items-pushed : AreSo table station (before ++ new ∷ [])
+  items-pushed = record {
     are = record {
       of_station = λ i h. elim (either i h) [ inl old ↦ (so.are).of_station i old | inr e ↦ ap (λ (x : Item). x.station) e ];
       sound = λ i h. elim (either i h) [
@@ -189,4 +189,4 @@ module _ (same : KeysAreTold) (table : LifeTable) (station : StationId) (moment 
 pub histories-have_items : KeysAreTold → AcceptedIsGiven → HistoriesHaveItems
 histories-have_items same accepting table station history is_table is =
     (by_items accepting table station (AreSo table station) is_table
-    (λ moment before w given so. pushed same table station moment before w given so) (none-yet table station) history is).are
+    (λ moment before w given so. items-pushed same table station moment before w given so) (none-yet table station) history is).are

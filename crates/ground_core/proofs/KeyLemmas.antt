@@ -1,5 +1,5 @@
 -- What the law of keys says of the test of two of them.
-use Rattle.std.proofs.Common.{◌≡◌, true, refl, sym}
+use Rattle.std.proofs.Common.{◌≡◌, true, sym}
 use Rattle.std.specs.Bool.{Decides}
 use Rattle.std.specs.Ordering.{is_eq}
 use Rattle.std.proofs.lemmas.Bool.Decides.{same_from_decides}
@@ -13,9 +13,6 @@ pub record KeyLaws : Type 0 where
 
 pub text_key_is : KeyLaws → (a b : TextKey) → same_text_key a b ≡ true → a ≡ b
 text_key_is keys a b h = let same : text_report a ≡ text_report b = (keys.same (text_report a) (text_report b)).0 h in cc
-
-pub same_key_itself : KeyLaws → (key : Key) → same_key key key ≡ true
-same_key_itself keys key = (keys.same key key).1 refl
 
 pub same_key_comm : KeyLaws → (a b : Key) → same_key a b ≡ same_key b a
 same_key_comm keys a b =

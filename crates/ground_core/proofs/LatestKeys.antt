@@ -1,10 +1,9 @@
 -- What is kept of keys is found by what they are.
-use Rattle.std.proofs.Common.{◌≡◌, ℕ, Bool, true, ◌&&◌, ◌==◌, cond, if◌then◌else◌, Option, Some, None, option_map, refl, sym, ap, subst, ◌∙◌, inl, inr, arith}
+use Rattle.std.proofs.Common.{◌≡◌, ℕ, Bool, ◌&&◌, cond, if◌then◌else◌, Option, Some, None, option_map, refl, sym, ap, subst, ◌∙◌, inl, inr}
 use Rattle.std.specs.Ordering.{nat_cmp, is_eq}
 use Rattle.std.specs.BTreeMap.{is_at}
 use Rattle.std.proofs.Math.Bool.{and-true, and-false}
-use Rattle.std.proofs.lemmas.Bool.{cases_Bool}
-use Rattle.std.proofs.lemmas.Bool.Decides.{nat_tests}
+use Rattle.std.proofs.lemmas.Bool.{cases_Bool, eq-eqb}
 use Rattle.list_members.specs.Tests.{tied_numbers}
 use Rattle.text_reports.specs.TextKey.{TextKey, same_text_key}
 use Rattle.picture_core.specs.Key.{Key, radar_block, text_report}
@@ -24,9 +23,6 @@ use Rattle.std.specs.Cmp.{tied_then}
 abbrev pub with_key : NumberedKey → TextKey → NumberedKey
 with_key a k = record { number = place_number k.place; key = rc_with_value a.key (given_key k); numbered = refl }
 
-same_number : (a b : ℕ) → a ≡ b → (a == b) ≡ true
-same_number a b e = grind (arith, nat_tests)
-
 pub key_at : KeyLaws → (a : NumberedKey) (k : TextKey) → is_at (numbered.ghosts.cmp a) (with_key a k) ≡ same_text_key (report_key a) k
 key_at keys a k =
     let first : Bool = is_eq (nat_cmp a.number (place_number k.place)) in
@@ -35,7 +31,7 @@ key_at keys a k =
       | inl t ↦ (
           let same : report_key a ≡ k = text_key_is keys (report_key a) k t in
           let numbers : a.number ≡ place_number k.place = a.numbered ∙ ap (λ (x : TextKey). place_number x.place) same in
-          rw t (and-true first ∙ sym (tied_numbers a.number (place_number k.place)) ∙ same_number a.number (place_number k.place) numbers))
+          rw t (and-true first ∙ sym (tied_numbers a.number (place_number k.place)) ∙ eq-eqb a.number (place_number k.place) numbers))
       | inr f ↦ rw f (and-false first)
     ])
 

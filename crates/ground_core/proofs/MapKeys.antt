@@ -1,5 +1,5 @@
 -- Keys of maps are compared by what they are.
-use Rattle.std.proofs.Common.{◌≡◌, ℕ, ◌+◌, ◌<◌, ◌≤◌, true, false, ◌&&◌, ◌==◌, nat_lt, nat_le, cond, if◌then◌else◌, List, [], ◌∷◌, length, Option, Some, None, IsSome, unwrap_or, refl, sym, ap, subst, ◌∙◌, inl, inr, arith}
+use Rattle.std.proofs.Common.{◌≡◌, ℕ, ◌+◌, ◌<◌, ◌≤◌, true, false, ◌&&◌, ◌==◌, nat_lt, nat_le, cond, if◌then◌else◌, length, Option, Some, None, IsSome, unwrap_or, refl, sym, ap, subst, ◌∙◌, inl, inr, arith}
 use Rattle.std.specs.Cmp.{tied_then}
 use Rattle.std.specs.Ordering.{nat_cmp, ordering_then, is_eq, is_gt}
 use Rattle.std.specs.declared.cmp.Ordering.{Ordering}
@@ -8,6 +8,7 @@ use Rattle.std.specs.BTreeMap.{BTreeMap, is_at, get, IsLowerBound}
 use Rattle.std.specs.Map.{lookup}
 use Rattle.std.proofs.lemmas.Bool.{cases_Bool, lt-ltb, le-ltb, leb-true, leb-false}
 use Rattle.std.proofs.lemmas.Bool.Decides.{nat_tests}
+use Rattle.std.proofs.lemmas.List.{nil_from_length}
 use Rattle.list_members.specs.Tests.{tied_numbers, zero_more}
 use Rattle.ground_core.specs.Views.{count_at}
 use Rattle.ground_core.specs.declared.files.Files.{Files}
@@ -66,12 +67,8 @@ least_above counts name over v p least lt h = zero_where_none (get pair_cmp coun
     let good : is_gt (pair_cmp name (v, p)) ≡ false = least (v, p) some in
     cc)
 
-none_in : (es : List ((ℕ × ℕ) × ℕ)) → length es ≡ 0 → es ≡ []
-none_in [] h = refl
-none_in (e ∷ es) h = absurd (omega arith)
-
 pub none_counted : (files : Files) (v p : ℕ) → length files.counts.entries ≡ 0 → count_at files v p ≡ 0
-none_counted files v p h = ap (λ es. unwrap_or (lookup (is_at (pair_cmp (v, p))) es) 0) (none_in files.counts.entries h)
+none_counted files v p h = ap (λ es. unwrap_or (lookup (is_at (pair_cmp (v, p))) es) 0) (nil_from_length files.counts.entries h)
 
 pub counted_above : (old new : Files) (over : ℕ) → ((v p : ℕ) → nat_le v over ≡ false → count_at new v p ≡ count_at old v p)
     → ((v p : ℕ) → nat_le v over ≡ true → count_at new v p ≡ 0)

@@ -1,7 +1,7 @@
 -- File numbers are counts: while an update is not expired, no number of its version and product has become free.
 use Rattle.std.proofs.Common.{◌≡◌, ℕ, zero, suc, ◌+◌, ◌<◌, ◌≤◌, Bool, true, false, not, ◌&&◌, ◌==◌, nat_lt, cond, if◌then◌else◌, List, [], ◌∷◌, ◌++◌, length, map, filter, find, Option, Some, None, unwrap_or, refl, sym, ap, ◌∙◌, inl, inr, arith, length-append, append-nil}
 use Rattle.std.specs.List.{list_any, range_with_len}
-use Rattle.std.proofs.lemmas.Bool.{cases_Bool, lt-ltb, le-ltb, ltb-false}
+use Rattle.std.proofs.lemmas.Bool.{cases_Bool, eqb-true, lt-ltb, le-ltb, ltb-false}
 use Rattle.std.proofs.lemmas.Bool.Decides.{nat_tests}
 use Rattle.std.proofs.lemmas.List.{map-append}
 use Rattle.std.proofs.lemmas.List.FromFn.{map-range_with_len_more}
@@ -32,16 +32,13 @@ and_four true false true false f = refl
 and_four true false false true f = refl
 and_four true false false false f = refl
 
-same_number : (a b : ℕ) → (a == b) ≡ true → a ≡ b
-same_number a b h = grind (arith, nat_tests)
-
 rival_is : (table : LifeTable) (moment : ℕ) (w : Weather) (o : Item) → moment < w.version + unwrap_or (longest table w.product) 0
     → is_rival table moment w o ≡ is_filed w.version w.product o
 rival_is table moment w o lt =
     and_four (is_segmented o.weather) (is_kept table moment o.weather) (o.weather.product == w.product) (o.weather.version == w.version) (λ p v.
     let kept : nat_lt moment (w.version + unwrap_or (longest table w.product) 0) ≡ true = lt-ltb moment _ lt in
-    ap (λ n. nat_lt moment (o.weather.version + unwrap_or (longest table n) 0)) (same_number _ _ p)
-    ∙ ap (λ n. nat_lt moment (n + unwrap_or (longest table w.product) 0)) (same_number _ _ v) ∙ kept)
+    ap (λ n. nat_lt moment (o.weather.version + unwrap_or (longest table n) 0)) (eqb-true _ _ p)
+    ∙ ap (λ n. nat_lt moment (n + unwrap_or (longest table w.product) 0)) (eqb-true _ _ v) ∙ kept)
 
 -- the numbers of a version and a product are 0, 1, 2 and so on
 abbrev pub AreCounted : List Item → Type 0
@@ -50,7 +47,7 @@ AreCounted all = (version product : ℕ) → map (λ i. i.number) (filed_items v
 number_below : (n at count : ℕ) → at ≤ n → list_any (has_number n) (map Some (range_with_len at count)) ≡ nat_lt n (at + count)
 number_below n at zero le = sym (le-ltb n (at + 0) (omega arith))
 number_below n at (suc count) le = elim (cases_Bool (n == at)) [
-  | inl t ↦ (let same : n ≡ at = same_number n at t in rw t (sym (lt-ltb n (at + suc count) (omega arith))))
+  | inl t ↦ (let same : n ≡ at = eqb-true n at t in rw t (sym (lt-ltb n (at + suc count) (omega arith))))
   | inr f ↦ (
       let more : at + 1 ≤ n = grind (arith, nat_tests) in
       let e : (at + 1) + count ≡ at + suc count = omega arith in
@@ -160,12 +157,12 @@ counted_more table station moment before w g h =
     let item : Item = item_of table station moment before w in
     λ v p. counted_push before item v p h (λ t.
     let three = and_three (is_segmented w) (w.version == v) (w.product == p) t in
-    let same_v : w.version ≡ v = same_number w.version v three.1 in
-    let same_p : w.product ≡ p = same_number w.product p three.2 in
+    let same_v : w.version ≡ v = eqb-true w.version v three.1 in
+    let same_p : w.product ≡ p = eqb-true w.product p three.2 in
     number_is table station moment before w w.version w.product _ three.0 (number_of_given table before moment w g h three.0)
     ∙ ap (λ n. Some (length (filed_items n w.product before))) same_v ∙ ap (λ n. Some (length (filed_items v n before))) same_p)
 
-pub counted : AcceptedIsGiven → (table : LifeTable) (station : StationId) → IsTable table → (history : List Event) → IsHistory table station history
+pub items-counted : AcceptedIsGiven → (table : LifeTable) (station : StationId) → IsTable table → (history : List Event) → IsHistory table station history
     → AreCounted (items table station history)
-counted accepting table station is_table history h =
+items-counted accepting table station is_table history h =
     by_items accepting table station AreCounted is_table (counted_more table station) (λ version product. refl) history h

@@ -7,8 +7,8 @@ use Rattle.uplink_frame.specs.declared.station.StationId.{StationId}
 use Rattle.uplink_frame.specs.Laws.{StationsAreTold}
 use Rattle.uplink_frame.specs.UplinkFrame.{fisb_frame, spelled_frames, information_frame}
 use Rattle.ground_core.specs.Item.{Segment, body_of, room_of}
-use Rattle.ground_core.specs.History.{Event, items}
-use Rattle.ground_core.specs.Airing.{airing, log}
+use Rattle.ground_core.specs.History.{Event}
+use Rattle.ground_core.specs.Starving.{aired_after}
 use Rattle.ground_core.specs.Piece.{Piece, piece_of, live_by, left_pieces, fitting_pieces}
 use Rattle.ground_core.specs.StandsFor.{StandsFor, history_clock}
 use Rattle.segment_core.specs.Store.{last_above}
@@ -19,15 +19,12 @@ use Rattle.ground_core.proofs.Segments.{SizesOfApdus, body_size}
 use Rattle.ground_core.proofs.Turns.{frame_of}
 use Rattle.ground_core.proofs.State.{filled_of, clock_below, lives_same}
 
-abbrev pub sent_of : LifeTable → StationId → List Event → ℕ → List Segment
-sent_of table station history moment = airing (items table station history) (log table station history) moment
-
 pub aired_pieces : StationsAreTold → KeyLaws → (table : LifeTable) (station : StationId) (history : List Event) (moment slot : ℕ) (old : Ground) (new : List Piece) → StandsFor table station old history
     → last_above (history_clock history) moment ≡ None
     → filter (live_by (latest_at old.newest) moment) new
     ≡ left_pieces 424 (filter (live_by (latest_at old.newest) moment) (pieces_in old.line))
     ++ fitting_pieces 424 (filter (live_by (latest_at old.newest) moment) (pieces_in old.line))
-    → fitting_pieces 424 (filter (live_by (latest_at old.newest) moment) (pieces_in old.line)) ≡ map piece_of (sent_of table station history moment)
+    → fitting_pieces 424 (filter (live_by (latest_at old.newest) moment) (pieces_in old.line)) ≡ map piece_of (aired_after table station history moment)
 aired_pieces told keys table station history moment slot old new s e n =
     ap (λ f. fitting_pieces 424 (filter f (pieces_in old.line))) (lives_same table station history moment old s (clock_below history moment e))
     ∙ sym (filled_of told keys table station history moment slot old new s e n).aired

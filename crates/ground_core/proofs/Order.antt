@@ -143,8 +143,8 @@ each_stands told (x ∷ xs) =
     (or_left (same_segment x x) (stands_in xs x) (same_segment_refl told x), Each-weaker _ _ (λ s h. or_right (same_segment s x) (stands_in xs s) h) xs (each_stands told xs))
 
 -- a turn of a front that is aired
-pub turned : StationsAreTold → (p : Segment → Bool) (xs front rest : List Segment) → filter p (last_places xs) ≡ front ++ rest → filter p (last_places (xs ++ front)) ≡ rest ++ front
-turned told p xs front rest h =
+pub front-turned : StationsAreTold → (p : Segment → Bool) (xs front rest : List Segment) → filter p (last_places xs) ≡ front ++ rest → filter p (last_places (xs ++ front)) ≡ rest ++ front
+front-turned told p xs front rest h =
     let once : Once (front ++ rest) = subst Once h (Once-filter p (last_places xs) (Once-last_places xs)) in
     let passing : Each (λ s. p s ≡ true) (front ++ rest) = subst (Each (λ s. p s ≡ true)) h (filter_passes p (last_places xs)) in
     let off : Segment → Bool = λ s. not (stands_in front s) in

@@ -1,9 +1,8 @@
 -- Nothing is kept of a key but of an item that has a place in the queue.
 use Rattle.std.proofs.Common.{◌≡◌, ℕ, zero, suc, ◌≤◌, true, false, ◌&&◌, ◌==◌, nat_lt, if◌then◌else◌, List, [], ◌∷◌, ◌++◌, map, flat_map, Option, Some, None, refl, sym, ap, subst, ◌∙◌, inl, inr, arith}
 use Rattle.std.specs.List.{range_with_len}
-use Rattle.std.proofs.lemmas.Bool.{cases_Bool}
+use Rattle.std.proofs.lemmas.Bool.{cases_Bool, eq-eqb}
 use Rattle.std.proofs.lemmas.List.{append_assoc}
-use Rattle.std.proofs.lemmas.Bool.Decides.{nat_tests}
 use Rattle.list_members.specs.Membership.{IsIn}
 use Rattle.list_members.specs.Members.{IsIn-before, IsIn-after}
 use Rattle.list_members.specs.ListMembers.{any_in, in_any}
@@ -13,7 +12,7 @@ use Rattle.ground_core.specs.Putting.{IsPut, is_among, latest_of_sent, latest_pu
 use Rattle.ground_core.specs.Views.{latest_at, keys_in, pieces_in, piece_at}
 use Rattle.ground_core.specs.declared.item.SentItem.{SentItem}
 use Rattle.ground_core.specs.declared.ground.Ground.{Ground}
-use Rattle.ground_core.proofs.KeyLemmas.{KeyLaws, same_key_itself}
+use Rattle.ground_core.proofs.KeyLemmas.{KeyLaws}
 
 pub placed_among : (latest : Key → Option Latest) (old new : List Piece) → ((p : Piece) → IsIn p old → IsIn p new) → ArePlaced latest old → ArePlaced latest new
 placed_among latest old new f h key kept e =
@@ -43,11 +42,8 @@ still_lives moment (Some latest) kept e = elim (cases_Bool (nat_lt moment latest
   | inr f ↦ (let none : None ≡ Some kept = ap (λ b. if b then Some latest else None) (sym f) ∙ e in cc)
 ]
 
-itself : (n : ℕ) → (n == n) ≡ true
-itself n = grind (arith, nat_tests)
-
 lives_at : (moment serial : ℕ) (kept : Latest) → nat_lt moment kept.until ≡ true → serial ≡ kept.serial → lives_as moment serial (Some kept) ≡ true
-lives_at moment serial kept t e = ap (λ b. b && (kept.serial == serial)) t ∙ ap (λ n. kept.serial == n) e ∙ itself kept.serial
+lives_at moment serial kept t e = ap (λ b. b && (kept.serial == serial)) t ∙ ap (λ n. kept.serial == n) e ∙ eq-eqb kept.serial kept.serial refl
 
 -- the place of a dead front is that of no key of which something is kept behind it
 pub placed_dropped : (latest after : Key → Option Latest) (moment : ℕ) (old behind : List Piece) (front : Piece)
@@ -80,7 +76,7 @@ among_own laws keys key t =
     subst (λ x. IsIn x keys) ((laws.same own.0 key).0 own.2) own.1
 
 pub among_itself : KeyLaws → (keys : List Key) (key : Key) → IsIn key keys → is_among keys key ≡ true
-among_itself laws keys key i = in_any (λ x. same_key x key) key keys i (same_key_itself laws key)
+among_itself laws keys key i = in_any (λ x. same_key x key) key keys i ((laws.same key key).1 refl)
 
 abbrev latest_with : (Key → Option Latest) → SentItem → Key → Option Latest
 latest_with latest item key = if is_among (keys_in item.keys) key then Some (latest_of_sent item) else latest key

@@ -18,9 +18,9 @@ use Rattle.ground_core.specs.Piece.{Piece, Latest, piece_of, lives_as, live_by, 
 use Rattle.ground_core.specs.StandsFor.{latest_of, latest_of_item}
 use Rattle.ground_core.proofs.KeyLemmas.{KeyLaws}
 use Rattle.ground_core.proofs.ListLemmas.{Each, Each-append, Each-weaker, Each-in, Each-all, Each-map, filter_same, filter_all, filter_less, filter-map, list_any-weaker}
-use Rattle.ground_core.proofs.Order.{last_places, segments_in, stands_in, waiting_is, turned, Once, last_places-append, last_places_once}
+use Rattle.ground_core.proofs.Order.{last_places, segments_in, stands_in, waiting_is, front-turned, Once, last_places-append, last_places_once}
 use Rattle.ground_core.proofs.Segments.{is_segment_of}
-use Rattle.ground_core.proofs.Serials.{Numbered, Numbered-append, numbered_items, numbered_made, serial_in, IsLogged, logged, logged_more, logged_new, log_given, log_filled, Each-last_places, live_same, latest_push}
+use Rattle.ground_core.proofs.Serials.{Numbered, Numbered-append, numbered_items, numbered_made, serial_in, IsLogged, segments-logged, logged_more, logged_new, log_given, log_filled, Each-last_places, live_same, latest_push}
 
 -- the pieces of segments that were given are live where their items are
 pub pieces_live : KeyLaws → (all : List Item) (moment : ℕ) (segments : List Segment) → Numbered 0 all → Each (IsLogged all) segments
@@ -35,7 +35,7 @@ places table station history = last_places (segments_in (log table station histo
 
 pub logged_places : (table : LifeTable) (station : StationId) (history : List Event)
     → Each (IsLogged (items table station history)) (places table station history)
-logged_places table station history = Each-last_places _ _ (logged table station history)
+logged_places table station history = Each-last_places _ _ (segments-logged table station history)
 
 pub waits_are : KeyLaws → (table : LifeTable) (station : StationId) (history : List Event) (moment : ℕ)
     → map piece_of (waiting_segments (items table station history) (log table station history) moment)
@@ -119,15 +119,15 @@ waiting_filled told table station past moment slot =
     waiting_is (all ++ []) (log table station (fill moment slot ∷ past)) moment
     ∙ ap (λ is. filter (λ s. is_live is moment s.item) (last_places (segments_in (log table station (fill moment slot ∷ past))))) (append-nil all)
     ∙ ap (λ l. filter live (last_places l)) (log_filled table station past moment slot)
-    ∙ turned told live before front (segments_left 424 now) cut
+    ∙ front-turned told live before front (segments_left 424 now) cut
 
-pub filled : StationsAreTold → KeyLaws → (table : LifeTable) (station : StationId) (past : List Event) (clock moment slot : ℕ) (old new : List Piece) → clock ≤ moment
+pub line-filled : StationsAreTold → KeyLaws → (table : LifeTable) (station : StationId) (past : List Event) (clock moment slot : ℕ) (old new : List Piece) → clock ≤ moment
     → filter (live_by (latest_of (items table station past)) clock) old ≡ map piece_of (waiting_segments (items table station past) (log table station past) clock)
     → filter (live_by (latest_of (items table station past)) moment) new
     ≡ left_pieces 424 (filter (live_by (latest_of (items table station past)) moment) old)
     ++ fitting_pieces 424 (filter (live_by (latest_of (items table station past)) moment) old)
     → IsFilled table station past moment slot old new
-filled told keys table station past clock moment slot old new le e n =
+line-filled told keys table station past clock moment slot old new le e n =
     let all : List Item = items table station past in
     let now : List Segment = waiting_segments all (log table station past) moment in
     let live : filter (live_by (latest_of all) moment) old ≡ map piece_of now = line_later keys table station past clock moment old le e in
@@ -243,7 +243,7 @@ pub order_given : (table : LifeTable) (station : StationId) (moment : ℕ) (past
 order_given table station moment past update =
     ap last_places (log_given table station past moment update)
     ∙ places_given_all (items table station past) (segments_in (log table station past)) (made_items table station moment past update)
-    (numbered_items table station past) (numbered_new table station moment past update) (logged table station past)
+    (numbered_items table station past) (numbered_new table station moment past update) (segments-logged table station past)
 
 -- what waits behind items that were given
 pub given_line : KeyLaws → (table : LifeTable) (station : StationId) (past : List Event) (moment : ℕ) (update : Update) (clock : ℕ) (old new : List Piece)

@@ -43,9 +43,9 @@ pub not_yet-free : number_for default_table 1700086379 (first_long ∷ []) (long
 unfolding free_number default_table
 not_yet-free = refl
 
-pub freed : number_for default_table 1700086380 (first_long ∷ []) (long 1699999980) ≡ Some 0
+pub number-freed : number_for default_table 1700086380 (first_long ∷ []) (long 1699999980) ≡ Some 0
 unfolding free_number default_table
-freed = refl
+number-freed = refl
 
 -- what is sent whole has no number
 pub whole-number : (item_of default_table no_station 1700000000 []

@@ -4,6 +4,7 @@ use Rattle.std.specs.List.{range_with_len}
 use Rattle.std.proofs.lemmas.Bool.{true≢false}
 use Rattle.std.proofs.lemmas.List.{map-append, append_assoc}
 use Rattle.std.proofs.lemmas.List.Elements.{filter-append}
+use Rattle.std.proofs.lemmas.Simd.{map-map}
 use Rattle.list_members.specs.Ranges.{map_same, list_any_same}
 use Rattle.list_members.specs.Tests.{zero_more}
 use Rattle.fisb_time.specs.declared.form.TimeForm.{TimeForm}
@@ -13,7 +14,7 @@ use Rattle.segment_core.specs.File.{parts_of}
 use Rattle.segment_core.specs.File as of_file
 use Rattle.picture_core.specs.Key.{Key, same_key}
 use Rattle.picture_core.specs.Entry.{Entry}
-use Rattle.ground_core.specs.Item.{Weather, Item, Segment, segments_of, segment_of, is_segmented, file_of}
+use Rattle.ground_core.specs.Item.{Weather, Item, segments_of, segment_of, is_segmented, file_of}
 use Rattle.ground_core.specs.History.{item_of, items_made, number_for}
 use Rattle.ground_core.specs.Airing.{has_key}
 use Rattle.ground_core.specs.Sound.{IsGiven, AreGiven}
@@ -40,10 +41,6 @@ number_shown : (segmented : Bool) (number : Option ℕ) (count : ℕ) → (segme
     → (if segmented then count else 0) ≡ unwrap_or (if segmented then number else None) 0
 number_shown true number count f = sym (ap (λ o. unwrap_or o 0) (f refl))
 number_shown false number count f = refl
-
-map_map : (f : ℕ → Segment) (xs : List ℕ) → map piece_of (map f xs) ≡ map (λ n. piece_of (f n)) xs
-map_map f [] = refl
-map_map f (x ∷ xs) = ap (λ l. piece_of (f x) ∷ l) (map_map f xs)
 
 -- an item that is sent is this one of the history
 pub record IsSent (spec : Item) (item : SentItem) : Type 0 where
@@ -94,7 +91,7 @@ is_sent table station moment before w serial count item g h s e i =
           ∙ ap (λ n. is_segmented w && (w.version == v) && (n == p)) i.product;
       pieces = map_same (piece_at item) (λ n. piece_of (segment_of spec n)) (range_with_len 1 item.count) (λ n there. one n)
           ∙ ap (λ n. map (λ m. piece_of (segment_of spec m)) (range_with_len 1 n)) size
-          ∙ sym (map_map (segment_of spec) (range_with_len 1 (length (parts_of (file_of spec)))));
+          ∙ sym (map-map piece_of (segment_of spec) (range_with_len 1 (length (parts_of (file_of spec)))));
     }
 
 one_more : (b : Bool) (xs : List Item) (item : Item) → length (xs ++ cond b (item ∷ []) []) ≡ length xs + (if b then 1 else 0)

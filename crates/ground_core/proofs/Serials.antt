@@ -20,7 +20,7 @@ use Rattle.ground_core.specs.Update.{Update, weather_of}
 use Rattle.ground_core.specs.Airing.{Touch, touch, log, airing, waiting_segments, longest_fitting, has_key, is_newest_for, is_live}
 use Rattle.ground_core.specs.Piece.{Latest, piece_of, lives_as, live_by}
 use Rattle.ground_core.specs.StandsFor.{latest_after, latest_of, latest_of_item}
-use Rattle.ground_core.proofs.KeyLemmas.{KeyLaws, same_key_itself}
+use Rattle.ground_core.proofs.KeyLemmas.{KeyLaws}
 use Rattle.ground_core.proofs.ListLemmas.{Each, Each-append, Each-weaker, Each-filter, Each-in, list_any-map}
 use Rattle.ground_core.proofs.Segments.{is_segment_of}
 use Rattle.ground_core.proofs.Order.{last_places, segments_in, stands_in, waiting_is}
@@ -117,18 +117,18 @@ pub Each-waiting : (P : Segment → Type 0) (all : List Item) (touched : List To
 Each-waiting P all touched moment h = subst (Each P) (sym (waiting_is all touched moment))
     (Each-filter P (λ s. is_live all moment s.item) _ (Each-last_places P (segments_in touched) h))
 
-pub logged : (table : LifeTable) (station : StationId) (history : List Event)
+pub segments-logged : (table : LifeTable) (station : StationId) (history : List Event)
     → Each (IsLogged (items table station history)) (segments_in (log table station history))
-logged table station [] = tt
-logged table station (accepted moment update ∷ past) =
+segments-logged table station [] = tt
+segments-logged table station (accepted moment update ∷ past) =
     let all : List Item = items table station past in
     let new : List Item = new_items table station all (accepted moment update) in
     subst (Each (IsLogged (all ++ new))) (sym (log_given table station past moment update))
     (Each-append _ (segments_in (log table station past)) (flat_map segments_of new)
-    (Each-weaker _ _ (logged_more all new) _ (logged table station past)) (logged_new all new))
-logged table station (fill moment slot ∷ past) =
+    (Each-weaker _ _ (logged_more all new) _ (segments-logged table station past)) (logged_new all new))
+segments-logged table station (fill moment slot ∷ past) =
     let all : List Item = items table station past in
-    let before = logged table station past in
+    let before = segments-logged table station past in
     subst (Each (IsLogged (all ++ []))) (sym (log_filled table station past moment slot))
     (Each-weaker _ _ (logged_more all []) _
     (Each-append _ (segments_in (log table station past)) _ before
@@ -233,7 +233,7 @@ live_same keys all moment s h i =
     (λ entry j.
     lives_split moment s.item.serial until (latest_of all entry.key) (ends_as s.item.serial until entry.key all None ends tt)
     ∙ ap (λ b. nat_lt moment until && b)
-    (latest_is 0 entry.key all None s.item h i (in_any (λ e. same_key entry.key e.key) entry s.item.weather.entries j (same_key_itself keys entry.key))))
+    (latest_is 0 entry.key all None s.item h i (in_any (λ e. same_key entry.key e.key) entry s.item.weather.entries j ((keys.same entry.key entry.key).1 refl))))
     ∙ any_and (nat_lt moment until) (λ entry. is_newest_for all s.item entry.key) s.item.weather.entries
 
 pub latest_push : (key : Key) (xs : List Item) (item : Item) (before : Option Latest)

@@ -4,6 +4,7 @@ use Rattle.std.proofs.lemmas.Bool.{cases_Bool, leb-true, leb-false, le-leb, lt-l
 use Rattle.std.proofs.lemmas.List.Elements.{filter-append}
 use Rattle.list_members.specs.Membership.{IsIn}
 use Rattle.list_members.specs.Members.{IsIn-before, IsIn-after, IsIn-from_filter}
+use Rattle.list_members.specs.ListMembers.{heads}
 use Rattle.life_table.specs.LifeTable.{LifeTable}
 use Rattle.uplink_frame.specs.declared.station.StationId.{StationId}
 use Rattle.uplink_frame.specs.Laws.{StationsAreTold}
@@ -18,7 +19,7 @@ use Rattle.ground_core.specs.Starving.{bytes_of, waiting_after, fills, WaitsStil
 use Rattle.ground_core.proofs.KeyLemmas.{KeyLaws}
 use Rattle.ground_core.proofs.ListLemmas.{Each, Each-weaker, Each-all, Each-at, filter_less}
 use Rattle.ground_core.proofs.Order.{last_places, segments_in, waiting_is}
-use Rattle.ground_core.proofs.Serials.{Numbered, numbered_items, serial_in, IsLogged, logged, logged_more, Each-waiting, live_same}
+use Rattle.ground_core.proofs.Serials.{Numbered, numbered_items, serial_in, IsLogged, segments-logged, logged_more, Each-waiting, live_same}
 use Rattle.ground_core.proofs.Segments.{is_segment_of}
 use Rattle.ground_core.proofs.Queue.{segments_left, fitting_left, waiting_filled, older_lives_all, logged_places, made_items, numbered_new, order_given}
 
@@ -83,9 +84,6 @@ record IsFront (front rest before : List Segment) (s : Segment) (after : List Se
   between : List Segment
   before_is : before ≡ front ++ between
   rest_is : rest ≡ between ++ s ∷ after
-
-heads : (x y : Segment) (xs ys : List Segment) → x ∷ xs ≡ y ∷ ys → (x ≡ y) × (xs ≡ ys)
-heads x y xs ys e = (cc, cc)
 
 front_before : (front rest before : List Segment) (s : Segment) (after : List Segment) → before ++ s ∷ after ≡ front ++ rest → (IsIn s front → ⊥) → IsFront front rest before s after
 front_before [] rest before s after e absent = record { between = before; before_is = refl; rest_is = sym e }
@@ -178,7 +176,7 @@ fits_frame fit all s h =
 
 rooms_fit : PartsFitFrames → (table : LifeTable) (station : StationId) (history : List Event) (moment : ℕ) → Each (λ x. room_of x ≤ 424) (waiting_after table station history moment)
 rooms_fit fit table station history moment = Each-waiting (λ x. room_of x ≤ 424) (items table station history) (log table station history) moment
-    (Each-weaker _ _ (λ s h. fits_frame fit (items table station history) s h) (segments_in (log table station history)) (logged table station history))
+    (Each-weaker _ _ (λ s h. fits_frame fit (items table station history) s h) (segments_in (log table station history)) (segments-logged table station history))
 
 live_earlier : (all : List Item) (clock moment : ℕ) (item : Item) → clock ≤ moment → is_live all moment item ≡ true → is_live all clock item ≡ true
 live_earlier all clock moment item le h =
@@ -240,30 +238,30 @@ logged_later : (table : LifeTable) (station : StationId) (past later : List Even
 logged_later table station past [] s h = h
 logged_later table station past (event ∷ later) s h = logged_more (items table station (later ++ past)) _ s (logged_later table station past later s h)
 
-placed : StationsAreTold → KeyLaws → PartsFitFrames → (table : LifeTable) (station : StationId) (past later : List Event) (at : ℕ) (s : Segment) (before after : List Segment)
+segment-placed : StationsAreTold → KeyLaws → PartsFitFrames → (table : LifeTable) (station : StationId) (past later : List Event) (at : ℕ) (s : Segment) (before after : List Segment)
     → IsHistory table station (later ++ past) → AreFrom at later → IsLogged (items table station past) s
     → waiting_after table station past at ≡ before ++ s ∷ after → WaitsStill table station past s later
     → (moment : ℕ) → IsLater at moment later → is_live (items table station (later ++ past)) moment s.item ≡ true
     → IsPlaced (fills later) (bytes_of before) s (waiting_after table station (later ++ past) moment)
-placed told keys fit table station past [] at s before after h f l e w moment le t =
+segment-placed told keys fit table station past [] at s before after h f l e w moment le t =
     subst (IsPlaced 0 (bytes_of before) s) (sym (waiting_later table station past at moment le))
     (placed-filter 0 (bytes_of before) s _ (waiting_after table station past at) t (record { before = before; after = after; line_is = e; near = inl (omega arith) }))
-placed told keys fit table station past (accepted given update ∷ later) at s before after h f l e w moment le t =
+segment-placed told keys fit table station past (accepted given update ∷ later) at s before after h f l e w moment le t =
     let history : List Event = later ++ past in
     let all : List Item = items table station history in
     let lived : is_live all moment s.item ≡ true
     = live_before keys all (made_items table station given history update) moment s (numbered_items table station history)
     (numbered_new table station given history update) (numbered_items table station (accepted given update ∷ history)) (logged_later table station past later s l) t in
     let g = waiting_given keys table station history given moment update in
-    let old = placed told keys fit table station past later at s before after h.1 f.1 l e w moment (later_more at given moment past later (accepted given update) le h.0.not_before f.0) lived in
+    let old = segment-placed told keys fit table station past later at s before after h.1 f.1 l e w moment (later_more at given moment past later (accepted given update) le h.0.not_before f.0) lived in
     subst (IsPlaced (fills later) (bytes_of before) s) (sym g.1) (placed-more (fills later) (bytes_of before) s _ g.0 (placed-filter (fills later) (bytes_of before) s _ _ t old))
-placed told keys fit table station past (fill now slot ∷ later) at s before after h f l e w moment le t =
+segment-placed told keys fit table station past (fill now slot ∷ later) at s before after h f l e w moment le t =
     let history : List Event = later ++ past in
     let all : List Item = items table station history in
     let line : List Segment = waiting_after table station history now in
     let lived : is_live all now s.item ≡ true
     = (IsIn-from_filter (λ x. is_live all now x.item) s _ (subst (IsIn s) (waiting_is all (log table station history) now) w.0)).1 in
-    let old = placed told keys fit table station past later at s before after h.1 f.1 l e w.2 now (later_now at past later (fill now slot) h.0.not_before f.0) lived in
+    let old = segment-placed told keys fit table station past later at s before after h.1 f.1 l e w.2 now (later_now at past later (fill now slot) h.0.not_before f.0) lived in
     let new = placed-filled (fills later) (bytes_of before) s line (rooms_fit fit table station history now) w.1 old in
     subst (IsPlaced (fills later + 1) (bytes_of before) s) (sym (waiting_later table station (fill now slot ∷ history) now moment le))
     (placed-filter (fills later + 1) (bytes_of before) s _ _ t
@@ -283,12 +281,12 @@ run told keys fit table station past (fill now slot ∷ later) at s before after
     let all : List Item = items table station history in
     let lived : is_live all now s.item ≡ true
     = (IsIn-from_filter (λ x. is_live all now x.item) s _ (subst (IsIn s) (waiting_is all (log table station history) now) w.0)).1 in
-    let old = placed told keys fit table station past later at s before after h.1 f.1 l e w.2 now (later_now at past later (fill now slot) h.0.not_before f.0) lived in
+    let old = segment-placed told keys fit table station past later at s before after h.1 f.1 l e w.2 now (later_now at past later (fill now slot) h.0.not_before f.0) lived in
     let new = placed-filled (fills later) (bytes_of before) s (waiting_after table station history now) (rooms_fit fit table station history now) w.1 old in
     few_left (fills later) (bytes_of before) (few_fills (fills later) (bytes_of before) s _ new)
 
 pub no_starvation : StationsAreTold → KeyLaws → PartsFitFrames → NoStarvation
 no_starvation told keys fit table station past later at s before after h f e w =
     let here : IsIn s (waiting_after table station past at) = subst (IsIn s) (sym e) (IsIn-after s before (s ∷ after) (inl refl)) in
-    let l = Each-at _ (waiting_after table station past at) s (Each-waiting _ (items table station past) (log table station past) at (logged table station past)) here in
+    let l = Each-at _ (waiting_after table station past at) s (Each-waiting _ (items table station past) (log table station past) at (segments-logged table station past)) here in
     run told keys fit table station past later at s before after h f l e w

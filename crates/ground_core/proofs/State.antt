@@ -29,11 +29,11 @@ use Rattle.ground_core.proofs.Kept.{kept_later, kept_then, live_kept}
 use Rattle.ground_core.proofs.ListLemmas.{Each-in, Each-at}
 use Rattle.ground_core.proofs.KeyLemmas.{KeyLaws}
 use Rattle.ground_core.proofs.Order.{segments_in}
-use Rattle.ground_core.proofs.Serials.{logged, log_given, log_filled, numbered_items, serial_in, latest_after-append}
-use Rattle.ground_core.proofs.Numbers.{filed_items, counted}
+use Rattle.ground_core.proofs.Serials.{segments-logged, log_given, log_filled, numbered_items, serial_in, latest_after-append}
+use Rattle.ground_core.proofs.Numbers.{filed_items, items-counted}
 use Rattle.ground_core.proofs.Versions.{GroundLaws, one_life, given_version_is, refusal_alike}
 use Rattle.ground_core.proofs.Placed.{placed_put}
-use Rattle.ground_core.proofs.Queue.{IsFilled, filled, given_line, made_items}
+use Rattle.ground_core.proofs.Queue.{IsFilled, line-filled, given_line, made_items}
 use Rattle.ground_core.proofs.SentItems.{AreSent, are_sent, latest_same, after_kept, count_same, pieces_same, length_same}
 
 pub not_early : (last moment : ℕ) → last_above (Some last) moment ≡ None → last ≤ moment
@@ -123,7 +123,7 @@ pub filled_of : StationsAreTold → KeyLaws → (table : LifeTable) (station : S
     ++ fitting_pieces 424 (filter (live_by (latest_at old.newest) moment) (pieces_in old.line))
     → IsFilled table station history moment slot (pieces_in old.line) new
 filled_of told keys table station history moment slot old new s e n =
-    filled told keys table station history (history_moment history) moment slot (pieces_in old.line) new (clock_below history moment e)
+    line-filled told keys table station history (history_moment history) moment slot (pieces_in old.line) new (clock_below history moment e)
     (line_of table station history old s)
     (subst (λ f. filter f new ≡ left_pieces 424 (filter f (pieces_in old.line)) ++ fitting_pieces 424 (filter f (pieces_in old.line)))
     (lives_same table station history moment old s (clock_below history moment e)) n)
@@ -176,7 +176,7 @@ pub items_are_sent : (table : LifeTable) → GroundLaws table → (station : Sta
 items_are_sent table laws station history moment update old items_put s le accept are =
     are_sent table station moment (items table station history) (weather_of table update) items_put old.given (count_at old.files)
     (laws.given table station (items table station history) moment update laws.is_table accept)
-    (counted laws.given table station laws.is_table history s.is_history) s.given_is
+    (items-counted laws.given table station laws.is_table history s.is_history) s.given_is
     (λ v p lt. counts_now table station history moment v p old s le lt) are
 
 pub give_stands : (table : LifeTable) → GroundLaws table → (station : StationId) (history : List Event) (moment : ℕ) (update : Update) (old new : Ground) (items_put : List SentItem)
@@ -228,7 +228,7 @@ give_stands table laws station history moment update old new items_put s e m acc
           ∙ given_line keys table station history moment update (history_moment history) (pieces_in old.line) (pieces_in new.line) le
           (Each-in _ (pieces_in old.line) (λ q k.
           let o = s.of_log q k in
-          let l = Each-at _ _ o.segment (logged table station history) o.given in
+          let l = Each-at _ _ o.segment (segments-logged table station history) o.given in
           let b = serial_in 0 all o.segment.item (numbered_items table station history) l.item in
           let z : q.serial ≡ o.segment.item.serial = ap (λ (x : Piece). x.serial) o.piece_is in
           omega (arith, b.1, z)))
@@ -247,5 +247,5 @@ refusal_same table laws station history moment update sender law s le =
       files = λ v p lt. counts_now table station history moment v p sender s le lt;
       one_life = one_life table laws station history s.is_history;
       versions = given_version_is table laws station history s.is_history;
-      counted = counted laws.given table station laws.is_table history s.is_history;
+      counted = items-counted laws.given table station laws.is_table history s.is_history;
     })

@@ -7,6 +7,7 @@ use Rattle.std.proofs.lemmas.List.FromFn.{map-range_with_len_more}
 use Rattle.std.proofs.lemmas.List.Elements.{filter-append}
 use Rattle.list_members.specs.Membership.{IsIn}
 use Rattle.list_members.specs.Members.{IsIn-before, IsIn-after, IsIn-either, IsIn-from_filter}
+use Rattle.list_members.specs.ListMembers.{heads}
 use Rattle.uplink_frame.specs.UplinkFrame.{InformationFrame, fisb_frame, spelled_frames}
 use Rattle.ground_core.specs.Piece.{Piece, room_of_piece, body_of_piece, fitting_pieces, left_pieces}
 use Rattle.ground_core.specs.Turn.{HasFront, IsDropped, IsFrontAired, IsTooLong, IsStopped, fits_in}
@@ -22,9 +23,9 @@ front_of (y ∷ ys) x lt e = ap (λ z. z ∷ ys) (sym e)
 abbrev pub has_front : (xs : List Place) (x : Place) → 0 < length xs → x ≡ get_or xs 0 x → HasFront (map place_view xs)
 has_front xs x lt e = record { front = place_view x; behind = map place_view (drop 1 xs); line_is = ap (map place_view) (front_of xs x lt e) }
 
-pub rotated : (xs : List Place) (x : Place) → 0 < length xs → x ≡ get_or xs 0 x
+pub places-rotated : (xs : List Place) (x : Place) → 0 < length xs → x ≡ get_or xs 0 x
     → map place_view (drop 1 xs ++ take 1 xs) ≡ map place_view (drop 1 xs) ++ place_view x ∷ []
-rotated xs x lt e =
+places-rotated xs x lt e =
     map-append place_view (drop 1 xs) (take 1 xs)
     ∙ ap (λ l. map place_view (drop 1 xs) ++ map place_view (take 1 l)) (front_of xs x lt e)
 
@@ -84,9 +85,6 @@ turned_begins live start frames e = record {
 
 one_more : (seen : List Piece) (x : Piece) (more : List Piece) → seen ++ x ∷ more ≡ (seen ++ x ∷ []) ++ more
 one_more seen x more = sym (append_assoc seen (x ∷ []) more)
-
-heads : (x y : Piece) (xs ys : List Piece) → x ∷ xs ≡ y ∷ ys → (x ≡ y) × (xs ≡ ys)
-heads x y xs ys e = (cc, cc)
 
 no_front : (now behind seen : List Piece) (front : Piece) → now ≡ front ∷ behind → now ≡ seen → seen ≡ [] → ⊥
 no_front now behind seen front e f g = cc
@@ -196,10 +194,10 @@ all_left room (x ∷ xs) h = elim (cases_Bool (nat_le (room_of_piece x) room)) [
   | inr f ↦ rw f refl
 ]
 
-pub done : (live : Piece → Bool) (start : List Piece) (turns : ℕ) (frames : List InformationFrame) (now : List Piece) (aired : ℕ)
+pub turns-done : (live : Piece → Bool) (start : List Piece) (turns : ℕ) (frames : List InformationFrame) (now : List Piece) (aired : ℕ)
     (h : IsTurned live start turns frames now aired) → fitting_pieces (424 - used_by frames) (filter live h.ahead) ≡ []
     → IsDone live start frames now aired
-done live start turns frames now aired h none =
+turns-done live start turns frames now aired h none =
     let fitting : fitting_pieces 424 (filter live start) ≡ filter live h.seen = h.fits ∙ ap (λ l. filter live h.seen ++ l) none ∙ append-nil (filter live h.seen) in
     let left : left_pieces 424 (filter live start) ≡ filter live h.ahead = h.rest ∙ all_left (424 - used_by frames) (filter live h.ahead) none in
     record {
@@ -233,7 +231,7 @@ pub turned_stops : (live : Piece → Bool) (start : List Piece) (turns : ℕ) (f
     → IsTurned live start turns frames now aired → IsStopped live now frames new sent → IsDone live start sent new aired
 turned_stops live start turns frames sent now new aired h s =
     subst (λ f. IsDone live start f new aired) (sym s.frames_stay) (subst (λ l. IsDone live start frames l aired) (sym s.line)
-    (done live start turns frames now aired h (elim s.cause [
+    (turns-done live start turns frames now aired h (elim s.cause [
       | inl e ↦ ap (λ l. fitting_pieces (424 - used_by frames) (filter live l)) (nil_front h.ahead (filter live h.seen) (sym h.line ∙ e))
       | inr t ↦ stop_step live frames now h.seen h.ahead h.line t
     ])))
@@ -243,7 +241,7 @@ pub turned_ends : (live : Piece → Bool) (start : List Piece) (turns : ℕ) (fr
 turned_ends live start turns frames now aired h le =
     let size : length start ≡ length h.seen + length h.ahead = ap length h.start_is ∙ length-append h.seen h.ahead in
     let none : length h.ahead ≡ 0 = omega (arith, h.turns_are) in
-    done live start turns frames now aired h (ap (λ l. fitting_pieces (424 - used_by frames) (filter live l)) (nil_from_length h.ahead none))
+    turns-done live start turns frames now aired h (ap (λ l. fitting_pieces (424 - used_by frames) (filter live l)) (nil_from_length h.ahead none))
 
 pub turns_left : (places : List Place) (turns : ℕ) → length places ≤ turns → length (map place_view places) ≤ turns
 turns_left places turns h = subst (λ n. n ≤ turns) (sym (length-map places place_view)) h

@@ -15,9 +15,10 @@ use Rattle.receiver_core.specs.Bound.{IsBounded, IsFewFor, IsPurgedAt, number_al
 use Rattle.receiver_core.specs.Reception.{Reception, arrivals, contents}
 use Rattle.receiver_core.specs.StandsFor.{Held, StandsFor, moment_now, longest_lives}
 use Rattle.receiver_core.proofs.Completing.{completed_weight}
+use Rattle.receiver_core.proofs.FewBlocks.{lives_now}
 use Rattle.receiver_core.proofs.FewEntries.{live_contents}
 use Rattle.receiver_core.proofs.FrameArrivals.{ReadsFrames}
-use Rattle.receiver_core.proofs.ReceptionSums.{are_numbered, bytes_sum, lives_now, room_sum, segments_sum}
+use Rattle.receiver_core.proofs.ReceptionSums.{are_numbered, bytes_sum, room_sum, segments_sum}
 use Rattle.receiver_core.proofs.Segmented.{is_segment, length_of_both, stands_for_segments}
 use Rattle.receiver_core.proofs.Weights.{sum_of_filter}
 
@@ -76,13 +77,13 @@ module _ (laws : HasLaws) (table : LifeTable) (heard : List Reception) (held : H
       let bound = laws.entries moment (contents table heard) held.picture.entries shows in
       let kept = ap length purged.entries in
       let whole = live_contents laws.texts laws.radars table rules moment (whole_payloads (arrivals table heard)) in
-      let once = completed_weight laws.told (lives_now laws.frames table moment) (arrivals table heard)
+      let once = completed_weight laws.told (lives_now table moment) (arrivals table heard)
       (are_numbered laws.frames table heard) in
       let most = room_sum laws.frames table moment heard stands.receptions in
       omega (arith, bound, kept, whole, once, most)
 
-  pub bounded : IsBounded table heard held
-  bounded = subst (λ now. IsFewFor held (number_alive table now heard)) (sym last_is) record {
+  pub receiver-bounded : IsBounded table heard held
+  receiver-bounded = subst (λ now. IsFewFor held (number_alive table now heard)) (sym last_is) record {
     bytes = few_bytes;
     numbers = few_numbers;
     entries = few_entries;

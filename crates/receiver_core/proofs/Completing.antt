@@ -5,14 +5,14 @@ use Rattle.std.specs.List.{list_all, sum_by, range_with_len}
 use Rattle.std.proofs.lemmas.Bool.{cases_Bool, and_parts, and_from, or_left, or_right, eqb-true, eq-eqb, false_from_ne_true, cond-true, cond-false}
 use Rattle.std.proofs.lemmas.List.{append_assoc, append-nil}
 use Rattle.std.proofs.lemmas.List.Folds.{list_any-append}
-use Rattle.std.proofs.lemmas.List.Sums.{sum_by-append, sum_by_push}
+use Rattle.std.proofs.lemmas.List.Sums.{sum_by-append, sum_by-le-sum_by, sum_by_push}
 use Rattle.list_members.specs.Ranges.{all_in, list_all_same, list_any_same, range_has}
 use Rattle.apdu_core.specs.declared.unit.Seg.{Seg}
 use Rattle.uplink_frame.specs.Laws.{StationsAreTold}
 use Rattle.uplink_frame.specs.Station.{same_station}
 use Rattle.segment_core.specs.Arrival.{Arrival, Whole, whole_payloads, completed_after, completes, has_piece, is_piece, joined_payload, other_numbers, same_file, whole_with}
 use Rattle.receiver_core.proofs.JoinedSizes.{is_of_file, joined_size}
-use Rattle.receiver_core.proofs.Weights.{all_but, all_more, cond_below, sum_above, sum_of_two}
+use Rattle.receiver_core.proofs.Weights.{all_but, all_more, cond_below, sum_of_two}
 
 -- the fields by which two arrivals are of one file
 record IsOneFile (a : Arrival) (s : Seg) (b : Arrival) (t : Seg) : Type 0 where
@@ -148,7 +148,7 @@ module _ (told : StationsAreTold) (live : ℕ → ℕ → Bool) where
   sum_with came a = sum_by_push (done_weight (came ++ a ∷ [])) came a
 
   kept_sum : (came : List Arrival) (a : Arrival) → done_sum came ≤ sum_by (done_weight (came ++ a ∷ [])) came
-  kept_sum came a = sum_above (done_weight came) (done_weight (came ++ a ∷ [])) came (kept_weight came a)
+  kept_sum came a = sum_by-le-sum_by (done_weight came) (done_weight (came ++ a ∷ [])) came (kept_weight came a)
 
   -- the arrivals of the file were not done before, and are now
   of_file : (came : List Arrival) (a : Arrival) (s : Seg) → IsLast came a s → (b : Arrival) (o : Option Seg) (size : ℕ)
@@ -194,7 +194,7 @@ module _ (told : StationsAreTold) (live : ℕ → ℕ → Bool) where
         let all = came ++ a ∷ [] in
         let size_in : Arrival → ℕ = λ b. cond (is_of_file a s b b.segmentation) (length b.payload) 0 in
         let size = joined_size a s all in
-        let weighs = sum_above size_in (file_weight a s) came (λ b. live_file a s alive b b.segmentation) in
+        let weighs = sum_by-le-sum_by size_in (file_weight a s) came (λ b. live_file a s alive b b.segmentation) in
         let of : is_of_file a s a a.segmentation ≡ true = ap (is_of_file a s a) is ∙ own_file told a s in
         let own_size = cond-true (is_of_file a s a a.segmentation) (length a.payload) 0 of in
         let own_weight = cond-true (is_of_file a s a a.segmentation) (weight a) 0 of in
@@ -243,6 +243,6 @@ module _ (told : StationsAreTold) (live : ℕ → ℕ → Bool) where
   pub completed_weight : (came : List Arrival) → AreNumbered came → sum_by whole_weight (whole_payloads came) ≤ sum_by weight came
   completed_weight came numbered =
       let done = completed_more [] came numbered in
-      let least = sum_above (done_weight came) weight came (λ b. cond_below (is_done came b b.segmentation) true (weight b)
+      let least = sum_by-le-sum_by (done_weight came) weight came (λ b. cond_below (is_done came b b.segmentation) true (weight b)
       (λ h. refl)) in
       omega (arith, done, least)

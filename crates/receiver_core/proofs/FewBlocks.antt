@@ -138,13 +138,14 @@ few_lives true true count most each few = few
 few_lives true false count most each few = let same : false ≡ true = each refl in absurd (cc)
 few_lives false lives count most each few = omega arith
 
-module _ (radars : RadarsAreWithin) (table : LifeTable) (rules : IsTable table) (moment : ℕ) where
-  abbrev lives_now : ℕ → ℕ → Bool
-  lives_now product version = is_in_life (longest_lives table) moment product version
+-- that a version of a product lives at a moment
+abbrev pub lives_now : LifeTable → ℕ → ℕ → ℕ → Bool
+lives_now table moment product version = is_in_life (longest_lives table) moment product version
 
+module _ (radars : RadarsAreWithin) (table : LifeTable) (rules : IsTable table) (moment : ℕ) where
   -- a block that lives is of a product and version that lives
   row_lives : (product version : ℕ) (row : RadarRow) → radar_row table product ≡ Some row
-      → nat_lt moment (version + row.life) ≡ true → lives_now product version ≡ true
+      → nat_lt moment (version + row.life) ≡ true → lives_now table moment product version ≡ true
   row_lives product version row is own =
       let most = radars table product row rules is in
       let below = ltb-true moment (version + row.life) own in
@@ -164,23 +165,23 @@ module _ (radars : RadarsAreWithin) (table : LifeTable) (rules : IsTable table) 
 
   live_row : (product version size : ℕ) (blocks : List Block) (row : Option RadarRow) → radar_row table product ≡ row
       → length blocks ≤ 5 * (6 + size)
-      → length (live_entries moment (block_entries version row blocks)) ≤ 5 * cond (lives_now product version) (6 + size) 0
+      → length (live_entries moment (block_entries version row blocks)) ≤ 5 * cond (lives_now table moment product version) (6 + size) 0
   live_row product version size blocks None is few = omega arith
   live_row product version size blocks (Some row) is few =
       let own = nat_lt moment (version + row.life) in
       let some = few_mapped (λ (entry : Entry). nat_lt moment entry.until) (block_entry version row.life) own blocks (λ block. refl) in
-      let most = few_lives own (lives_now product version) (length blocks) (6 + size) (row_lives product version row is) few in
+      let most = few_lives own (lives_now table moment product version) (length blocks) (6 + size) (row_lives product version row is) few in
       omega (arith, some, most)
 
   live_blocks : (product version size : ℕ) (blocks : Result (List Block) RadarFault) → AreFewFor size blocks
       → length (live_entries moment (entries_by_blocks version (radar_row table product) blocks))
-      ≤ 5 * cond (lives_now product version) (6 + size) 0
+      ≤ 5 * cond (lives_now table moment product version) (6 + size) 0
   live_blocks product version size (Err fault) few = omega arith
   live_blocks product version size (Ok blocks) few =
       live_row product version size blocks (radar_row table product) refl few
 
   pub live_radar : (product version : ℕ) (payload : List ℕ)
       → length (live_entries moment (radar_entries table product version payload))
-      ≤ 5 * cond (lives_now product version) (6 + length payload) 0
+      ≤ 5 * cond (lives_now table moment product version) (6 + length payload) 0
   live_radar product version payload =
       live_blocks product version (length payload) (radar_blocks product payload) (few_blocks product payload)

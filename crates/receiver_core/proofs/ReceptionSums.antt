@@ -9,13 +9,14 @@ use Rattle.std.proofs.lemmas.List.Sums.{sum_by-append, sum_by-cons}
 use Rattle.life_table.specs.LifeTable.{LifeTable, greatest_life}
 use Rattle.uplink_frame.specs.UplinkFrame.{InformationFrame, information_frames}
 use Rattle.segment_core.specs.Arrival.{Arrival}
-use Rattle.segment_core.specs.Store.{is_in_life, longest_of}
+use Rattle.segment_core.specs.Store.{longest_of}
 use Rattle.segment_core.specs.declared.arrived.Longest.{Longest}
 use Rattle.receiver_core.specs.Bound.{may_live, number_alive}
 use Rattle.receiver_core.specs.Hearing.{AreReceptions}
 use Rattle.receiver_core.specs.Reception.{Reception, arrival_in, arrivals, arrivals_in, station_heard}
 use Rattle.receiver_core.specs.StandsFor.{longest_lives}
 use Rattle.receiver_core.proofs.Completing.{AreNumbered, IsNumbered}
+use Rattle.receiver_core.proofs.FewBlocks.{lives_now}
 use Rattle.receiver_core.proofs.FrameArrivals.{ReadsFrames, arrives_of_frame}
 use Rattle.receiver_core.proofs.FrameSizes.{frame_size, frames_size}
 use Rattle.receiver_core.proofs.Weights.{sum_none}
@@ -60,12 +61,9 @@ longest_by lives false true = omega arith
 longest_by lives false false = omega arith
 
 module _ (laws : ReadsFrames) (table : LifeTable) (moment : ℕ) where
-  abbrev pub lives_now : ℕ → ℕ → Bool
-  lives_now product version = is_in_life (longest_lives table) moment product version
-
   -- a version that lives was named by a reception of which something may live
   pub lives_by : (heard : Reception) (product version : ℕ) → version ≤ heard.moment + 60
-      → lives_now product version ≡ true → may_live table moment heard ≡ true
+      → lives_now table moment product version ≡ true → may_live table moment heard ≡ true
   lives_by heard product version near lives =
       let below = ltb-true moment (version + longest_of (longest_lives table) product) lives in
       let most = longest_by (longest_lives table) (product == 63) (product == 64) in
@@ -75,17 +73,17 @@ module _ (laws : ReadsFrames) (table : LifeTable) (moment : ℕ) where
   pub reception_sum : (heard : Reception) (k : ℕ) (w : Arrival → ℕ) → length heard.payload ≡ 432
       → ((frame : InformationFrame) (a : Arrival) → 4 + length a.payload ≤ length frame.body
       → (is_some a.segmentation ≡ true → 7 ≤ length frame.body) → k * w a ≤ frame_size frame)
-      → k * sum_by (λ a. cond (lives_now a.product a.version) (w a) 0) (arrivals_in table heard)
+      → k * sum_by (λ a. cond (lives_now table moment a.product a.version) (w a) 0) (arrivals_in table heard)
       ≤ cond (may_live table moment heard) 424 0
   reception_sum heard k w size each =
       let frames = information_frames heard.payload in
       let may = may_live table moment heard in
       let sum = sum_made (λ frame. result_ok (arrival_in table (station_heard heard) heard.moment frame)) k
-      (λ a. cond (lives_now a.product a.version) (w a) 0) (λ frame. cond may (frame_size frame) 0) frames
+      (λ a. cond (lives_now table moment a.product a.version) (w a) 0) (λ frame. cond may (frame_size frame) 0) frames
       (λ frame a is.
       let of = arrives_of_frame laws (station_heard heard) heard.moment frame a table
       (ok_from (arrival_in table (station_heard heard) heard.moment frame) a is) in
-      gate k (lives_now a.product a.version) may (w a) (frame_size frame)
+      gate k (lives_now table moment a.product a.version) may (w a) (frame_size frame)
       (lives_by heard a.product a.version of.near) (each frame a of.payload_fits of.header_fits)) in
       let room = gate 1 may may (sum_by frame_size frames) 424 (λ h. h) (let few = frames_size heard.payload size in omega arith) in
       omega (arith, sum, room, sum_gated may frames)
@@ -117,13 +115,13 @@ module _ (laws : ReadsFrames) (table : LifeTable) (moment : ℕ) where
 
   -- bytes, the same with the six at least before a payload, and arrivals with segment fields
   abbrev pub byte_weight : Arrival → ℕ
-  byte_weight a = cond (lives_now a.product a.version) (length a.payload) 0
+  byte_weight a = cond (lives_now table moment a.product a.version) (length a.payload) 0
 
   abbrev pub room_weight : Arrival → ℕ
-  room_weight a = cond (lives_now a.product a.version) (6 + length a.payload) 0
+  room_weight a = cond (lives_now table moment a.product a.version) (6 + length a.payload) 0
 
   abbrev pub segment_weight : Arrival → ℕ
-  segment_weight a = cond (lives_now a.product a.version) (cond (is_some a.segmentation) 1 0) 0
+  segment_weight a = cond (lives_now table moment a.product a.version) (cond (is_some a.segmentation) 1 0) 0
 
   front_of_segment : (segmented : Bool) (size : ℕ) → (segmented ≡ true → 7 ≤ size) → 9 * cond segmented 1 0 ≤ 2 + size
   front_of_segment true size long = let least = long refl in omega arith

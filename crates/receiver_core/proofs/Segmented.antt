@@ -2,7 +2,7 @@
 use Rattle.std.proofs.Common.{◌≡◌, ℕ, ◌≤◌, Bool, true, false, cond, List, [], ◌∷◌, length, filter, Option, Some, None, is_some, refl, sym, ap, ◌∙◌, arith}
 use Rattle.std.specs.List.{range_with_len, sum_by}
 use Rattle.std.specs.Option.{option_map}
-use Rattle.std.proofs.lemmas.List.Sums.{sum_by-cons}
+use Rattle.std.proofs.lemmas.List.Sums.{sum_by-le-sum_by}
 use Rattle.list_members.specs.ListMembers.{length_ones}
 use Rattle.list_members.specs.Ranges.{any_filter, find_filter, list_all_same}
 use Rattle.apdu_core.specs.declared.unit.Seg.{Seg}
@@ -10,7 +10,7 @@ use Rattle.segment_core.specs.Arrival.{Arrival, first_piece, has_piece, is_piece
 use Rattle.segment_core.specs.Kept.{arrival_named, seg_of_name, kept_of, kept_piece, was_whole}
 use Rattle.segment_core.specs.Store.{StandsFor, Store}
 use Rattle.segment_core.specs.declared.piece_name.PieceName.{PieceName}
-use Rattle.receiver_core.proofs.Weights.{sum_above, sum_of_filter}
+use Rattle.receiver_core.proofs.Weights.{sum_of_filter}
 
 abbrev pub is_segment : Arrival → Bool
 is_segment a = is_some a.segmentation
@@ -45,11 +45,11 @@ module _ (taken : List Arrival) where
     numbered = stands.numbered;
   }
 
-turned : (p q : Bool) → cond q (cond p 1 0) 0 ≤ cond p (cond q 1 0) 0
-turned true true = omega arith
-turned true false = omega arith
-turned false true = omega arith
-turned false false = omega arith
+tests-turned : (p q : Bool) → cond q (cond p 1 0) 0 ≤ cond p (cond q 1 0) 0
+tests-turned true true = omega arith
+tests-turned true false = omega arith
+tests-turned false true = omega arith
+tests-turned false false = omega arith
 
 -- how many pass both tests
 pub length_of_both : {A : Type 0} (p q : A → Bool) (xs : List A)
@@ -58,6 +58,6 @@ length_of_both p q xs =
     let ones = length_ones (filter p (filter q xs)) in
     let first = sum_of_filter (λ x. 1) p (filter q xs) in
     let both = sum_of_filter (λ x. cond (p x) 1 0) q xs in
-    let less = sum_above (λ x. cond (q x) (cond (p x) 1 0) 0) (λ x. cond (p x) (cond (q x) 1 0) 0) xs
-    (λ x. turned (p x) (q x)) in
+    let less = sum_by-le-sum_by (λ x. cond (q x) (cond (p x) 1 0) 0) (λ x. cond (p x) (cond (q x) 1 0) 0) xs
+    (λ x. tests-turned (p x) (q x)) in
     omega (arith, ones, first, both, less)

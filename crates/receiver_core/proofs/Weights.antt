@@ -14,13 +14,6 @@ sum_of_two u v w (x ∷ xs) each =
     let more = sum_of_two u v w xs each in
     omega (arith, here, more, sum_by-cons u x xs, sum_by-cons v x xs, sum_by-cons w x xs)
 
-pub sum_above : {A : Type 0} (v w : A → ℕ) (xs : List A) → ((x : A) → v x ≤ w x) → sum_by v xs ≤ sum_by w xs
-sum_above v w [] each = omega arith
-sum_above v w (x ∷ xs) each =
-    let here = each x in
-    let more = sum_above v w xs each in
-    omega (arith, here, more, sum_by-cons v x xs, sum_by-cons w x xs)
-
 pub sum_below_two : {A : Type 0} (w u v : A → ℕ) (xs : List A) → ((x : A) → w x ≤ u x + v x)
     → sum_by w xs ≤ sum_by u xs + sum_by v xs
 sum_below_two w u v [] each = omega arith

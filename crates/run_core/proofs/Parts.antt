@@ -1,6 +1,6 @@
 -- The part of an input within the limit.
 use Rattle.std.proofs.Common.{◌≡◌, ℕ, ◌+◌, ◌-◌, ◌≤◌, List, [], ◌∷◌, ◌++◌, length, take, arith, ap, ◌∙◌}
-use Rattle.std.proofs.lemmas.List.{take-append-le, take_all}
+use Rattle.std.proofs.lemmas.List.{take-append-le, take_all, take_at}
 use Rattle.std.proofs.Math.Seq.{take-append-add}
 use Rattle.run_core.specs.Limits.{input_limit}
 use Rattle.run_core.specs.Run.{acted_part}
@@ -27,12 +27,7 @@ pub part-past : (text more : List ℕ) → length text ≤ input_limit
 unfolding acted_part
 part-past text more within = take-past input_limit text more within
 
-part-over : (limit : ℕ) (text : List ℕ) (byte : ℕ) → length text ≡ limit → take limit (text ++ byte ∷ []) ≡ text
-part-over limit text byte full =
-    let within : limit ≤ length text = omega (arith, full) in
-    take-append-le limit text (byte ∷ []) within ∙ take_all limit text (omega (arith, full))
-
 -- the byte past the limit is not acted on
 pub part-one-over : (text : List ℕ) (byte : ℕ) → length text ≡ input_limit → acted_part (text ++ byte ∷ []) ≡ text
 unfolding acted_part
-part-one-over text byte full = part-over input_limit text byte full
+part-one-over text byte full = take_at text (byte ∷ []) input_limit full

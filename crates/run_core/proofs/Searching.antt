@@ -2,6 +2,7 @@
 use Rattle.std.proofs.Common.{◌≡◌, ℕ, ◌+◌, ◌-◌, ◌<◌, ◌≤◌, Bool, true, false, List, [], Option, Some, None, option_map, length, drop, refl, sym, ap, subst, ◌∙◌, arith, append-nil, length-append}
 use Rattle.std.proofs.KnownBytes.{Consumes-trans}
 use Rattle.std.specs.Io.KnownBytes.{Consumes, IsAtEnd}
+use Rattle.list_members.specs.Tests.{none_mapped}
 use Rattle.fisb_wire.specs.Faults.{Rose}
 use Rattle.run_core.specs.declared.input.Input.{Input}
 use Rattle.run_core.specs.declared.search.TableEnd.{TableEnd}
@@ -13,7 +14,7 @@ use Rattle.run_core.specs.Reading.{IsWithin, HasGrown, newline_in}
 use Rattle.run_core.specs.Run.{source_end}
 use Rattle.run_core.specs.Running.{IsSought}
 use Rattle.run_core.specs.Searched.{IsHeld, IsTable, IsLast, IsLooked, HasSearched, is_end_here}
-use Rattle.run_core.proofs.Turns.{IsSearch, clear-more, found-from, none-from, sought-more, sought-line, sought-found, sought-long, sought-none, sought-last, sought-missing}
+use Rattle.run_core.proofs.Turns.{IsSearch, clear-more, found-from, sought-more, sought-line, sought-found, sought-long, sought-none, sought-last, sought-missing}
 
 module _ (lb : Option (List ℕ)) (rb : ℕ) where
   pub search-moved : (la : Option (List ℕ)) (ra : ℕ) (input after : Input) (place number : ℕ) (may : Bool)
@@ -81,7 +82,7 @@ module _ (lb : Option (List ℕ)) (rb : ℕ) where
 
     none-here : None ≡ option_map (λ end. place + end) (newline_in (drop place input.ring.items))
         → newline_in (drop place input.ring.items) ≡ None
-    none-here is = none-from place (newline_in (drop place input.ring.items)) is
+    none-here is = none_mapped (λ end. place + end) (newline_in (drop place input.ring.items)) (sym is)
 
     -- so many bytes have none that none can come
     pub search-long : None ≡ option_map (λ end. place + end) (newline_in (drop place input.ring.items))

@@ -38,10 +38,6 @@ pub found-from : (from e : ℕ) (found : Option ℕ) → Some e ≡ option_map (
 found-from from e None is = cc
 found-from from e (Some k) is = (k, refl, (let same : e ≡ from + k = cc in same))
 
-pub none-from : (from : ℕ) (found : Option ℕ) → None ≡ option_map (λ end. from + end) found → found ≡ None
-none-from from None is = refl
-none-from from (Some k) is = cc
-
 pub found-first : (e : ℕ) (xs : List ℕ) → Some e ≡ option_map (λ end. 0 + end) (newline_in xs) → newline_in xs ≡ Some e
 found-first e xs is =
     let k = found-from 0 e (newline_in xs) is in

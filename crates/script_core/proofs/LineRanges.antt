@@ -23,7 +23,7 @@ use Rattle.script_core.specs.Script.{Line, station, text, turn, hear, rx, show}
 use Rattle.script_core.specs.Fields.{radar_line, blank_line}
 use Rattle.script_core.proofs.FieldRanges.{IsRanged, number_bounds, number_below, moment_range, joined_behind}
 use Rattle.script_core.proofs.RadarRanges.{radar_ranged, blank_ranged}
-use Rattle.script_core.proofs.ReportTexts.{report_size}
+use Rattle.script_core.proofs.ReportTexts.{report_size, text_by}
 use Rattle.script_core.proofs.WrongBytes.{IsWrongByte}
 
 -- what a plain text shows is UTF-8, as the plain text is
@@ -192,13 +192,6 @@ show_ranged size (moment ∷ more ∷ others) = tt
 -- a report is UTF-8, and no longer than the line
 abbrev IsReport : ℕ → List ℕ → Type 0
 IsReport size report = IsUtf8 report × (length report ≤ size)
-
-abbrev text_by : Option ℕ → Option ℕ → Option (List ℕ) → Option Line
-text_by moment version report = do
-  m ← moment
-  v ← version
-  r ← report
-  Some (text m v r)
 
 text_by_ranged : (size : ℕ) (moment version : Option ℕ) (report : Option (List ℕ)) → IfSome moment IsMoment → IfSome version IsMoment → IfSome report (IsReport size)
     → IsRanged size (text_by moment version report)

@@ -18,7 +18,7 @@ report_of_other bytes other =
     rw no
 
 -- a text line, by what its moment, its version and its report are
-abbrev text_by : Option ℕ → Option ℕ → Option (List ℕ) → Option Line
+abbrev pub text_by : Option ℕ → Option ℕ → Option (List ℕ) → Option Line
 text_by moment version report = do
   m ← moment
   v ← version

@@ -40,9 +40,9 @@ completed_after-append before (x ∷ xs) ys =
 abbrev pub completed_now : List Arrival → Arrival → List Whole
 completed_now before a = filter_map (completes before a) (a.segmentation ∷ [])
 
-pub brought : (before : List Arrival) (a : Arrival) (w : Whole) → IsIn w (completed_now before a)
+pub whole-brought : (before : List Arrival) (a : Arrival) (w : Whole) → IsIn w (completed_now before a)
     → completes before a a.segmentation ≡ Some w
-brought before a w h =
+whole-brought before a w h =
     let got = in_filter_map (completes before a) w (a.segmentation ∷ []) h in
     ap (completes before a) (sym (in_one got.0 a.segmentation got.1)) ∙ got.2
 
@@ -208,7 +208,7 @@ only_files told before (s ∷ later) w sent h =
     elim (IsIn-either w (completed_now (map arrival_of before) (arrival_of s))
     (completed_after (map arrival_of before ++ arrival_of s ∷ []) (map arrival_of later)) h) [
       | inl here ↦
-          let is = brought (map arrival_of before) (arrival_of s) w here in
+          let is = whole-brought (map arrival_of before) (arrival_of s) w here in
           let of_file = completes_file before s (before ++ s ∷ later) w told sent (among_first before s later) is in
           record {
             station = s.station;

@@ -3,7 +3,7 @@ use Rattle.std.proofs.Common.{◌≡◌, ℕ, zero, suc, ◌+◌, ◌-◌, ◌*�
 use Rattle.std.proofs.Common.{◌++◌, length, take, drop, get_or, refl, sym, ap, subst, ◌∙◌, inl, inr, min, arith}
 use Rattle.std.proofs.Common.{length-take, length-drop, drop-drop, take-append-drop, append-nil}
 use Rattle.std.specs.List.{concat}
-use Rattle.std.proofs.Math.Nat.{le-div_iff_mul-le}
+use Rattle.std.proofs.Math.Nat.{le-div_iff_mul-le, mul-le-mul_left}
 use Rattle.std.proofs.lemmas.Bool.{cases_Bool, cond-true, cond-false, cases_lt, leb-true, leb-false, not-true, not-false}
 use Rattle.std.proofs.lemmas.List.Elements.{All-take, All-drop}
 use Rattle.bit_fields.specs.Bits.{AreBytes}
@@ -133,16 +133,12 @@ whole_most Second = omega arith
 whole_most DayMinute = omega arith
 whole_most DaySecond = omega arith
 
-times_most : (count limit most : ℕ) → limit ≤ most → count * limit ≤ count * most
-times_most zero limit most le = omega arith
-times_most (suc count) limit most le = let rest = times_most count limit most le in omega arith
-
 pub parts-hold : (form : TimeForm) (payload : List ℕ) → length payload ≤ length (parts form payload) * body_limit
 parts-hold form payload = elim (cases_Bool (is_segmented form payload)) [
   | inl cut ↦
       let size : length (parts form payload) ≡ segments_needed form payload = parts-count form payload cut in
       let hold = needed_hold (length payload) (segment_limit form) (limit_some form) in
-      let most = times_most (segments_needed form payload) (segment_limit form) body_limit (limit_most form) in
+      let most = mul-le-mul_left (segments_needed form payload) (limit_most form) in
       subst (λ (n : ℕ). length payload ≤ n * body_limit) (sym size) (omega (arith, hold, most))
   | inr whole ↦
       let one : length (parts form payload) ≡ 1 = ap length (parts-whole form payload whole) in

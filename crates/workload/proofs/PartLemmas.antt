@@ -1,7 +1,6 @@
 -- What the parts of a minute give.
-use Rattle.std.proofs.Common.{◌≡◌, ℕ, ◌+◌, ◌%◌, List, [], ◌∷◌, eqb, true, false, refl, sym, ap, ◌∙◌, inl, inr}
-use Rattle.std.proofs.lemmas.Bool.{eq-eqb}
-use Rattle.std.proofs.lemmas.Bool.Decides.{eqb_tells}
+use Rattle.std.proofs.Common.{◌≡◌, ℕ, ◌+◌, ◌%◌, List, [], ◌∷◌, eqb, true, false, refl, sym, ap, ◌∙◌}
+use Rattle.std.proofs.lemmas.Bool.{eq-eqb, ne_eqb}
 use Rattle.std.specs.Prelude.{codes, ◌≢◌}
 use Rattle.workload.specs.declared.step.Step.TheVariants.{Text, Block, Hear}
 use Rattle.workload.specs.Draws.{state_after, number_from, draws}
@@ -9,9 +8,6 @@ use Rattle.workload.specs.Texts.{report}
 use Rattle.workload.specs.Blocks.{cells_of}
 use Rattle.workload.specs.Hearings.{changes}
 use Rattle.workload.specs.Workload.{metar, taf, block, hearing}
-
-pub ne-eqb : (a b : ℕ) → (a ≡ b → ⊥) → eqb a b ≡ false
-ne-eqb a b other = elim (eqb_tells a b) [ inl t ↦ absurd (other t.1) | inr f ↦ f.0 ]
 
 pub metar-is : (moment station state number middle after : ℕ) (text : List ℕ)
     → number ≡ number_from state → middle ≡ state_after state
@@ -48,5 +44,5 @@ pub hearing-is : (moment state number middle after : ℕ) (wrong : List (ℕ × 
 unfolding hearing
 hearing-is moment state number middle after wrong n other m is left =
     let same : number_from state % 5 ≡ number % 5 = ap (λ d. d % 5) (sym n) in
-    let test : eqb (number_from state % 5) 0 ≡ false = ne-eqb (number_from state % 5) 0 (λ e. other (sym same ∙ e)) in
+    let test : eqb (number_from state % 5) 0 ≡ false = ne_eqb (number_from state % 5) 0 (λ e. other (sym same ∙ e)) in
     rw (test, is, left, m) refl

@@ -1,5 +1,6 @@
 -- What is still to come before and after each phase of a minute.
 use Rattle.std.proofs.Common.{◌≡◌, ℕ, zero, suc, ◌+◌, ◌-◌, ◌%◌, ◌<◌, ◌≤◌, true, false, cond, eqb, ltb, List, [], ◌∷◌, ◌++◌, refl, sym, ap, ◌∙◌, arith, append_assoc, eq-eqb}
+use Rattle.std.proofs.lemmas.Bool.{ne_eqb}
 use Rattle.std.proofs.lemmas.Bool.Decides.{nat_tests}
 use Rattle.workload.specs.declared.step.Step.{Step}
 use Rattle.workload.specs.declared.step.Step.TheVariants.{Blanks as blanks_step, Turn as turn_step, Show as show_step}
@@ -9,7 +10,6 @@ use Rattle.workload.specs.declared.progress.Phase.TheVariants.{Metar, Taf, Block
 use Rattle.workload.specs.Draws.{state_after, number_from}
 use Rattle.workload.specs.Workload.{Part, nothing, ◌>>◌, each_from, metar, taf, block, blanks, blocks, hearing, second, moment_of_minute, metar_in, taf_in, radar_in, minute}
 use Rattle.workload.specs.Progress.{picture_in, turns, after_metars, rest_of_minute, phase_after_taf, rest, still_to_come}
-use Rattle.workload.proofs.PartLemmas.{ne-eqb}
 
 -- The part `before`, from a state, is these steps and then the part `after`, from another state.
 abbrev pub Goes : Part → ℕ → List Step → Part → ℕ → Type 0
@@ -102,7 +102,7 @@ rest-picture left i state moment listed phase h none at shown = rw (none, at, sh
 -- the METARs
 metar_in-none : (i s state : ℕ) → (s % 30 ≡ i % 30 → ⊥) → metar_in i s state ≡ ([], state)
 unfolding metar_in
-metar_in-none i s state other = rw (ne-eqb (s % 30) (i % 30) other) refl
+metar_in-none i s state other = rw (ne_eqb (s % 30) (i % 30) other) refl
 
 metar_in-is : (i s : ℕ) → s % 30 ≡ i % 30 → metar_in i s ≡ metar (moment_of_minute i) s
 unfolding metar_in
@@ -177,7 +177,7 @@ pub blocks-odd : (i number state drawn middle : ℕ) (listed listed' : List ℕ)
 unfolding rest_of_minute
 blocks-odd i number state drawn middle listed listed' h d m odd put =
     let more : Part = blocks (moment_of_minute i) (listed ++ number ∷ []) (number + 1) (100800 - (number + 1)) in
-    let test : eqb (number_from state % 2) 0 ≡ false = ne-eqb (number_from state % 2) 0 (λ e. odd (ap (λ n. n % 2) d ∙ e)) in
+    let test : eqb (number_from state % 2) 0 ≡ false = ne_eqb (number_from state % 2) 0 (λ e. odd (ap (λ n. n % 2) d ∙ e)) in
     rw put (goes-then (blocks (moment_of_minute i) listed number (100800 - number)) more (turns i 0) state middle []
     (blocks-next (moment_of_minute i) number state listed h ∙ rw (test, ← m) refl))
 

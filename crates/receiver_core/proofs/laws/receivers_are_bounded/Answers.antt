@@ -1,8 +1,8 @@
-use Rattle.receiver_core.proofs.Bounded.{bounded}
+use Rattle.receiver_core.proofs.Bounded.{receiver-bounded}
 use Rattle.receiver_core.proofs.laws.receivers_are_bounded.Goals as goal
 
 pub returns : goal.returns
-returns c = bounded record {
+returns c = receiver-bounded record {
   frames = record {
     near = λ form fields received moment is.
         ((c.named_is_greatest.ensures form fields received moment).0 is).candidate.not_ahead;

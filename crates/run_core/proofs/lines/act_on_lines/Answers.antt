@@ -1,11 +1,12 @@
-use Rattle.std.proofs.Common.{◌≡◌, ◌+◌, ◌≤◌, Some, None, Err, length, drop, refl, ap, ◌∙◌, arith}
+use Rattle.std.proofs.Common.{◌≡◌, ◌+◌, ◌≤◌, Some, None, Err, length, drop, refl, sym, ap, ◌∙◌, arith}
+use Rattle.list_members.specs.Tests.{none_mapped}
 use Rattle.refusal_core.specs.declared.reason.Reason.TheVariants.{LineLong}
 use Rattle.run_core.specs.declared.input.Input.{Input}
 use Rattle.run_core.specs.Reading.{newline_in}
 use Rattle.run_core.specs.Run.{stopped}
 use Rattle.run_core.proofs.Ends.{stop-run}
 use Rattle.run_core.proofs.Steps.{at-more, at-line, line-stop, part-stop, failed-run, full-run}
-use Rattle.run_core.proofs.Turns.{found-first, none-from, moved, at-end-read, count-more, count-less, within-less, clear-more}
+use Rattle.run_core.proofs.Turns.{found-first, moved, at-end-read, count-more, count-less, within-less, clear-more}
 use Rattle.run_core.proofs.lines.act_on_lines.Goals as goal
 
 pub returns-in-Err-clause-ran : goal.returns-in-Err-clause-ran
@@ -51,8 +52,8 @@ pub returns-then-len-gt-LINE_LIMIT-clause-ran : goal.returns-then-len-gt-LINE_LI
 returns-then-len-gt-LINE_LIMIT-clause-ran g c = λ old table at.
     let here = c.loop-end.invariant.1 old table at in
     let kept = c.loop-end.invariant.0.within in
-    let none : newline_in c.loop-end.input.ring.items ≡ None = none-from 0
-    (newline_in c.loop-end.input.ring.items) c.in_default.ensures.end in
+    let none : newline_in c.loop-end.input.ring.items ≡ None = none_mapped (λ end. 0 + end)
+    (newline_in c.loop-end.input.ring.items) (sym c.in_default.ensures.end) in
     let len = c.len.ensures.len in
     let over = c.if-len-gt-LINE_LIMIT.true in
     let stop = part-stop g.A.Actor.work table c.loop-end.number old
@@ -81,8 +82,8 @@ pub loop-end-preserved : goal.loop-end-preserved
 loop-end-preserved g c =
     let kept = c.loop-end.invariant.0 in
     let read = c.in-More.ensures.read in
-    let none : newline_in c.loop-end.input.ring.items ≡ None = none-from 0
-    (newline_in c.loop-end.input.ring.items) c.in_default.ensures.end in (
+    let none : newline_in c.loop-end.input.ring.items ≡ None = none_mapped (λ end. 0 + end)
+    (newline_in c.loop-end.input.ring.items) (sym c.in_default.ensures.end) in (
       record {
         within = c.read_on.ensures.within;
         count = count-more c.loop-end.number 2 c.loop-end.input c.read_on.new.self _ _ _ _ read.0 read.1 kept.count;
@@ -99,8 +100,8 @@ pub returns-in-End-clause-ran : goal.returns-in-End-clause-ran
 returns-in-End-clause-ran g c = λ old table at.
     let read = c.in-End.ensures.read in
     let same = read.0 in
-    let none : newline_in c.loop-end.input.ring.items ≡ None = none-from 0
-    (newline_in c.loop-end.input.ring.items) c.in_default.ensures.end in
+    let none : newline_in c.loop-end.input.ring.items ≡ None = none_mapped (λ end. 0 + end)
+    (newline_in c.loop-end.input.ring.items) (sym c.in_default.ensures.end) in
     let here = moved g.A.Actor.work table
     (λ past. g.A.Actor.stands table past c.loop-end.actor) c.loop-end.number old _ c.loop-end.input c.read_on.new.self same (c.loop-end.invariant.1 old table at) in
     c.act_on_last.ensures.ran old _ _ table
@@ -112,8 +113,8 @@ pub returns-in-Failed-clause-ran : goal.returns-in-Failed-clause-ran
 returns-in-Failed-clause-ran g c = λ old table at.
     let read = c.in-Failed.ensures.read in
     let here = c.loop-end.invariant.1 old table at in
-    let none : newline_in c.loop-end.input.ring.items ≡ None = none-from 0
-    (newline_in c.loop-end.input.ring.items) c.in_default.ensures.end in
+    let none : newline_in c.loop-end.input.ring.items ≡ None = none_mapped (λ end. 0 + end)
+    (newline_in c.loop-end.input.ring.items) (sym c.in_default.ensures.end) in
     let len = c.len.ensures.len in
     let short = c.if-len-gt-LINE_LIMIT.false in
     failed-run g.A.Actor.work table c.loop-end.number old
@@ -125,8 +126,8 @@ pub returns-in-Full-clause-ran : goal.returns-in-Full-clause-ran
 returns-in-Full-clause-ran g c = λ old table at.
     let read = c.in-Full.ensures.read in
     let here = c.loop-end.invariant.1 old table at in
-    let none : newline_in c.loop-end.input.ring.items ≡ None = none-from 0
-    (newline_in c.loop-end.input.ring.items) c.in_default.ensures.end in
+    let none : newline_in c.loop-end.input.ring.items ≡ None = none_mapped (λ end. 0 + end)
+    (newline_in c.loop-end.input.ring.items) (sym c.in_default.ensures.end) in
     let len = c.len.ensures.len in
     let short = c.if-len-gt-LINE_LIMIT.false in
     full-run g.A.Actor.work table c.loop-end.number old

@@ -1,8 +1,8 @@
 -- Radar comes in every fifth minute.
 use Rattle.std.proofs.Common.{◌%◌, refl, eq-eqb}
+use Rattle.std.proofs.lemmas.Bool.{ne_eqb}
 use Rattle.workload.specs.Progress.{phase_after_taf}
 use Rattle.workload.proofs.progress.phase_after_taf.Goals as goal
-use Rattle.workload.proofs.PartLemmas.{ne-eqb}
 
 pub returns-then-minute-eq0 : goal.returns-then-minute-eq0
 unfolding phase_after_taf
@@ -10,4 +10,4 @@ returns-then-minute-eq0 c = rw (eq-eqb (c.args.minute % 5) 0 c.if-minute-eq0.tru
 
 pub returns-else-minute-eq0 : goal.returns-else-minute-eq0
 unfolding phase_after_taf
-returns-else-minute-eq0 c = rw (ne-eqb (c.args.minute % 5) 0 c.if-minute-eq0.false) refl
+returns-else-minute-eq0 c = rw (ne_eqb (c.args.minute % 5) 0 c.if-minute-eq0.false) refl

@@ -1,11 +1,12 @@
 use Rattle.std.proofs.Common.{◌+◌, true, ◌∷◌, ap, sym, ◌∙◌, length}
+use Rattle.std.proofs.lemmas.List.{length_push}
 use Rattle.script_core.specs.Script.{turn}
 use Rattle.script_core.specs.Printed.{sent_line}
 use Rattle.ground_core.specs.Airing.{frame_after}
 use Rattle.fisb_app.specs.Past.{events, station_after, sent_frames}
 use Rattle.fisb_app.specs.Reading.{turn_refusal}
 use Rattle.fisb_app.specs.Output.{sent_frame}
-use Rattle.fisb_app.proofs.Turning.{frames-more, length-last, line-alike}
+use Rattle.fisb_app.proofs.Turning.{frames-more, line-alike}
 use Rattle.fisb_app.proofs.ground_alone.GroundAlone.turn.Goals as goal
 
 pub returns-clause-acted : goal.returns-clause-acted
@@ -22,7 +23,7 @@ returns-clause-acted g c = λ bytes acted h.
             ∙ ap (λ i. sent_line i (sent_frame sent) true) index,
         record {
           holds = c.in-Ok.ensures.filled bytes acted h.holds;
-          sent = ap (λ n. n + 1) index ∙ sym (length-last (sent_frames table acted) sent) ∙ ap length (sym more)
+          sent = ap (λ n. n + 1) index ∙ sym (length_push (sent_frames table acted) sent) ∙ ap length (sym more)
               ∙ ap (λ t. length (sent_frames t (turn c.args.moment c.args.slot ∷ acted))) (sym same);
         },
       ),

@@ -1,7 +1,8 @@
 use Rattle.std.proofs.Common.{ap, sym, ◌∙◌, ◌≡◌, arith, slice_get}
+use Rattle.std.proofs.lemmas.Map.Keys.{ge_from_not_lt}
 use Rattle.fisb_app.specs.Past.{air_of}
 use Rattle.fisb_app.specs.Stands.{Aired, sent_view}
-use Rattle.fisb_app.proofs.Found.{lent-found, map-found, kept-found, before, not-before, too-early, too-late, in-time}
+use Rattle.fisb_app.proofs.Found.{lent-found, map-found, kept-found, before, too-early, too-late, in-time}
 use Rattle.fisb_app.proofs.link.Link.find.Goals as goal
 
 pub returns-then-lt : goal.returns-then-lt
@@ -25,7 +26,7 @@ returns-then-seconds-late g c = λ frames are.
     let one = c.seconds.ensures.value in
     let other = c.seconds-2.ensures.value in
     let allowed = c.late.ensures.late in
-    let sent = not-before c.args.moment c.in-Some.sent.now.moment (sym c.lt.ensures ∙ c.if-lt.false) in
+    let sent = ge_from_not_lt c.args.moment c.in-Some.sent.now.moment (sym c.lt.ensures ∙ c.if-lt.false) in
     too-late c.args.self.now.sending.table.late c.args.moment _ frame found (omega (arith, moment, sent)) (omega (arith, moment, after, one, other, allowed))
 
 pub returns : goal.returns
@@ -40,5 +41,5 @@ returns g c = λ frames are.
     let one = c.seconds.ensures.value in
     let other = c.seconds-2.ensures.value in
     let allowed = c.late.ensures.late in
-    let sent = not-before c.args.moment c.in-Some.sent.now.moment (sym c.lt.ensures ∙ c.if-lt.false) in
+    let sent = ge_from_not_lt c.args.moment c.in-Some.sent.now.moment (sym c.lt.ensures ∙ c.if-lt.false) in
     (frame, found, in-time c.args.self.now.sending.table.late c.args.moment _ frame found (omega (arith, moment, sent)) (omega (arith, moment, not_after, one, other, allowed)), air)

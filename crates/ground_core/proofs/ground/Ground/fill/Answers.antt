@@ -5,9 +5,10 @@ use Rattle.uplink_weave.specs.Functions.{woven_frame}
 use Rattle.ground_core.specs.Item.{body_of}
 use Rattle.segment_core.specs.Store.{last_above}
 use Rattle.ground_core.specs.StandsFor.{history_clock}
+use Rattle.ground_core.specs.Starving.{aired_after}
 use Rattle.ground_core.specs.Views.{pieces_in}
 use Rattle.ground_core.proofs.State.{fill_stands}
-use Rattle.ground_core.proofs.OnAir.{sent_of, aired_pieces, frames_are, used_is, bodies_are}
+use Rattle.ground_core.proofs.OnAir.{aired_pieces, frames_are, used_is, bodies_are}
 use Rattle.ground_core.proofs.ground.Ground.fill.Goals as goal
 
 pub returns-clause-filled : goal.returns-clause-filled
@@ -28,7 +29,7 @@ returns-clause-filled c table station history s =
 pub returns-clause-frame : goal.returns-clause-frame
 returns-clause-frame c table station history s =
     let in_time : last_above (history_clock history) c.args.moment ≡ None = search rules in
-    let sent = sent_of table station history c.args.moment in
+    let sent = aired_after table station history c.args.moment in
     let pieces = aired_pieces c.stations_are_told.ensures (record { same = c.keys_are_ordered.ensures.same; agrees = c.keys_are_ordered.ensures.agrees }) table station history c.args.moment c.args.slot c.args.self.now (pieces_in c.air-bodies.new.self) s in_time c.air-bodies.ensures.line in
     let frames = c.air-bodies.ensures.frames ∙ frames_are _ sent pieces in
     record {

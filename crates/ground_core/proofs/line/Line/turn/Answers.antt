@@ -8,7 +8,7 @@ use Rattle.ground_core.specs.Piece.{IsLastOrEnded, ArePlaced, while_living}
 use Rattle.ground_core.proofs.Kept.{kept_where}
 use Rattle.ground_core.proofs.Placed.{among_itself, placed_dropped, placed_aired}
 use Rattle.ground_core.proofs.KeyLemmas.{KeyLaws}
-use Rattle.ground_core.proofs.Turns.{has_front, rotated}
+use Rattle.ground_core.proofs.Turns.{has_front, places-rotated}
 use Rattle.ground_core.proofs.line.Line.turn.Goals as goal
 
 pub returns-then-not-is_live-clause-turn : goal.returns-then-not-is_live-clause-turn
@@ -41,7 +41,7 @@ returns-clause-turn c =
       has = has_front c.args.self.now.places.items c.in-Some.front.now some c.in-Some.ensures.lookup;
       lives = sym c.is_live.ensures ∙ c.if-not-is_live.false;
       fits = sym c.if-not-is_pushed.ensures.answer;
-      line = ap (map place_view) c.rotate_left.ensures.items ∙ rotated c.args.self.now.places.items c.in-Some.front.now some c.in-Some.ensures.lookup;
+      line = ap (map place_view) c.rotate_left.ensures.items ∙ places-rotated c.args.self.now.places.items c.in-Some.front.now some c.in-Some.ensures.lookup;
       frames_are = c.if-not-is_pushed.ensures.pushed;
       used = c.if-not-is_pushed.ensures.used;
     }
@@ -67,4 +67,4 @@ returns-clause-placed c h =
     let some : 0 < length c.args.self.now.places.items = search rules in
     let has = has_front c.args.self.now.places.items c.in-Some.front.now some c.in-Some.ensures.lookup in
     placed_aired (latest_at c.args.newest.now) (pieces_in c.args.self.now) (map place_view c.rotate_left.new.self.items) has.behind has.front has.line_is
-    (ap (map place_view) c.rotate_left.ensures.items ∙ rotated c.args.self.now.places.items c.in-Some.front.now some c.in-Some.ensures.lookup) h
+    (ap (map place_view) c.rotate_left.ensures.items ∙ places-rotated c.args.self.now.places.items c.in-Some.front.now some c.in-Some.ensures.lookup) h
