@@ -15,13 +15,10 @@ use Rattle.apdu_core.specs.declared.fault.ApduFault.{ApduFault}
 use Rattle.apdu_core.specs.declared.fault.ApduFault.TheVariants.{Short, Flagged, BadSegment}
 use Rattle.apdu_core.specs.Apdu.{Apdu, form_number, form_of, time_fields, segment_fields, time_width, header_width, header_length, header_fields, header_with, fill_width, time_in, segmentation_in, form_in, is_segmented_in, is_bad, apdu_of_header, apdu_of}
 use Rattle.apdu_core.specs.Spelling.{FitsTime, FitsSegment, FitsSegmentation, FitsApdu, AreBytes, SpellsApdu, IsReadingOf}
-use Rattle.bit_fields.specs.BytesAsNumbers.{number_of-append, number_of-fits}
+use Rattle.bit_fields.specs.BytesAsNumbers.{IsByte, number_of-append, number_of-fits}
 use Rattle.apdu_core.proofs.ByteLemmas.{length-bytes_high_first, bytes_high_first-bytes}
 use Rattle.apdu_core.proofs.FieldLemmas.{AreWithin, AreAt, bytes-from_at, at-from_bytes}
 use Rattle.apdu_core.proofs.HeaderLemmas.{fields_with, whole, time-from_at, at-from_time, segment-from_at, at-from_segment, within-back, within-front, within-from_fits, time_in-fits}
-
-abbrev IsByte : ℕ → Type 0
-IsByte byte = byte < 256
 
 -- a field of the front of some bytes is that field of all of them
 pub field_in_front : (xs ys : List ℕ) (place width : ℕ) → AreBytes ys → place + width ≤ 8 * length xs → field_at (xs ++ ys) place width ≡ field_at xs place width

@@ -1,9 +1,11 @@
 -- The payload of a text: what it reads back as, its length, and that it is made of bytes.
 use Rattle.std.proofs.Common.{◌≡◌, ◌≢◌, ◌⊎◌, ℕ, ◌+◌, ◌*◌, ◌/◌, ◌%◌, ◌<◌, Bool, true, false, ◌&&◌, eqb, inl, inr, suc, List, [], ◌∷◌, ◌++◌, length, map, filter, refl, sym, ap, ◌∙◌, append_assoc, append-nil, length-append, All, arith, IsTrue}
 use Rattle.std.proofs.lemmas.Bool.Decides.{nat_tests}
+use Rattle.std.proofs.lemmas.Nat.{mod-mul-add}
 use Rattle.std.proofs.lemmas.List.{length-map}
 use Rattle.std.proofs.lemmas.List.Elements.{All-from_recursion}
 use Rattle.std.specs.List.{AllByRecursion}
+use Rattle.bit_fields.specs.BytesAsNumbers.{IsByte}
 use Rattle.dlac_text.specs.Alphabet.{is_in_alphabet, IsDlac, code_of, character_of}
 use Rattle.dlac_text.specs.SixBits.{packed_bytes, six_bit_groups}
 use Rattle.dlac_text.specs.Payload.{text_payload}
@@ -22,9 +24,6 @@ second_back a b c h i = omega arith
 
 third_back : (b c d : ℕ) → c < 64 → d < 64 → (b % 16 * 16 + c / 4) % 16 * 4 + (c % 4 * 64 + d) / 64 ≡ c
 third_back b c d h i = omega arith
-
-fourth_back : (c d : ℕ) → d < 64 → (c % 4 * 64 + d) % 64 ≡ d
-fourth_back c d h = omega arith
 
 -- the groups of packed codes are the codes, and a code 0 where three codes fill three bytes
 pub groups_of_packed : (codes : List ℕ) → AllByRecursion IsSixBits codes → (six_bit_groups (packed_bytes codes) ≡ codes) ⊎ (six_bit_groups (packed_bytes codes) ≡ codes ++ 0 ∷ [])
@@ -45,7 +44,7 @@ groups_of_packed (a ∷ b ∷ c ∷ d ∷ more) h =
     let c_fits : c < 64 = h.1.1.0 in
     let d_fits : d < 64 = h.1.1.1.0 in
     let front : six_bit_groups (packed_bytes (a ∷ b ∷ c ∷ d ∷ more)) ≡ a ∷ b ∷ c ∷ d ∷ six_bit_groups (packed_bytes more) =
-    rw (first_back a b b_fits, second_back a b c b_fits c_fits, third_back b c d c_fits d_fits, fourth_back c d d_fits) refl in
+    rw (first_back a b b_fits, second_back a b c b_fits c_fits, third_back b c d c_fits d_fits, mod-mul-add (c % 4) 64 d d_fits) refl in
     elim (groups_of_packed more h.1.1.1.1) [ inl e ↦ inl (front ∙ ap (λ ys. a ∷ b ∷ c ∷ d ∷ ys) e) | inr e ↦ inr (front ∙ ap (λ ys. a ∷ b ∷ c ∷ d ∷ ys) e) ]
 
 head_true : (a b : Bool) → IsTrue (a && b) → IsTrue a
@@ -118,9 +117,6 @@ unfolding text_payload
 length-text_payload text =
     let codes : length (map code_of text ++ 0 ∷ []) ≡ length text + 1 = simp (length-append, length-map) in
     length-packed_bytes (map code_of text ++ 0 ∷ []) ∙ ap (λ n. (6 * n + 7) / 8) codes
-
-abbrev pub IsByte : ℕ → Type 0
-IsByte byte = byte < 256
 
 pub packed_fits : (codes : List ℕ) → AllByRecursion IsSixBits codes → AllByRecursion IsByte (packed_bytes codes)
 packed_fits [] h = tt

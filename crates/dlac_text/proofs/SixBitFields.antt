@@ -6,10 +6,10 @@ use Rattle.std.proofs.lemmas.List.{get_or_append_left}
 use Rattle.std.proofs.lemmas.List.Elements.{recursion_from_All, All-from_recursion}
 use Rattle.std.specs.List.{AllByRecursion}
 use Rattle.bit_fields.specs.Bits.{number_of, field_at}
-use Rattle.bit_fields.specs.BytesAsNumbers.{behind, behind_is, number_of-fits}
+use Rattle.bit_fields.specs.BytesAsNumbers.{IsByte, behind, behind_is, number_of-fits}
 use Rattle.dlac_text.specs.SixBits.{packed_bytes, six_bit_groups}
 use Rattle.dlac_text.specs.SixBitFields.{AreFields, AreRead, AreWritten}
-use Rattle.dlac_text.proofs.RoundTrip.{IsByte, groups_of_packed, length-packed_bytes, packed_fits}
+use Rattle.dlac_text.proofs.RoundTrip.{groups_of_packed, length-packed_bytes, packed_fits}
 use Rattle.dlac_text.proofs.SixBitsLemmas.{IsSixBits}
 
 fits : (xs : List ℕ) → AllByRecursion IsByte xs → number_of xs < 2 ^ (8 * length xs)

@@ -88,8 +88,8 @@ fn payload_bytes(alloc: Global, characters: &[u8]) -> Result<Vec<u8>, AllocError
 fn push_last_group(bytes: &mut Vec<u8>, characters: &[u8]) -> Result<(), AllocError>
     requires alphabet { IsDlac characters.now }
     requires few { length characters.now < 4 }
-    ensures { IfOk result
-        (λ _. bytes.new.items ≡ bytes.old.items ++ packed_bytes (map code_of characters.now ++ 0 ∷ [])) }
+    ensures { IfOk result (λ _. bytes.new.items
+        ≡ bytes.old.items ++ packed_bytes (map code_of characters.now ++ 0 ∷ [])) }
 {
     match characters {
         [first, second, third] => {

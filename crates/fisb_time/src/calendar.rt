@@ -5,6 +5,7 @@ ghost use Rattle.jiff_core.specs.Calendar.{IsCivilDate, days_from_civil};
 ghost use Rattle.fisb_time.specs.Moment.{IsMoment};
 ghost use Rattle.fisb_time.specs.CivilDate.{IsMonthAndDay, date_of};
 
+use crate::moment::DAY;
 use jiff::civil::Date;
 use jiff_core::civil;
 
@@ -15,7 +16,7 @@ pub(crate) fn date_at(seconds: u64) -> Date
     ensures month { result.month ≡ (date_of seconds).month }
     ensures day { result.day ≡ (date_of seconds).day }
 {
-    let day = seconds / 86_400;
+    let day = seconds / DAY;
     Date::from_plain(civil::Date::from_unix_epoch_day(day as i64).unwrap())
 }
 

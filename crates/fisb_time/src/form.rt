@@ -4,7 +4,7 @@ ghost use Rattle.fisb_time.specs.TimeForm.{shows};
 ghost use Rattle.fisb_time.specs.TimeFields.{shown_fields};
 
 use crate::calendar::date_at;
-use crate::moment::Moment;
+use crate::moment::{DAY, Moment};
 
 /// The form of an APDU's time field.
 #[derive(Clone, Copy, Debug, PartialEq, Eq)]
@@ -51,7 +51,7 @@ pub fn fields_of(form: TimeForm, moment: Moment) -> TimeFields
     ensures { result ≡ shown_fields form moment }
 {
     let (month, day) = month_and_day(form, moment);
-    let second_of_day = moment.seconds() % 86_400;
+    let second_of_day = moment.seconds() % DAY;
     TimeFields {
         month,
         day,

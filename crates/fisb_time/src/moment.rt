@@ -10,6 +10,9 @@ const FIRST: u64 = 946_684_800;
 /// The last moment, 2099-12-31 23:59:59 UTC.
 pub(crate) const LAST: u64 = 4_102_444_799;
 
+/// The seconds of a day.
+pub(crate) const DAY: u64 = 86_400;
+
 /// A moment: whole seconds since 1970-01-01 00:00:00 UTC, from 2000-01-01 00:00:00
 /// (946,684,800) to 2099-12-31 23:59:59 (4,102,444,799). A contract sees it as the number.
 #[derive(Clone, Copy, Debug, PartialEq, Eq, PartialOrd, Ord)]

@@ -7,10 +7,7 @@ ghost use Rattle.fisb_time.specs.Naming.{IsCandidate, Names, named_moment};
 
 use crate::calendar::{day_number, is_month_and_day, year_at, years_between};
 use crate::form::{TimeFields, TimeForm};
-use crate::moment::{LAST, Moment};
-
-/// The seconds of a day.
-const DAY: u64 = 86_400;
+use crate::moment::{DAY, LAST, Moment};
 
 /// The moment that the fields name where they are received at `received`: the latest one that the
 /// form shows, that has these fields and that is not more than 60 seconds after the reception.
@@ -102,7 +99,8 @@ fn latest_on(month: u8, day: u8, second_of_day: u64, received: Moment) -> u64
     ensures on { IsMoment result → ((date_of result).month ≡ month) × ((date_of result).day ≡ day) }
     ensures not_ahead { result ≤ min (received + 60) last_moment }
     ensures latest { (m : ℕ) → IsMoment m → m ≤ min (received + 60) last_moment →
-        (date_of m).month ≡ month → (date_of m).day ≡ day → m % day_seconds ≡ second_of_day → m ≤ result }
+        (date_of m).month ≡ month → (date_of m).day ≡ day → m % day_seconds ≡ second_of_day →
+        m ≤ result }
 {
     let latest = latest_second(received);
     let step = years_between(month, day);

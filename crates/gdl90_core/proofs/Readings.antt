@@ -4,6 +4,7 @@ use Rattle.std.specs.List.{flat_map}
 use Rattle.std.proofs.Common.{◌≡◌, ◌≢◌, ℕ, ◌+◌, ◌-◌, ◌*◌, ◌/◌, ◌%◌, ◌<◌, ◌≤◌, ◌⊎◌, inl, inr, List, [], ◌∷◌, ◌++◌}
 use Rattle.std.proofs.Common.{refl, sym, ◌∙◌, ap, subst, arith, length, take, drop, length-append}
 use Rattle.std.proofs.Math.Path.{ap₂}
+use Rattle.std.proofs.Math.Nat.{mod-add-div}
 use Rattle.std.proofs.lemmas.Bool.{cases_eq, cases_lt}
 use Rattle.std.proofs.lemmas.List.{append_assoc, append_cancel_left}
 use Rattle.std.proofs.Math.Seq.{take-append_seam, drop-append_seam}
@@ -53,9 +54,6 @@ last_two (first ∷ low ∷ high ∷ more) two =
 length-with_fcs : (text : List ℕ) → length (with_fcs text) ≡ length text + 2
 length-with_fcs text = length-two text (remainder text % 256) (remainder text / 256)
 
-whole : (n : ℕ) → n % 256 + 256 * (n / 256) ≡ n
-whole n = omega arith
-
 -- some bytes say one thing
 say_once : (bytes : List ℕ) (one other : Reading) → BytesSay bytes one → BytesSay bytes other → other ≡ one
 say_once bytes (damaged BadEscape) other says_one says_other = absurd says_one
@@ -67,13 +65,13 @@ say_once bytes (message text) (damaged Short) says_one says_other =
 say_once bytes (message text) (damaged TooLong) says_one says_other =
     absurd (omega (arith, ap length says_one.0, length-with_fcs text, says_one.2, says_other))
 say_once bytes (message text) (damaged BadFcs) says_one says_other =
-    absurd (says_other.2 text (remainder text % 256) (remainder text / 256) says_one.0 (whole (remainder text)))
+    absurd (says_other.2 text (remainder text % 256) (remainder text / 256) says_one.0 (mod-add-div (remainder text) 256))
 say_once bytes (damaged Short) (message text) says_one says_other =
     absurd (omega (arith, ap length says_other.0, length-with_fcs text, says_other.1, says_one))
 say_once bytes (damaged TooLong) (message text) says_one says_other =
     absurd (omega (arith, ap length says_other.0, length-with_fcs text, says_other.2, says_one))
 say_once bytes (damaged BadFcs) (message text) says_one says_other =
-    absurd (says_one.2 text (remainder text % 256) (remainder text / 256) says_other.0 (whole (remainder text)))
+    absurd (says_one.2 text (remainder text % 256) (remainder text / 256) says_other.0 (mod-add-div (remainder text) 256))
 say_once bytes (damaged Short) (damaged Short) says_one says_other = refl
 say_once bytes (damaged Short) (damaged TooLong) says_one says_other = absurd (omega (arith, says_one, says_other))
 say_once bytes (damaged Short) (damaged BadFcs) says_one says_other = absurd (omega (arith, says_one, says_other.0))

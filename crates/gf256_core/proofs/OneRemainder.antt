@@ -1,10 +1,11 @@
 -- A remainder is the one that the definition computes: a multiple of the modulus has the remainder 0.
 use Rattle.std.proofs.Common.{◌≡◌, ℕ, zero, suc, ◌+◌, ◌*◌, ◌/◌, ◌%◌, ◌^◌, ◌<◌, ◌≤◌, refl, sym, ◌∙◌, ap, ap₂, arith, inl, inr}
+use Rattle.std.proofs.Math.Nat.{pow-succ'}
 use Rattle.std.specs.Int.Bits.{bit_xor, xor_zero_r}
 use Rattle.gf256_core.specs.Field.{plain_product, remainder, IsRemainder}
 use Rattle.gf256_core.specs.Laws.{HasOneRemainder}
 use Rattle.gf256_core.proofs.Sums.{xor_double, bit_cases}
-use Rattle.gf256_core.proofs.Remainders.{remainder-xor, remainder-small, remainder-zero, remainder-multiple, pow_twice}
+use Rattle.gf256_core.proofs.Remainders.{remainder-xor, remainder-small, remainder-zero, remainder-multiple}
 
 plain-double : (n a b : ℕ) → plain_product n (2 * a) b ≡ 2 * plain_product n a b
 unfolding plain_product
@@ -28,7 +29,7 @@ unfolding plain_product
 product-zero zero p k b low high h = remainder-zero 8 p
 product-zero (suc n) p k b low high h =
     let up : 2 * (p * 2 ^ k) ≡ p * 2 ^ suc k =
-    (let e : 2 * (p * 2 ^ k) ≡ p * (2 * 2 ^ k) = omega arith in e) ∙ ap (λ (x : ℕ). p * x) (sym (pow_twice k)) in
+    (let e : 2 * (p * 2 ^ k) ≡ p * (2 * 2 ^ k) = omega arith in e) ∙ ap (λ (x : ℕ). p * x) (sym (pow-succ' 2 k)) in
     remainder-xor 8 p (b % 2 * (p * 2 ^ k)) (2 * plain_product n (p * 2 ^ k) (b / 2))
     ∙ ap₂ bit_xor (bit_multiple p k b low high (omega arith))
     (ap (remainder 8 p) (sym (plain-double n (p * 2 ^ k) (b / 2)) ∙ ap (λ (x : ℕ). plain_product n x (b / 2)) up)

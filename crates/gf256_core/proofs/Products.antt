@@ -1,13 +1,14 @@
 -- Plain products, x times an element, and their products.
 use Rattle.std.proofs.Common.{◌≡◌, ℕ, zero, suc, ◌+◌, ◌*◌, ◌/◌, ◌%◌, ◌^◌, ◌<◌, ◌≤◌, refl, sym, ◌∙◌, ap, ap₂, arith, inl, inr, lit<}
-use Rattle.std.proofs.Math.Nat.{zero-mul, one-mul, mul-zero, mod-mod, mod-eq_of_lt}
+use Rattle.std.proofs.Math.Nat.{pow-succ', zero-mul, one-mul, mul-zero, mod-mod, mod-eq_of_lt}
+use Rattle.std.proofs.Math.Numerals.{suc-eq-add-one}
 use Rattle.std.proofs.Math.Pow.{pow_mono, mod-mod-pow}
 use Rattle.std.specs.Int.Bits.{bit_xor, xor_zero_r, xor_mod, xor_block, xor_assoc, xor_self}
 use Rattle.std.proofs.lemmas.Nat.{xor_lt, field_of, pow_pos, mod_below}
 use Rattle.bit_fields.specs.Xors.{xor-shuffle}
 use Rattle.gf256_core.specs.Field.{plain_product, remainder, product, IsRemainder}
 use Rattle.gf256_core.proofs.Sums.{xor_double, bit_cases, times_bit_xor}
-use Rattle.gf256_core.proofs.Remainders.{pow_twice, pow_eight, remainder-xor, remainder-small, remainder-multiple, remainder-fits, remainder-zero, step, step-is, remainder-suc, step-below}
+use Rattle.gf256_core.proofs.Remainders.{pow_eight, remainder-xor, remainder-small, remainder-multiple, remainder-fits, remainder-zero, step, step-is, remainder-suc, step-below}
 
 -- the modulus has degree 8
 pub record HasDegreeEight (p : ℕ) : Type 0 where
@@ -34,18 +35,15 @@ unfolding plain_product
 plain-zero_right zero a = refl
 plain-zero_right (suc n) a = ap₂ bit_xor (zero-mul a) (ap (λ (x : ℕ). 2 * x) (plain-zero_right n a))
 
-suc-is : (n : ℕ) → suc n ≡ n + 1
-suc-is n = omega arith
-
 -- only the lowest `n` bits of the second factor are read
 plain-low_bits : (n a b : ℕ) → plain_product n a (b % 2 ^ n) ≡ plain_product n a b
 unfolding plain_product
 plain-low_bits zero a b = refl
 plain-low_bits (suc n) a b =
     let last : b % 2 ^ suc n % 2 ≡ b % 2 =
-    ap (λ (x : ℕ). b % 2 ^ x % 2) (suc-is n) ∙ mod-mod-pow b n 1 in
+    ap (λ (x : ℕ). b % 2 ^ x % 2) (suc-eq-add-one n) ∙ mod-mod-pow b n 1 in
     let rest : b % 2 ^ suc n / 2 ≡ b / 2 % 2 ^ n =
-    ap (λ (x : ℕ). b % 2 ^ x / 2) (suc-is n) ∙ field_of b n 1 in
+    ap (λ (x : ℕ). b % 2 ^ x / 2) (suc-eq-add-one n) ∙ field_of b n 1 in
     rw (last, rest) (ap (λ (x : ℕ). bit_xor (b % 2 * a) (2 * x)) (plain-low_bits n a (b / 2)))
 
 split-bit : (b : ℕ) → bit_xor (b % 2 * 1) (2 * (b / 2)) ≡ b
@@ -63,14 +61,14 @@ plain-one : (n b : ℕ) → b < 2 ^ n → plain_product n 1 b ≡ b
 unfolding plain_product
 plain-one zero b h = let none : b < 1 = h in omega arith
 plain-one (suc n) b h =
-    let fits : b / 2 < 2 ^ n = omega (arith, pow_twice n) in
+    let fits : b / 2 < 2 ^ n = omega (arith, pow-succ' 2 n) in
     rw (plain-one n (b / 2) fits) (split-bit b)
 
 plain-fits : (n a b : ℕ) → a < 256 → plain_product n a b < 2 ^ (8 + n)
 unfolding plain_product
 plain-fits zero a b h = lit< tt
 plain-fits (suc n) a b h =
-    let twice : 2 ^ (8 + suc n) ≡ 2 * 2 ^ (8 + n) = omega (arith, pow_eight n, pow_eight (suc n), pow_twice n) in
+    let twice : 2 ^ (8 + suc n) ≡ 2 * 2 ^ (8 + n) = omega (arith, pow_eight n, pow_eight (suc n), pow-succ' 2 n) in
     let more : 256 ≤ 2 ^ (8 + n) = omega (arith, pow_eight n, pow_pos n) in
     let rest : plain_product n a (b / 2) < 2 ^ (8 + n) = plain-fits n a (b / 2) h in
     let first : b % 2 * a < 2 ^ (8 + suc n) = elim (bit_cases b) [ inl e ↦ rw e (omega arith) | inr e ↦ rw e (omega arith) ] in
@@ -97,7 +95,7 @@ unfolding times_x
 times_x-multiple n p u d h = elim (bit_cases u) [
   | inl e ↦ rw e (ap (λ (x : ℕ). remainder 8 p (2 * x)) (zero-mul (p * 2 ^ n)) ∙ remainder-zero 8 p)
   | inr e ↦
-      let twice : p * 2 ^ suc n ≡ p * (2 * 2 ^ n) = ap (λ (x : ℕ). p * x) (pow_twice n) in
+      let twice : p * 2 ^ suc n ≡ p * (2 * 2 ^ n) = ap (λ (x : ℕ). p * x) (pow-succ' 2 n) in
       let same : 2 * (1 * (p * 2 ^ n)) ≡ p * 2 ^ suc n = omega arith in
       rw (e, same) (remainder-multiple 8 p (suc n) d.low d.high h)
 ]
@@ -224,13 +222,13 @@ plain-top zero a q u h h' =
     let once : u * a ≡ u * (a * 1) = ap (λ (x : ℕ). u * x) (let e : a ≡ a * 1 = omega arith in e) in
     rw bit (xor_zero_r (u * a) ∙ once)
 plain-top (suc n) a q u h h' =
-    let more : u * 2 ^ suc n ≡ u * (2 * 2 ^ n) = ap (λ (x : ℕ). u * x) (pow_twice n) in
+    let more : u * 2 ^ suc n ≡ u * (2 * 2 ^ n) = ap (λ (x : ℕ). u * x) (pow-succ' 2 n) in
     let twice : u * (2 * 2 ^ n) ≡ 2 * (u * 2 ^ n) = omega arith in
     let last : (q + u * 2 ^ suc n) % 2 ≡ q % 2 = omega arith in
     let rest : (q + u * 2 ^ suc n) / 2 ≡ q / 2 + u * 2 ^ n = omega arith in
-    let below : q / 2 < 2 ^ n = omega (arith, pow_twice n) in
+    let below : q / 2 < 2 ^ n = omega (arith, pow-succ' 2 n) in
     let term : 2 * (u * (a * 2 ^ n)) ≡ u * (a * 2 ^ suc n) =
-    (let e : 2 * (u * (a * 2 ^ n)) ≡ u * (a * (2 * 2 ^ n)) = omega arith in e) ∙ ap (λ (x : ℕ). u * (a * x)) (sym (pow_twice n)) in
+    (let e : 2 * (u * (a * 2 ^ n)) ≡ u * (a * (2 * 2 ^ n)) = omega arith in e) ∙ ap (λ (x : ℕ). u * (a * x)) (sym (pow-succ' 2 n)) in
     plain-suc (suc n) a (q + u * 2 ^ suc n)
     ∙ ap₂ (λ (r d : ℕ). bit_xor (r * a) (2 * plain_product (suc n) a d)) last rest
     ∙ ap (λ (y : ℕ). bit_xor (q % 2 * a) (2 * y)) (plain-top n a (q / 2) u below h')
@@ -255,7 +253,7 @@ remainder-Multiple (suc n) p a =
     let bound : a / 2 ^ (8 + n) % 2 * 2 ^ n + m.times < 2 * 2 ^ n = one_bit_more m.times (a / 2 ^ (8 + n)) (2 ^ n) q in
     record {
       times = m.times + a / 2 ^ (8 + n) % 2 * 2 ^ n;
-      fits = rw (pow_twice n) (omega arith);
+      fits = rw (pow-succ' 2 n) (omega arith);
       whole =
           sym (xor_zero_r a)
           ∙ ap (bit_xor a) (sym (xor_self (a / 2 ^ (8 + n) % 2 * (p * 2 ^ n))))

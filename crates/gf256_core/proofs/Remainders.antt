@@ -43,9 +43,6 @@ remainder-xor (suc n) p a b =
 pub pow_eight : (n : ℕ) → 2 ^ (8 + n) ≡ 256 * 2 ^ n
 pow_eight n = pow-add 2 8 n
 
-pub pow_twice : (n : ℕ) → 2 ^ suc n ≡ 2 * 2 ^ n
-pow_twice n = pow-succ' 2 n
-
 pub step-below : (n p a : ℕ) → a < 2 ^ (8 + n) → step n p a ≡ a
 unfolding step
 step-below n p a h =
@@ -113,7 +110,7 @@ step-fits n p a low high h = elim (cases_lt a (2 ^ (8 + n))) [
   | inl below ↦ rw (step-below n p a below) below
   | inr above ↦
       let s = modulus-split n p low high in
-      let twice : 2 ^ (8 + suc n) ≡ 2 * 2 ^ (8 + n) = omega (arith, pow_eight n, pow_eight (suc n), pow_twice n) in
+      let twice : 2 ^ (8 + suc n) ≡ 2 * 2 ^ (8 + n) = omega (arith, pow_eight n, pow_eight (suc n), pow-succ' 2 n) in
       let whole : a ≡ 1 * 2 ^ (8 + n) + (a - 2 ^ (8 + n)) = omega arith in
       let rest : a - 2 ^ (8 + n) < 2 ^ (8 + n) = omega arith in
       let q : a / 2 ^ (8 + n) ≡ 1 =

@@ -1,10 +1,11 @@
 -- Every table that a document writes keeps the rules.
-use Rattle.std.proofs.Common.{◌≡◌, ℕ, ◌+◌, ◌≤◌, ◌==◌, ℤ, pos, negsuc, Bool, true, false, not, cond, List, [], ◌∷◌, ◌++◌, length, Option, Some, None, is_some, Result, Ok, Err, refl, sym, ap, subst, ◌∙◌, ◌⊎◌, inl, inr, codes}
+use Rattle.std.proofs.Common.{◌≡◌, ℕ, ◌+◌, ◌≤◌, ◌==◌, ℤ, pos, negsuc, true, false, not, cond, List, [], ◌∷◌, ◌++◌, length, Option, Some, None, is_some, Result, Ok, Err, refl, sym, ap, subst, ◌∙◌, ◌⊎◌, inl, inr, codes}
 use Rattle.std.specs.List.{find, AllByRecursion}
 use Rattle.std.specs.Str.{bytes_eq}
 use Rattle.std.specs.Ordering.{int_eq}
 use Rattle.std.specs.Prelude.{int_lt, unsigned_abs}
 use Rattle.std.proofs.lemmas.Bool.{cases_Bool, leb-true, ltb-false, false≢true, not-false}
+use Rattle.std.proofs.lemmas.Option.{cond_some}
 use Rattle.std.proofs.lemmas.Slice.Eq.{bytes_eq-Decides}
 use Rattle.list_members.specs.Tests.{none_from, ok_past_test, some_past_test}
 use Rattle.toml.specs.Data.{Data, Items, no_items, item}
@@ -13,7 +14,7 @@ use Rattle.fisb_time.specs.declared.form.TimeForm.TheVariants.{Minute, Second, D
 use Rattle.life_table.specs.LifeTable.{TextRow, RadarRow, row, radar}
 use Rattle.life_table.specs.Rules.{IsTable, IsWithinForm}
 use Rattle.life_table.specs.Document.{or_fault, member_count, integer_at, text_at, is_word, key_words, form_of, radar_product, life_in, is_within}
-use Rattle.life_table.specs.RowsOf.{and_then, with_row_number, own_row, own_text, alike_row, alike_text, text_entry, radar_entry, text_rows, radar_rows}
+use Rattle.life_table.specs.RowsOf.{and_then, with_row_number, row_of_its_own, own_text, alike_row, alike_text, text_entry, radar_entry, text_rows, radar_rows}
 use Rattle.life_table.specs.declared.fault.RowFault.{RowFault}
 use Rattle.life_table.specs.declared.fault.RowFault.TheVariants.{Shape, Word, Twice, As, Words, Form, Life, Product}
 use Rattle.life_table.specs.Fault.{Fault}
@@ -40,10 +41,6 @@ within_form late Second life h = leb-true (life + late + 60) 86400 h
 within_form late DayMinute life h = leb-true life 2592000 h
 within_form late DaySecond life h = leb-true life 2592000 h
 
-some_if : (b : Bool) (n m : ℕ) → cond b (Some n) None ≡ Some m → (b ≡ true) × (n ≡ m)
-some_if true n m h = (refl, cc)
-some_if false n m h = absurd (cc)
-
 at_least_one : (z : ℤ) → int_lt z (pos 1) ≡ false → 1 ≤ unsigned_abs z
 at_least_one (pos n) h = ltb-false n 1 h
 at_least_one (negsuc n) h = absurd (false≢true (sym h))
@@ -51,17 +48,17 @@ at_least_one (negsuc n) h = absurd (false≢true (sym h))
 life_lives : (late : ℕ) (form : TimeForm) (life : ℤ) (n : ℕ) → life_in late form life ≡ Some n → (1 ≤ n) × IsWithinForm late form n
 life_lives late form life n h =
     let (long, rest) = some_past_test (int_lt life (pos 1)) (cond (is_within late form (unsigned_abs life)) (Some (unsigned_abs life)) None) n h in
-    let (within, same) = some_if (is_within late form (unsigned_abs life)) (unsigned_abs life) n rest in
+    let (within, same) = cond_some (is_within late form (unsigned_abs life)) (unsigned_abs life) n rest in
     (subst (λ m. 1 ≤ m) same (at_least_one life long), subst (λ m. IsWithinForm late form m) same (within_form late form (unsigned_abs life) within))
 
 two_or_three : (z : ℤ) (n : ℕ) → key_words z ≡ Some n → (n ≡ 2) ⊎ (n ≡ 3)
 two_or_three z n h =
     elim (cases_Bool (int_eq z (pos 2))) [
       | inl t ↦ let e = rw t at h in inl (cc)
-      | inr f ↦ let e = rw f at h in let (_, same) = some_if (int_eq z (pos 3)) 3 n e in inr (sym same)
+      | inr f ↦ let e = rw f at h in let (_, same) = cond_some (int_eq z (pos 3)) 3 n e in inr (sym same)
     ]
 
-own_is_new : (late : ℕ) (rows : List TextRow) (word : List ℕ) (words life form : ℤ) (r : TextRow) → own_row late rows word words life form ≡ Ok r → IsNew late rows r
+own_is_new : (late : ℕ) (rows : List TextRow) (word : List ℕ) (words life form : ℤ) (r : TextRow) → row_of_its_own late rows word words life form ≡ Ok r → IsNew late rows r
 own_is_new late rows word words life form r h =
     let (spelt, h1) = ok_past_test (not (is_word word)) Word _ r h in
     let (none, h2) = ok_past_test (is_some (find (λ q. bytes_eq q.word word) rows)) Twice _ r h1 in
@@ -125,7 +122,7 @@ radar_number : (z : ℤ) (n : ℕ) → radar_product z ≡ Some n → (n ≡ 63)
 radar_number z n h =
     elim (cases_Bool (int_eq z (pos 63))) [
       | inl t ↦ let e = rw t at h in inl (cc)
-      | inr f ↦ let e = rw f at h in let (_, same) = some_if (int_eq z (pos 64)) 64 n e in inr (sym same)
+      | inr f ↦ let e = rw f at h in let (_, same) = cond_some (int_eq z (pos 64)) 64 n e in inr (sym same)
     ]
 
 radar_is_new : (late : ℕ) (rows : List RadarRow) (value : Data) (r : RadarRow) → radar_entry late rows value ≡ Ok r → IsNewRadar late rows r

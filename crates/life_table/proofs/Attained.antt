@@ -2,7 +2,7 @@
 use Rattle.std.proofs.Common.{◌≡◌, ◌≢◌, ◌⊎◌, ◌↔◌, ℕ, ◌≤◌, ◌==◌, nat_le, Bool, true, List, [], ◌∷◌, map, filter, fold, max, Option, Some, None, refl, sym, subst, ◌∙◌, arith, inl, inr}
 use Rattle.std.specs.List.{AllByRecursion}
 use Rattle.std.specs.Str.{bytes_eq}
-use Rattle.std.proofs.lemmas.Bool.{cases_Bool, eqb-true, ne_eqb, leb-true, leb-false, false≢true}
+use Rattle.std.proofs.lemmas.Bool.{cases_Bool, eq-eqb, eqb-true, ne_eqb, leb-true, leb-false, false≢true}
 use Rattle.std.proofs.lemmas.List.Elements.{recursion_from_All}
 use Rattle.life_table.specs.LifeTable.{LifeTable, TextRow, RadarRow, radar_row, greatest_of, longest}
 use Rattle.life_table.specs.Longest.{IsLifeOf, of_text, of_radar, IsLongest}
@@ -62,9 +62,6 @@ at_most_longest t product life (of_radar row other found same) =
     let lives : List ℕ = map (λ r. r.life) first.0 in
     (fold max row.life lives, rw (ne_eqb product 413 other, first.1) refl, omega (arith, fold_above lives row.life, same))
 
-is_reports : (product : ℕ) → product ≡ 413 → (product == 413) ≡ true
-is_reports product e = rw e refl
-
 -- the longest life is that of a row that a look-up finds
 pub longest_found :
     (t : LifeTable) (product most : ℕ) → IsTable t → longest t product ≡ Some most → IsLifeOf t product most
@@ -80,7 +77,7 @@ longest_found t product most rules e =
           let all = passed (IsRadarRow t) test t.radars (recursion_from_All (IsRadarRow t) t.radars rules.all_radars) in
           let one = attained (λ r. IsRadarRow t r × (test r ≡ true)) (λ r. r.life) (filter test t.radars) most all e' in
           let same : one.row.product ≡ product = eqb-true one.row.product product one.has.1 in
-          of_radar one.row (λ is. false≢true (sym other ∙ is_reports product is))
+          of_radar one.row (λ is. false≢true (sym other ∙ eq-eqb product 413 is))
           (subst (λ p. radar_row t p ≡ Some one.row) same one.has.0.found) one.is
     ]
 

@@ -27,8 +27,8 @@ abbrev pub with_row_number : {A : Type 0} → ℕ → Result A RowFault → Resu
 with_row_number number (Ok x) = Ok x
 with_row_number number (Err reason) = Err (bad_row number reason)
 
-abbrev pub own_row : ℕ → List TextRow → List ℕ → ℤ → ℤ → ℤ → Result TextRow RowFault
-own_row late rows word words life form =
+abbrev pub row_of_its_own : ℕ → List TextRow → List ℕ → ℤ → ℤ → ℤ → Result TextRow RowFault
+row_of_its_own late rows word words life form =
     if not (is_word word) then Err Word
     else if is_some (find (λ r. bytes_eq r.word word) rows) then Err Twice
     else or_fault Words (key_words words) (λ count.
@@ -42,7 +42,7 @@ own_text late rows value =
     or_fault Shape (integer_at (codes "words") value) (λ words.
     or_fault Shape (integer_at (codes "life") value) (λ life.
     or_fault Shape (integer_at (codes "form") value) (λ form.
-    own_row late rows word words life form))))
+    row_of_its_own late rows word words life form))))
 
 -- a row that is kept as an earlier row, which is kept as itself
 abbrev pub alike_row : List TextRow → List ℕ → List ℕ → Result TextRow RowFault

@@ -165,10 +165,10 @@ fn own_text<'a>(late: u64, earlier: &[KeptText], row: &'a Value) -> Result<Judge
     let Some(form) = integer_at(row, "form") else {
         return Err(RowFault::Shape);
     };
-    own_row(late, earlier, word, words, life, form)
+    row_of_its_own(late, earlier, word, words, life, form)
 }
 
-fn own_row<'a>(
+fn row_of_its_own<'a>(
     late: u64,
     earlier: &[KeptText],
     word: &'a str,
@@ -178,7 +178,7 @@ fn own_row<'a>(
 ) -> Result<JudgedText<'a>, RowFault>
     requires { late ≤ 43200 }
     ensures { rows_of.map_answer judged_view result
-        ≡ rows_of.own_row late (map text_view earlier.now) word.now words life form }
+        ≡ rows_of.row_of_its_own late (map text_view earlier.now) word.now words life form }
 {
     if !is_word(word) {
         return Err(RowFault::Word);

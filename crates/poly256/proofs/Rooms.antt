@@ -3,6 +3,7 @@ use Rattle.std.proofs.Common.{◌≡◌, ℕ, zero, suc, ◌+◌, ◌-◌, ◌<�
 use Rattle.std.specs.Int.Bits.{bit_xor, xor_zero_r}
 use Rattle.poly256.specs.Polynomial.{element_product, sum_of, scaled_coefficients, shifted_coefficients, raised_coefficients, list_product, trimmed_coefficients}
 use Rattle.std.proofs.lemmas.List.{get_or_past, get_or-take, length-take}
+use Rattle.std.proofs.Math.Seq.{drop-length}
 use Rattle.std.proofs.lemmas.Bool.{cases_eq, cases_lt}
 use Rattle.poly256.proofs.Trims.{trimmed_from_same, trimmed_from_last}
 use Rattle.poly256.proofs.ListSums.{sum-empty_right, scaled_coefficients-cons, shifted_coefficients-sum, sum_assoc, coefficient-shifted_coefficients, coefficient-shifted_first, length-shifted_at_most}
@@ -37,10 +38,6 @@ sum-set (r ∷ room) (suc j) c rest h =
     sum-cons_shifted r (set room j (bit_xor (get_or room j 0) c)) (raised_coefficients (suc j) rest)
     ∙ ap (λ (xs : List ℕ). r ∷ xs) (sum-set room j c rest (omega arith))
     ∙ sym (sum-cons_shifted r room (raised_coefficients j (c ∷ rest)))
-
-drop-length : (list : List ℕ) → drop (length list) list ≡ []
-drop-length [] = refl
-drop-length (x ∷ xs) = drop-length xs
 
 pub drop-all : (n : ℕ) (list : List ℕ) → n ≡ length list → drop n list ≡ []
 drop-all n list e = rw e (drop-length list)

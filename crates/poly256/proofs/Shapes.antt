@@ -1,6 +1,6 @@
 -- Lists that a polynomial may have.
-use Rattle.std.proofs.Common.{◌≡◌, ℕ, zero, suc, ◌+◌, ◌<◌, ◌≤◌, List, [], ◌∷◌, length, get_or, take, replicate, min, refl, sym, ◌∙◌, ap, arith, lit<, inl, inr}
-use Rattle.std.proofs.lemmas.List.{get_or_past, get_or-take, length-take}
+use Rattle.std.proofs.Common.{◌≡◌, ℕ, ◌+◌, ◌<◌, ◌≤◌, List, [], ◌∷◌, length, get_or, take, replicate, min, sym, ◌∙◌, ap, arith, lit<, inl, inr}
+use Rattle.std.proofs.lemmas.List.{get_or_past, get_or-take, length-take, take-take}
 use Rattle.std.proofs.lemmas.Bool.{cases_lt}
 use Rattle.std.specs.Int.Bits.{bit_xor}
 use Rattle.list_members.specs.Places.{get_or-zeros}
@@ -30,13 +30,6 @@ trimmed_coefficients-IsPolynomial capacity cs low high fits bytes = record {
   no_end_zeros = trimmed_coefficients-trimmed_coefficients cs;
 }
 
-take-take : (xs : List ℕ) (m n : ℕ) → m ≤ n → take m (take n xs) ≡ take m xs
-take-take xs zero n h = refl
-take-take [] (suc m) zero h = refl
-take-take [] (suc m) (suc n) h = refl
-take-take (x ∷ xs) (suc m) zero h = absurd (omega arith)
-take-take (x ∷ xs) (suc m) (suc n) h = ap (λ (ys : List ℕ). x ∷ ys) (take-take xs m n (omega arith))
-
 -- what is kept of the front of a list
 pub kept-shape :
     (capacity bound len : ℕ) (xs : List ℕ) → 1 ≤ capacity → capacity ≤ 1024 → bound ≤ capacity
@@ -44,7 +37,7 @@ pub kept-shape :
     → (len ≤ capacity) × IsPolynomial capacity (take len xs)
 kept-shape capacity bound len xs low high room value within bytes =
     let l : length (take bound xs) ≤ bound = omega (arith, length-take bound xs) in
-    let same : take len xs ≡ trimmed_coefficients (take bound xs) = sym (take-take xs len bound (omega arith)) ∙ value in
+    let same : take len xs ≡ trimmed_coefficients (take bound xs) = sym (take-take len bound xs (omega arith)) ∙ value in
     (omega arith, (rw same (trimmed_coefficients-IsPolynomial capacity (take bound xs) low high (omega arith) bytes)))
 
 -- the front of a room that has the coefficients of a shorter list

@@ -18,7 +18,8 @@ pub(crate) fn add_list(room: &mut [u8], list: &[u8])
 #[inline]
 pub(crate) fn add_multiple(room: &mut [u8], place: usize, factor: Uat, list: &[u8])
     requires { place + length list.now ≤ length room.old }
-    ensures { room.new ≡ sum_of room.old (raised_coefficients place (scaled_coefficients factor list.now)) }
+    ensures { room.new
+        ≡ sum_of room.old (raised_coefficients place (scaled_coefficients factor list.now)) }
 {
     for (i, coefficient) in list.iter().enumerate() {
         let term = factor.mul(Uat::of(*coefficient));

@@ -1,13 +1,14 @@
 -- The empty record of a group reads back.
-use Rattle.std.proofs.Common.{◌≡◌, ℕ, zero, suc, ◌+◌, ◌-◌, ◌*◌, ◌/◌, ◌%◌, ◌^◌, ◌<◌, ◌≤◌, Bool, false, ◌==◌, cond, List, [], ◌∷◌, length, get_or, map, Ok, refl, sym, ap, ◌∙◌, arith, inl, inr}
+use Rattle.std.proofs.Common.{◌≡◌, ℕ, zero, suc, ◌+◌, ◌-◌, ◌*◌, ◌/◌, ◌%◌, ◌<◌, ◌≤◌, Bool, false, ◌==◌, cond, List, [], ◌∷◌, length, get_or, map, Ok, refl, sym, ap, ◌∙◌, arith, inl, inr}
 use Rattle.std.specs.Int.{bit_at}
 use Rattle.std.specs.List.{filter, list_any, range_with_len}
 use Rattle.std.specs.List.Sorted.{IsStrictlyIncreasing}
 use Rattle.std.proofs.lemmas.Bool.{cond-true, cond-false, cases_eq, cases_lt, eq-eqb, ne_eqb, or_left, le-ltb, lt-leb}
-use Rattle.std.proofs.lemmas.List.{take_all, length-append, length-map}
+use Rattle.std.proofs.lemmas.List.{take_all, length-append, length-map, get_or-map, get_or_past}
 use Rattle.std.proofs.lemmas.List.FromFn.{length-range_with_len, get_or-range_with_len, length-map-range_with_len, get_or-map-range_with_len}
 use Rattle.std.proofs.lemmas.List.Kept.{AllPairs-from_increasing}
-use Rattle.std.proofs.Math.Nat.{zero-div}
+use Rattle.std.proofs.lemmas.Nat.Bits.{bit_at-zero}
+use Rattle.std.proofs.lemmas.Simd.{map-map}
 use Rattle.bit_fields.specs.Bits.{field_at}
 use Rattle.radar_core.specs.declared.key.BlockKey.{BlockKey}
 use Rattle.bit_fields.specs.Bits.{bit}
@@ -31,15 +32,6 @@ map_same : {A : Type 0} (f g : ℕ → A) (xs : List ℕ) → ((k : ℕ) → k <
 map_same f g [] same = refl
 map_same f g (x ∷ xs) same =
     ap (λ y. y ∷ map f xs) (same 0 (omega arith)) ∙ ap (λ ys. g x ∷ ys) (map_same f g xs (λ k below. same (suc k) (omega arith)))
-
-map_map : {A : Type 0} (g : ℕ → A) (f : ℕ → ℕ) (xs : List ℕ) → map g (map f xs) ≡ map (λ x. g (f x)) xs
-map_map g f [] = refl
-map_map g f (x ∷ xs) = ap (λ ys. g (f x) ∷ ys) (map_map g f xs)
-
-get_or_map : (f : ℕ → ℕ) (xs : List ℕ) (k : ℕ) → k < length xs → get_or (map f xs) k 0 ≡ f (get_or xs k 0)
-get_or_map f [] k below = absurd (omega arith)
-get_or_map f (x ∷ xs) zero below = refl
-get_or_map f (x ∷ xs) (suc k) below = get_or_map f xs k (omega arith)
 
 -- whether a number is among some
 abbrev has : List ℕ → ℕ → Bool
@@ -175,9 +167,6 @@ first_bits base further fits =
     (λ low. bit_back (b 3) (bit_at (first_bitmap_byte base further) 6) are.bit6)
     (λ low. bit_back (b 4) (bit_at (first_bitmap_byte base further) 7) are.bit7)
 
-zero_bit : (j : ℕ) → bit_at 0 j ≡ 0
-zero_bit j = ap (λ n. n % 2) (zero-div (2 ^ j))
-
 -- the bytes of a bitmap, by their place
 pub length-bitmap_of : (base : ℕ) (further : List ℕ) → length (bitmap_of base further) ≡ length_for base further
 length-bitmap_of base further =
@@ -186,11 +175,6 @@ length-bitmap_of base further =
 byte_at_place : (base : ℕ) (further : List ℕ) (m : ℕ) → suc m < length_for base further → get_or (bitmap_of base further) (suc m) 0 ≡ bitmap_byte base further (suc m)
 byte_at_place base further m inside =
     get_or-map-range_with_len (bitmap_byte base further) 1 (length_for base further - 1) m (suc m) 0 (omega arith) (omega arith)
-
-past_end : (xs : List ℕ) (k : ℕ) → length xs ≤ k → get_or xs k 0 ≡ 0
-past_end [] k past = refl
-past_end (x ∷ xs) zero past = absurd (omega arith)
-past_end (x ∷ xs) (suc k) past = past_end xs k (omega arith)
 
 -- the last number of a group is the greatest
 last_greatest : (base : ℕ) (further : List ℕ) (k : ℕ) → IsGroup base further → k < length further
@@ -219,8 +203,8 @@ further_named base further o (suc m) j group some place_is bit_is =
           ap (λ n. bit_at n j == 1) (byte_at_place base further m inside) ∙ byte_bits base further (suc m) j (omega arith)
           ∙ ap (λ n. has further (base + n)) back
       | inr past ↦
-          let zeros : get_or (bitmap_of base further) (suc m) 0 ≡ 0 = past_end (bitmap_of base further) (suc m) (omega (arith, length-bitmap_of base further, past)) in
-          let unset : bit_at 0 j ≡ 0 = zero_bit j in
+          let zeros : get_or (bitmap_of base further) (suc m) 0 ≡ 0 = get_or_past (bitmap_of base further) (suc m) 0 (omega (arith, length-bitmap_of base further, past)) in
+          let unset : bit_at 0 j ≡ 0 = bit_at-zero j in
           ap (λ n. bit_at n j == 1) zeros ∙ ap (λ n. n == 1) unset
           ∙ sym
           (has_none further (base + o)
@@ -283,13 +267,13 @@ blocks_are base further group =
     let size : length (map (λ o. base.number + o) offsets) ≡ length (base.number ∷ further) = ap length all in
     let sizes : length (map (λ o. base.number + o) offsets) ≡ length offsets = length-map offsets (λ o. base.number + o) in
     let at : base.number + get_or offsets k 0 ≡ get_or (base.number ∷ further) k 0 =
-    sym (get_or_map (λ o. base.number + o) offsets k below) ∙ ap (λ (b : List ℕ). get_or b k 0) all
+    sym (get_or-map (λ o. base.number + o) offsets k 0 0 below) ∙ ap (λ (b : List ℕ). get_or b k 0) all
     in
     let ring : (base.number + get_or offsets k 0) / 450 ≡ base.number / 450 =
     ap (λ n. n / 450) at ∙ group_ring base.number further group k (omega (arith, size, sizes))
     in
     ap block (in_ring base.number (get_or offsets k 0) ring))
-    ∙ sym (map_map block (λ o. base.number + o) offsets) ∙ ap (map block) all
+    ∙ sym (map-map block (λ o. base.number + o) offsets) ∙ ap (map block) all
 
 -- the empty record of a group reads back as its blocks
 pub blank_record-back : (base : BlockKey) (further : List ℕ) → base.scale ≤ 2 → base.number < 405000 → IsGroup base.number further

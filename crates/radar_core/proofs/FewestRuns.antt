@@ -3,6 +3,7 @@ use Rattle.std.proofs.Common.{◌≡◌, ℕ, zero, suc, ◌+◌, ◌-◌, ◌<�
 use Rattle.std.specs.List.{All, flat_map}
 use Rattle.std.proofs.lemmas.Bool.{cond-true, cond-false, cases_Bool, and_parts, and_cases, eqb-true, eqb-false, ltb-true, ltb-false, cases_lt}
 use Rattle.std.proofs.lemmas.List.Elements.{All-cons, All-head, All-tail}
+use Rattle.list_members.specs.ListMembers.{heads}
 use Rattle.radar_core.specs.declared.run.Run.{Run}
 use Rattle.radar_core.specs.Runs.{FitsRun, run_cells, runs_from, longest_runs}
 use Rattle.radar_core.specs.Laws.{AreFewestRuns}
@@ -18,24 +19,18 @@ pub record Spellable (cells : List ℕ) (most : ℕ) : Type 0 where
 abbrev count : List Run → ℕ
 count runs = length runs
 
-tail_is : (x y : ℕ) (xs ys : List ℕ) → x ∷ xs ≡ y ∷ ys → xs ≡ ys
-tail_is x y xs ys e = cc
-
-head_is : (x y : ℕ) (xs ys : List ℕ) → x ∷ xs ≡ y ∷ ys → x ≡ y
-head_is x y xs ys e = cc
-
 -- a run less its first cell, where it has more than one
 shorter_by : (size intensity : ℕ) (runs : List Run) (cell : ℕ) (cells : List ℕ) (most : ℕ) → FitsRun (record { length = size; intensity = intensity })
     → All FitsRun runs → replicate size intensity ++ flat_map run_cells runs ≡ cell ∷ cells → suc (count runs) ≤ most → Spellable cells most
 shorter_by zero intensity runs cell cells most fits fit spell few = absurd (omega (arith, fits.some))
 shorter_by (suc zero) intensity runs cell cells most fits fit spell few =
-    record { runs = runs; fit = fit; spell = tail_is intensity cell (flat_map run_cells runs) cells spell; few = omega arith }
+    record { runs = runs; fit = fit; spell = (heads intensity cell (flat_map run_cells runs) cells spell).1; few = omega arith }
 shorter_by (suc (suc n)) intensity runs cell cells most fits fit spell few =
     let run : Run = record { length = suc n; intensity = intensity } in
     record {
       runs = run ∷ runs;
       fit = All-cons FitsRun run runs (record { some = omega arith; length = omega (arith, fits.length); intensity = fits.intensity }) fit;
-      spell = tail_is intensity cell (replicate (suc n) intensity ++ flat_map run_cells runs) cells spell;
+      spell = (heads intensity cell (replicate (suc n) intensity ++ flat_map run_cells runs) cells spell).1;
       few = few;
     }
 
@@ -57,14 +52,14 @@ behind (suc n) cell cells most given = behind n cell cells most (shorter cell (r
 first_same : (m n other intensity : ℕ) (xs ys : List ℕ) → replicate m other ++ xs ≡ replicate n intensity ++ ys → 1 ≤ m → 1 ≤ n → other ≡ intensity
 first_same zero n other intensity xs ys same some any = absurd (omega arith)
 first_same (suc m) zero other intensity xs ys same some any = absurd (omega arith)
-first_same (suc m) (suc n) other intensity xs ys same some any = head_is other intensity (replicate m other ++ xs) (replicate n intensity ++ ys) same
+first_same (suc m) (suc n) other intensity xs ys same some any = (heads other intensity (replicate m other ++ xs) (replicate n intensity ++ ys) same).0
 
 cell_at : (n m other intensity cell : ℕ) (xs ys : List ℕ) → replicate m other ++ xs ≡ replicate n intensity ++ cell ∷ ys → n < m → other ≡ cell
 cell_at zero zero other intensity cell xs ys same inside = absurd (omega arith)
-cell_at zero (suc m) other intensity cell xs ys same inside = head_is other cell (replicate m other ++ xs) ys same
+cell_at zero (suc m) other intensity cell xs ys same inside = (heads other cell (replicate m other ++ xs) ys same).0
 cell_at (suc n) zero other intensity cell xs ys same inside = absurd (omega arith)
 cell_at (suc n) (suc m) other intensity cell xs ys same inside =
-    cell_at n m other intensity cell xs ys (tail_is other intensity (replicate m other ++ xs) (replicate n intensity ++ cell ∷ ys) same) (omega arith)
+    cell_at n m other intensity cell xs ys (heads other intensity (replicate m other ++ xs) (replicate n intensity ++ cell ∷ ys) same).1 (omega arith)
 
 -- a run that begins cells of one intensity is no longer than they are, where other cells follow or they are as many as a run can be
 first_fits : (n m intensity cell other : ℕ) (xs ys : List ℕ) → (cell ≡ intensity → 32 ≤ n) → m ≤ 32 → replicate m other ++ xs ≡ replicate n intensity ++ cell ∷ ys
@@ -85,7 +80,7 @@ rest_of zero n intensity xs ys within same = let all : n ≡ n - 0 = omega arith
 rest_of (suc m) zero intensity xs ys within same = absurd (omega arith)
 rest_of (suc m) (suc n) intensity xs ys within same =
     let less : n - m ≡ suc n - suc m = omega arith in
-    rest_of m n intensity xs ys (omega arith) (tail_is intensity intensity (replicate m intensity ++ xs) (replicate n intensity ++ ys) same)
+    rest_of m n intensity xs ys (omega arith) (heads intensity intensity (replicate m intensity ++ xs) (replicate n intensity ++ ys) same).1
     ∙ ap (λ k. replicate k intensity ++ ys) less
 
 abbrev one_cell : ℕ → Run

@@ -153,16 +153,6 @@ written-more base further old room byte place whole so_far least inside most byt
     }
 
 -- the last number of a group
-pub last-none : (base : ℕ) (further : List ℕ) → length further ≡ 0 → base ≡ get_or (base ∷ further) (length further) 0
-last-none base [] none = refl
-last-none base (number ∷ further) none = absurd (omega arith)
-
-pub last-some : (base : ℕ) (further : List ℕ) → 0 < length further
-    → get_or further (length further - 1) 0 ≡ get_or (base ∷ further) (length further) 0
-last-some base [] some = absurd (omega arith)
-last-some base (number ∷ further) some =
-    let same : length (number ∷ further) - 1 ≡ length further = omega arith in ap (λ n. get_or (number ∷ further) n 0) same
-
 pub record IsLast (base last : ℕ) : Type 0 where
   pub least : base ≤ last
   pub most : last ≤ base + 116

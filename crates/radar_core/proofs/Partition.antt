@@ -3,6 +3,7 @@ use Rattle.std.proofs.Common.{◌≡◌, ℕ, zero, suc, ◌+◌, ◌<◌, ◌�
 use Rattle.std.specs.List.{All, filter, concat}
 use Rattle.std.specs.List.Sorted.{IsStrictlyIncreasing}
 use Rattle.std.proofs.lemmas.Bool.{cases_Bool}
+use Rattle.std.proofs.lemmas.Grind.{get_or_default_zero}
 use Rattle.std.proofs.lemmas.List.{length-drop, get_or-take, length-take-le, take-append-drop}
 use Rattle.std.proofs.lemmas.List.Elements.{All-nil, All-cons, All-head, All-drop}
 use Rattle.radar_core.specs.Blanks.{IsGroup}
@@ -32,11 +33,6 @@ prefix_of p (x ∷ xs) =
       | inr fails ↦ (0, record { most = omega arith; pass = λ k below. absurd (omega arith); stop = λ below. fails })
     ]
 
-other_default : (xs : List ℕ) (k d : ℕ) → k < length xs → get_or xs k d ≡ get_or xs k 0
-other_default [] k d below = absurd (omega arith)
-other_default (x ∷ xs) zero d below = refl
-other_default (x ∷ xs) (suc k) d below = other_default xs k d (omega arith)
-
 -- the first group, and the numbers behind it
 joined_at : (base : ℕ) (more : List ℕ) (m : ℕ) → HasPrefix (is_joined base) more m → (k : ℕ) → k < suc m → is_joined base (get_or (base ∷ more) k 0) ≡ true
 joined_at base more m prefix zero below = joined_from base base (omega arith) refl
@@ -50,7 +46,7 @@ first_split base more m rises prefix =
 
 joined_in : (base : ℕ) (more : List ℕ) (m : ℕ) → IsSplit base more m → (k d : ℕ) → k < m → is_joined base (get_or (take m more) k d) ≡ true
 joined_in base more m split k d below =
-    ap (is_joined base) (get_or-take m more k d below ∙ other_default more k d (omega (arith, split.most))) ∙ split.joined k below
+    ap (is_joined base) (get_or-take m more k d below ∙ get_or_default_zero more k d (omega (arith, split.most))) ∙ split.joined k below
 
 front_rises : (base : ℕ) (more : List ℕ) (m : ℕ) → IsStrictlyIncreasing (base ∷ more) → m ≤ length more → IsStrictlyIncreasing (base ∷ take m more)
 front_rises base more m rises most k below =

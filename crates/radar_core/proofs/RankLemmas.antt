@@ -1,5 +1,5 @@
 -- Which offsets a bitmap names, counted byte by byte.
-use Rattle.std.proofs.Common.{◌≡◌, ℕ, zero, suc, ◌+◌, ◌-◌, ◌*◌, ◌/◌, ◌%◌, ◌^◌, ◌<◌, ◌≤◌, Bool, true, false, ◌==◌, ◌||◌, cond, List, [], ◌∷◌, ◌++◌, length, slice_index, slice_get, Some, refl, sym, ap, ◌∙◌, arith, inl, inr, ◌⊎◌, zero-add}
+use Rattle.std.proofs.Common.{◌≡◌, ℕ, zero, suc, ◌+◌, ◌-◌, ◌*◌, ◌/◌, ◌%◌, ◌^◌, ◌<◌, ◌≤◌, Bool, true, false, ◌==◌, ◌||◌, cond, List, ◌∷◌, ◌++◌, length, slice_index, slice_get, Some, refl, sym, ap, ◌∙◌, arith, inl, inr, ◌⊎◌, zero-add}
 use Rattle.std.specs.Int.{bit_at}
 use Rattle.std.specs.List.{filter, count_by, range_with_len}
 use Rattle.std.proofs.lemmas.Bool.{cases_lt, true≢false, cond-true, cond-false, eq-eqb, ne_eqb}
@@ -10,6 +10,7 @@ use Rattle.std.proofs.Math.Nat.{pow-suc, div-div-eq-div-mul}
 use Rattle.std.specs.Int.RustNames.{count_ones}
 use Rattle.std.proofs.lemmas.Nat.{ones_cat, ones-le}
 use Rattle.bit_fields.specs.Bits.{bit as one_if}
+use Rattle.list_members.specs.ListMembers.{slice_get_after}
 use Rattle.radar_core.specs.Blanks.{is_named, named_offsets}
 use Rattle.radar_core.specs.Ranks.{names_at, ones_below, rank_of}
 
@@ -64,16 +65,12 @@ unfolding rank_of named_offsets
 rank_of-all bitmap = length-filter (is_named bitmap) (range_with_len 0 117)
 
 -- the number of its rank
-get_behind : (xs ys : List ℕ) (x : ℕ) → slice_get (xs ++ x ∷ ys) (length xs) ≡ Some x
-get_behind [] ys x = refl
-get_behind (a ∷ xs) ys x = get_behind xs ys x
-
 nth_kept : (p : ℕ → Bool) (xs ys : List ℕ) (x : ℕ) → p x ≡ true → slice_get (filter p (xs ++ x ∷ ys)) (count_by p xs) ≡ Some x
 nth_kept p xs ys x kept =
     ap (λ (b : List ℕ). slice_get b (count_by p xs))
     (filter-append p xs (x ∷ ys) ∙ ap (λ (b : List ℕ). filter p xs ++ b) (cond-true (p x) (x ∷ filter p ys) (filter p ys) kept))
     ∙ ap (λ n. slice_get (filter p xs ++ x ∷ filter p ys) n) (sym (length-filter p xs))
-    ∙ get_behind (filter p xs) (filter p ys) x
+    ∙ slice_get_after (filter p xs) (filter p ys) x
 
 range_at : (n k : ℕ) → k < n → range_with_len 0 n ≡ range_with_len 0 k ++ k ∷ range_with_len (k + 1) (n - k - 1)
 range_at n k inside =

@@ -3,6 +3,7 @@ use Rattle.std.proofs.Common.{ℕ, ◌+◌, ◌-◌, ◌*◌, ◌<◌, Bool, Lis
 use Rattle.std.specs.List.{All, range_with_len}
 use Rattle.std.proofs.lemmas.List.Elements.{All-nil, All-cons, All-head, All-tail, All-append}
 use Rattle.bit_fields.specs.Bits.{AreBytes}
+use Rattle.bit_fields.specs.BytesAsNumbers.{IsByte}
 use Rattle.bit_fields.specs.BitsBack.{bit_below}
 use Rattle.radar_core.specs.declared.key.BlockKey.{BlockKey}
 use Rattle.radar_core.specs.declared.run.Run.{Run}
@@ -12,9 +13,6 @@ use Rattle.radar_core.specs.Runs.{FitsRun, run_byte, longest_runs, run_record}
 use Rattle.radar_core.specs.Blanks.{IsGroup, mark, length_for, first_bitmap_byte, bitmap_byte, bitmap_of, blank_record}
 use Rattle.radar_core.proofs.ReadBack.{longest_runs-cells}
 use Rattle.radar_core.proofs.MarkLemmas.{last-of_group}
-
-abbrev IsByte : ℕ → Type 0
-IsByte byte = byte < 256
 
 three_are : (a b c : ℕ) → a < 256 → b < 256 → c < 256 → AreBytes (a ∷ b ∷ c ∷ [])
 three_are a b c p q r = All-cons IsByte a (b ∷ c ∷ []) p (All-cons IsByte b (c ∷ []) q (All-cons IsByte c [] r (All-nil IsByte)))

@@ -1,15 +1,15 @@
 -- A payload is read as the blocks that it spells, and as no others.
-use Rattle.std.proofs.Common.{◌≡◌, ℕ, zero, suc, ◌+◌, ◌*◌, ◌/◌, ◌%◌, ◌^◌, ◌<◌, ◌≤◌, Bool, true, false, ◌==◌, nat_le, nat_lt, List, [], ◌∷◌, ◌++◌, length, take, drop, get_or, map, Ok, Err, refl, sym, ap, subst, ◌∙◌, arith, inl, inr, ◌↔◌}
+use Rattle.std.proofs.Common.{◌≡◌, ℕ, zero, suc, ◌+◌, ◌*◌, ◌/◌, ◌%◌, ◌^◌, ◌<◌, ◌≤◌, Bool, true, false, ◌==◌, nat_le, nat_lt, List, [], ◌∷◌, ◌++◌, length, take, drop, get_or, map, Ok, Err, refl, sym, ap, ◌∙◌, arith, inl, inr, ◌↔◌}
 use Rattle.std.specs.Int.{bit_at}
-use Rattle.std.specs.List.{All, Contains, filter, flat_map, range_with_len}
+use Rattle.std.specs.List.{All, Contains, flat_map, range_with_len}
 use Rattle.std.specs.List.Sorted.{IsStrictlyIncreasing}
 use Rattle.std.proofs.lemmas.Bool.{cond-true, cond-false, cases_Bool, cases_eq, cases_lt, eq-eqb, eqb-true, or_left, leb-false, ltb-false, lt-leb, le-ltb}
-use Rattle.std.proofs.lemmas.List.{take_at, take-append-drop, length-append, length-drop, length-take-le}
-use Rattle.std.proofs.lemmas.List.Elements.{All-nil, All-cons, All-head, All-tail, All-drop}
+use Rattle.std.proofs.lemmas.List.{get_or_past, take_at, take-append-drop, length-append, length-drop, length-take-le}
+use Rattle.std.proofs.lemmas.List.Elements.{All-nil, All-cons, All-head, All-tail, All-drop, filter_passes}
 use Rattle.std.proofs.lemmas.List.Kept.{AllPairs-from_increasing, IsStrictlyIncreasing-filter}
 use Rattle.std.proofs.lemmas.List.FromFn.{length-range_with_len, get_or-range_with_len}
 use Rattle.std.proofs.lemmas.Option.{slice_get_within, get_or_from_slice_get}
-use Rattle.std.proofs.Math.Nat.{zero-div}
+use Rattle.std.proofs.lemmas.Nat.Bits.{bit_at-zero}
 use Rattle.bit_fields.specs.Bits.{AreBytes, field_at}
 use Rattle.radar_core.specs.declared.key.BlockKey.{BlockKey}
 use Rattle.radar_core.specs.declared.run.Run.{Run}
@@ -114,19 +114,11 @@ spelled_runs key payload blocks fits spells =
     ∙ ap (λ (b : List ℕ). Ok ((key, b) ∷ [])) back ∙ ap (λ b. Ok b) (sym spells.blocks_are)
 
 -- offsets that a bitmap names
-past_end : (xs : List ℕ) (k : ℕ) → length xs ≤ k → get_or xs k 0 ≡ 0
-past_end [] k past = refl
-past_end (x ∷ xs) zero past = absurd (omega arith)
-past_end (x ∷ xs) (suc k) past = past_end xs k (omega arith)
-
-zero_bit : (n j : ℕ) → n ≡ 0 → bit_at n j ≡ 0
-zero_bit n j none = ap (λ m. bit_at m j) none ∙ ap (λ m. m % 2) (zero-div (2 ^ j))
-
 inside_by : (bitmap : List ℕ) (place j : ℕ) → bit_at (get_or bitmap place 0) j ≡ 1 → place < length bitmap
 inside_by bitmap place j set =
     elim (cases_lt place (length bitmap)) [
       | inl inside ↦ inside
-      | inr past ↦ let none = zero_bit (get_or bitmap place 0) j (past_end bitmap place past) in absurd (omega (arith, none, set))
+      | inr past ↦ let none : bit_at (get_or bitmap place 0) j ≡ 0 = ap (λ n. bit_at n j) (get_or_past bitmap place 0 past) ∙ bit_at-zero j in absurd (omega (arith, none, set))
     ]
 
 named_from : (bitmap : List ℕ) (offset : ℕ) → is_named bitmap offset ≡ true → Names bitmap offset
@@ -151,22 +143,11 @@ names_below : (bitmap : List ℕ) (offset : ℕ) → length bitmap < 16 → Name
 names_below bitmap offset size (base none) = omega arith
 names_below bitmap offset size (further place j inside small some at set) = omega arith
 
-kept_pass : (p : ℕ → Bool) (xs : List ℕ) → All (λ x. p x ≡ true) (filter p xs)
-kept_pass p [] = All-nil (λ x. p x ≡ true)
-kept_pass p (x ∷ xs) =
-    elim (cases_Bool (p x)) [
-      | inl passes ↦
-          subst (λ (ys : List ℕ). All (λ y. p y ≡ true) ys) (sym (cond-true (p x) (x ∷ filter p xs) (filter p xs) passes))
-          (All-cons (λ y. p y ≡ true) x (filter p xs) passes (kept_pass p xs))
-      | inr fails ↦
-          subst (λ (ys : List ℕ). All (λ y. p y ≡ true) ys) (sym (cond-false (p x) (x ∷ filter p xs) (filter p xs) fails)) (kept_pass p xs)
-    ]
-
 named_offsets-to : (bitmap : List ℕ) (offset : ℕ) → Contains (named_offsets bitmap) offset → Names bitmap offset
 unfolding named_offsets
 named_offsets-to bitmap offset found =
     named_from bitmap offset
-    (ap (is_named bitmap) (sym found.2) ∙ kept_pass (is_named bitmap) (range_with_len 0 117) found.0 offset found.1)
+    (ap (is_named bitmap) (sym found.2) ∙ filter_passes (is_named bitmap) (range_with_len 0 117) found.0 offset found.1)
 
 named_offsets-from : (bitmap : List ℕ) (offset : ℕ) → length bitmap < 16 → Names bitmap offset → Contains (named_offsets bitmap) offset
 named_offsets-from bitmap offset size names =
@@ -289,7 +270,7 @@ bytes_at : (p : List ℕ) → AreBytes p → (k : ℕ) → get_or p k 0 < 256
 bytes_at p are k =
     elim (cases_lt k (length p)) [
       | inl inside ↦ are k 0 inside
-      | inr past ↦ let none = past_end p k past in omega (arith, none)
+      | inr past ↦ let none = get_or_past p k 0 past in omega (arith, none)
     ]
 
 -- the way there

@@ -13,11 +13,7 @@ set_grows f xs n v h e before i h' = elim (cases_eq i n) [
   | inr apart ↦ get_or-set_other xs n i v 0 apart ∙ before i (let lower : i < n = omega arith in lower)
 ]
 
--- the byte that is written
-pub set_here : (xs : List ℕ) (n m v : ℕ) → n ≡ m → m < length xs → get_or (set xs m v) n 0 ≡ v
-set_here xs n m v e h = ap (λ (k : ℕ). get_or (set xs m v) k 0) e ∙ get_or-set_same xs m v 0 h
-
--- the bytes behind it stay
+-- the bytes after the one that is written stay
 pub set_keeps : (xs : List ℕ) (n i v : ℕ) → n < i → get_or (set xs n v) i 0 ≡ get_or xs i 0
 set_keeps xs n i v h = get_or-set_other xs n i v 0 (λ e. absurd (omega arith))
 

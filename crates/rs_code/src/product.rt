@@ -127,7 +127,8 @@ pub(crate) fn times(first: Uat, second: Uat) -> Uat
 #[inline]
 pub(crate) fn add_product(room: &mut [u8], place: usize, factor: Uat, polynomial: &[u8])
     requires { place + length polynomial.now ≤ length room.old }
-    ensures { room.new ≡ sum_of room.old (raised_coefficients place (scaled_coefficients factor polynomial.now)) }
+    ensures { room.new
+        ≡ sum_of room.old (raised_coefficients place (scaled_coefficients factor polynomial.now)) }
 {
     field_laws::<UatTables>();
     degree_laws();

@@ -200,7 +200,7 @@ fn wrong_bytes_are_read_with_their_places(rt: HostRuntime) -> Result<(), Fail> {
 
 #[test]
 fn radar_line_gives_its_block(rt: HostRuntime) -> Result<(), Fail> {
-    let cells = repeated(rt.alloc(), "01234567", 16)?;
+    let cells = copies_of(rt.alloc(), "01234567", 16)?;
     let cells = cells.as_str();
     let line = format!(in rt.alloc(); "radar 1700000000 1699999980 2047 3 s 1048575 {cells}")?;
     match read_line(rt.alloc(), line.as_str().as_bytes())? {
@@ -249,7 +249,7 @@ fn blank_line_gives_its_numbers(rt: HostRuntime) -> Result<(), Fail> {
         }
         _ => assert!(rt; false, "blank"),
     }
-    let many = repeated(rt.alloc(), "0,", 1_024)?;
+    let many = copies_of(rt.alloc(), "0,", 1_024)?;
     let many = many.as_str();
     let long = format!(in rt.alloc(); "blank {HEAD} {many}0")?;
     match read_line(rt.alloc(), long.as_str().as_bytes())? {
@@ -261,7 +261,7 @@ fn blank_line_gives_its_numbers(rt: HostRuntime) -> Result<(), Fail> {
 
 #[test]
 fn wrong_radar_lines_are_refused(rt: HostRuntime) -> Result<(), Fail> {
-    let cells = repeated(rt.alloc(), "07", 64)?;
+    let cells = copies_of(rt.alloc(), "07", 64)?;
     let cells = cells.as_str();
     for head in [
         "1700000000 1699999980 2048 0 n",
@@ -293,7 +293,7 @@ fn wrong_radar_lines_are_refused(rt: HostRuntime) -> Result<(), Fail> {
 #[test]
 fn cells_are_128_digits_up_to_7(rt: HostRuntime) -> Result<(), Fail> {
     for (count, last) in [(127, ""), (128, "7"), (127, "8"), (127, "/"), (127, "a")] {
-        let cells = repeated(rt.alloc(), "7", count)?;
+        let cells = copies_of(rt.alloc(), "7", count)?;
         let cells = cells.as_str();
         let radar = format!(in rt.alloc(); "radar {HEAD} 0 {cells}{last}")?;
         check_refused(&rt, rt.alloc(), radar.as_str());
@@ -303,7 +303,7 @@ fn cells_are_128_digits_up_to_7(rt: HostRuntime) -> Result<(), Fail> {
 
 #[test]
 fn frame_is_1104_hexadecimal_digits(rt: HostRuntime) -> Result<(), Fail> {
-    let digits = repeated(rt.alloc(), "0aF9", 276)?;
+    let digits = copies_of(rt.alloc(), "0aF9", 276)?;
     let digits = digits.as_str();
     let rx = format!(in rt.alloc(); "rx 1700000003 {digits}")?;
     match read_line(rt.alloc(), rx.as_str().as_bytes())? {
@@ -326,7 +326,7 @@ fn frame_is_1104_hexadecimal_digits(rt: HostRuntime) -> Result<(), Fail> {
         (1_104, "00"),
         (1_104, " "),
     ] {
-        let digits = repeated(rt.alloc(), "b", count)?;
+        let digits = copies_of(rt.alloc(), "b", count)?;
         let digits = digits.as_str();
         let rx = format!(in rt.alloc(); "rx 1700000003 {digits}{last}")?;
         check_refused(&rt, rt.alloc(), rx.as_str());
@@ -348,7 +348,7 @@ fn frames_are_printed(rt: HostRuntime) -> Result<(), Fail> {
     };
     let sent = print_sent(rt.alloc(), 65_535, &frame, false)?;
     assert_eq!(rt; sent.all(), b"sent 65535 1700000001 31 2 48\n".as_slice());
-    let digits = repeated(rt.alloc(), "a5", 552)?;
+    let digits = copies_of(rt.alloc(), "a5", 552)?;
     let digits = digits.as_str();
     let line = format!(in rt.alloc(); "sent 0 1700000001 31 2 48 {digits}\n")?;
     let with_air = print_sent(rt.alloc(), 0, &frame, true)?;
@@ -375,7 +375,7 @@ fn check_refused(rt: &impl Abort, alloc: Global, line: &str) {
 }
 
 /// A text so many times.
-fn repeated(alloc: Global, text: &str, count: usize) -> Result<String, AllocError> {
+fn copies_of(alloc: Global, text: &str, count: usize) -> Result<String, AllocError> {
     let mut all = String::new(alloc);
     for _ in 0..count {
         all.push_str(text)?;

@@ -73,7 +73,7 @@ impl Lasting for Visit {
 
 /// How many values are left of one that is replaced by one that lasts longer, and of one that is
 /// replaced by one that is over sooner, when both first ones would be over, and when all are.
-fn left<K: Duplicate>(
+fn count_left<K: Duplicate>(
     alloc: Global,
     longer: K,
     longer_again: K,
@@ -96,7 +96,7 @@ fn left<K: Duplicate>(
 
 #[test]
 fn newer_values_last_to_their_own_end(rt: HostRuntime) -> Result<(), Fail> {
-    let left = left(rt.alloc(), Name(7), Name(7), Name(8), Name(8))?;
+    let left = count_left(rt.alloc(), Name(7), Name(7), Name(8), Name(8))?;
     assert_eq!(rt; left, (1, 0));
     Ok(())
 }

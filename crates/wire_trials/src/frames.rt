@@ -51,7 +51,7 @@ fn outlines(alloc: Global, payload: &[u8; 432]) -> Result<Vec<(u8, usize)>, Allo
 }
 
 // The payload of a header and of one information frame.
-fn made(header: &UplinkHeader, kind: u8, body: &[u8]) -> [u8; 432]
+fn payload_with(header: &UplinkHeader, kind: u8, body: &[u8]) -> [u8; 432]
     requires header { FitsHeader header.now }
     requires kind { 0 < kind × (kind < 16) }
     requires body { length body.now < 400 }
@@ -213,7 +213,7 @@ fn an_apdu_with_nine_bytes_begins_with_06_80(rt: HostRuntime) -> Result<(), Fail
 #[test]
 fn a_length_has_nine_bits(rt: HostRuntime) -> Result<(), Fail> {
     let body = [0x5A; 300];
-    let payload = made(&header(0, 0, 5), 5, &body);
+    let payload = payload_with(&header(0, 0, 5), 5, &body);
     assert!(rt; payload[8..11] == [0x96, 0x05, 0x5A]);
     let frame = frames(&payload).next().ok_or("no frame")?;
     assert_eq!(rt; frame.kind, 5);

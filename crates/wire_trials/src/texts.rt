@@ -54,7 +54,7 @@ fn first_character_outside_the_alphabet_is_named(rt: HostRuntime) {
 
 #[test]
 fn greatest_text_is_taken(rt: HostRuntime) -> Result<(), Fail> {
-    let greatest = repeated(rt.alloc(), 16_384)?;
+    let greatest = copies_of(rt.alloc(), 16_384)?;
     let text = greatest.as_str();
     assert_eq!(rt; text.len(), 16_384);
     let bytes = encode_text(rt.alloc(), text)?;
@@ -67,7 +67,7 @@ fn greatest_text_is_taken(rt: HostRuntime) -> Result<(), Fail> {
     assert_eq!(rt; shown.as_str(), text);
     let back = unplain(rt.alloc(), shown.as_str())?.ok_or("not read")?;
     assert_eq!(rt; back.as_str(), text);
-    let longer = repeated(rt.alloc(), 16_385)?;
+    let longer = copies_of(rt.alloc(), 16_385)?;
     let text = longer.as_str();
     assert_eq!(rt; text.len(), 16_385);
     assert!(rt; matches!(encode_text(rt.alloc(), text), Err(TextFault::TooLong)));
@@ -109,7 +109,7 @@ fn fault_says_its_cause(rt: HostRuntime) -> Result<(), Fail> {
 }
 
 /// The letter A so many times.
-fn repeated(alloc: Global, count: usize) -> Result<String, AllocError> {
+fn copies_of(alloc: Global, count: usize) -> Result<String, AllocError> {
     let mut text = String::new(alloc);
     for _ in 0..count {
         text.push('A')?;

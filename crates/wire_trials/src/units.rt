@@ -238,7 +238,7 @@ fn a_header_that_is_a_byte_too_short(rt: HostRuntime) {
 }
 
 /// The segment in a body of 7 bytes with hours and minutes, a count and a number below 256.
-fn counted(count: u8, number: u8) -> Result<Option<Seg>, ApduFault> {
+fn seg_of_body(count: u8, number: u8) -> Result<Option<Seg>, ApduFault> {
     let body = [0x06, 0x76, 0x58, 0xD0, count / 128, count % 128 * 2, number];
     read_apdu(&body).map(|apdu| apdu.seg)
 }
@@ -246,7 +246,7 @@ fn counted(count: u8, number: u8) -> Result<Option<Seg>, ApduFault> {
 #[test]
 fn segments_are_numbered_up_to_their_count(rt: HostRuntime) {
     for (count, number) in [(0, 0), (0, 1), (2, 0), (2, 3), (1, 255)] {
-        assert_eq!(rt; counted(count, number), Err(ApduFault::BadSegment));
+        assert_eq!(rt; seg_of_body(count, number), Err(ApduFault::BadSegment));
     }
     for (count, number) in [(1, 1), (2, 1), (2, 2), (255, 255)] {
         let expected = Seg {
@@ -254,7 +254,7 @@ fn segments_are_numbered_up_to_their_count(rt: HostRuntime) {
             count: u16::from(count),
             number: u16::from(number),
         };
-        assert_eq!(rt; counted(count, number), Ok(Some(expected)));
+        assert_eq!(rt; seg_of_body(count, number), Ok(Some(expected)));
     }
 }
 

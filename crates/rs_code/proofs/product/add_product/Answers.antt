@@ -1,9 +1,9 @@
 use Rattle.std.proofs.Common.{◌≡◌, ◌≤◌, ◌+◌, ℕ, length, get_or, arith, ap, ap₂, sym, ◌∙◌, inl, inr}
 use Rattle.std.specs.Int.Bits.{bit_xor}
 use Rattle.std.proofs.lemmas.Bool.{cases_eq}
+use Rattle.std.proofs.lemmas.Grind.{get_or-set_at}
 use Rattle.std.proofs.lemmas.List.{get_or-set_other}
 use Rattle.poly256.specs.Polynomial.{element_product}
-use Rattle.rs_code.proofs.Places.{set_here}
 use Rattle.rs_code.proofs.Dividing.{same_as_multiple}
 use Rattle.rs_code.proofs.product.add_product.Goals as goal
 
@@ -15,7 +15,7 @@ loop-i-preserved c =
     record {
       written = λ k h. elim (cases_eq k c.loop-i.i) [
         | inl here ↦
-            set_here c.loop-i.room (c.args.place + k) (c.args.place + c.loop-i.i) _ (omega arith) (omega arith)
+            get_or-set_at c.loop-i.room (c.args.place + c.loop-i.i) (c.args.place + k) _ 0 (omega arith) (omega arith)
             ∙ ap₂ bit_xor (c.loop-i.invariant.left (c.args.place + c.loop-i.i) (omega arith))
             (c.byte.ensures ∙ c.times.ensures.value ∙ ap (element_product c.args.factor) c.of.ensures.value)
             ∙ ap (λ (n : ℕ). bit_xor (get_or c.args.room.now (c.args.place + n) 0) (element_product c.args.factor (get_or c.args.polynomial.now n 0))) (sym here)
