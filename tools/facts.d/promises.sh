@@ -1,0 +1,54 @@
+# docs/PROMISES.md: the clauses that it names, and the goals of what was measured. The figures are those of the benches that it
+# names, which count for minutes; a figure that two documents have is compared.
+
+page=docs/PROMISES.md
+
+# each clause that the table of the program's promises names is one of `fisb_app::run`
+clauses=$(awk '/^## / { crate = $2 } /^### / { item = $2 } crate == "fisb_app" && item == "`run`" && $1 == "ensures" { print $2 }' docs/API.md)
+while read -r clause; do
+    in_order "$page, the clause $clause of run" "$(grep -x "$clause" <<< "$clauses")" "$clause"
+done < <(table "$page" '## Of the program' | cell 2 | grep -oE '`[a-z_]+`' | plain | sort -u)
+mended=$((${number[uplink_weave.block_roots]} / 2))
+message=$(definition crates/fisb_app/specs/Output.antt uplink_bytes | grep -oE '= [0-9]+' | cut -d' ' -f2)
+in_order "$page, numbers of promises" "$mended
+$message
+${number[run_core.RING_LIMIT]}" "$(table "$page" '## Of the program' | numbers 1 | sed 's/^.*: //')"
+in_order "$page, words of promises" "$(for party in link receive gdl make ground; do echo "$party: $party"; done)" "$(
+    table "$page" '## Of the program' | awk -F'\t' '$1 ~ /^`(link|ground|receive|gdl|make)`/ {
+        split($1, said, "`"); clause = $2; sub(/^[^`]*`/, "", clause); sub(/(_alone)?`.*$/, "", clause); print said[2] ": " clause }')"
+
+# goals: of receptions, of blocks of radar, of runs
+goals=$(sed -n 's/^# To reach: a reception with \([0-9]*\) reports kept takes at most \([0-9.]*\) times what it takes with \([0-9]*\), .*at most \([0-9]*\)$/\1 \2 \3 \4/p' bench/link)
+read -r many times few least <<< "$goals"
+sizes=$(sed -n 's/^ *counts=(\([0-9 ]*\))$/\1/p' bench/link | head -n 1)
+heads() { awk -v heading="$1" -v wanted="$2" '$0 == heading { inside = 1 } /^\|/ && inside && !row++ && ++count == wanted { print } !/^\|/ { row = 0 }' "$page"; }
+in_order "$page, sizes of what bench/link counts" "$sizes" "$(numbers_in "$(heads '## Measured' 1)")"
+in_order "$page, goals of bench/link" "a hear of 14 newer reports: $times $few
+the last without the code words, $(numbers_in "$(paragraph "$page" '- `uplink_bench` weaves' | grep -oE '[0-9,]+ to take a clean one')") by bench/uplink: $least $few" \
+    "$(table "$page" '## Measured' | sed 's/,\([0-9]\)/\1/g' | numbers 5)"
+in_a_frame=$(sed -n 's/^in_a_frame=//p' bench/link)
+in_order "$page, reports of a frame" "a turn: $in_a_frame
+a turn: $(numbers_in "$(sed -n 's/^# a script: so many reports of 46 characters, of which \([a-z]*\) are in a frame.*$/\1/p' bench/link)")
+a hear: $in_a_frame" "$(table "$page" '## Measured' | head -n 4 | plain | sed 's/^\(a [a-z]*\)/\1\t&/' | numbers 2 | grep -v '^a text')"
+code_words=$(numbers_in "$(table "$page" '## Measured' | sed -n 5p | cut -f1 | tr -d '\140')")
+in_order "$page, what is left without the code words" "$(table "$page" '## Measured' | sed -n 4p | cut -f2-4 | tr -d ',' |
+    awk -v code_words="$code_words" '{ print $1 - code_words, $2 - code_words, $3 - code_words }')" \
+    "$(table "$page" '## Measured' | sed -n 5p | cut -f2-4 | tr -d ',' | tr '\t' ' ')"
+radar_goals=$(tr '\n' ' ' < bench/radar | grep -oE 'at most [0-9]+ a block of an empty record, [0-9]+ where the block is kept already with this version, and [0-9]+ a run record' |
+    grep -oE '[0-9]+' | tr '\n' ' ')
+read -r new kept record <<< "$radar_goals"
+in_order "$page, goals of bench/radar" "$new
+$kept
+$record" "$(table "$page" '## Measured' 2 | cell 4 | tr -d ',' | grep . | awk '!seen[$0]++')"
+in_order "$page, goals of bench/speed" "$(sed -n 's/^    (\[\("[^]]*\)\], [^ ]*, \([0-9]*\)_000_000),$/\1 \2/p' bench/speed | sed 's/str(SEED)/'"$(sed -n 's/^SEED = //p' bench/speed)"'/; s/[",]//g')" \
+    "$(table "$page" '## Measured' 3 | cut -f1,3 | plain | tr '\t' ' ')"
+in_order "$page, the ratio of hours" "$(sed -n 's/^.*return ratio <= \([0-9.]*\)$/\1/p' bench/speed)" \
+    "$(numbers_in "$(paragraph "$page" 'So each is within its goal' | grep -oE 'where [0-9.]+ times')")"
+# the hour of bench/workload, as two documents have it: frames heard, and entries of texts and of radar together
+counted() { awk -v word="$1" '$1 == word && NF == 2 { print $2 }' docs/RECIPES.md; }
+in_order "$page, the hour of bench/workload" "$(counted heard) $(($(counted radar) + $(counted text)))" \
+    "$(paragraph "$page" '`bench/workload/compare` makes' | tr -d ',' | sed 's/^.* \([0-9]*\) frames heard .* \([0-9]*\) entries.*$/\1 \2/')"
+
+# every bench that a document names is there
+compare "benches" "$(for bench in bench/*; do echo "$bench"; done)" \
+    "$(grep -ohE '`bench/[a-z_]+' docs/*.md README.md CONTRIBUTING.md | plain | sort -u)"
