@@ -257,3 +257,8 @@ status_of() { awk -v name="$1" '$1 == name { print $2 }' <<< "$statuses"; }
 highest_intensity=$(($(sed -n 's/^  pub intensity : run.intensity < \([0-9]*\)$/\1/p' crates/radar_core/specs/Runs.antt) - 1))
 # how many cells stand in a row of a block
 row_of_cells=$(sed -n 's/^.*: four rows of \([0-9]*\) from.*$/\1/p' crates/radar_core/src/cells.rt)
+
+# rows `CRATE CALL CLAUSE .. FILE`: the clauses are built on definitions of the file
+are_built_on() {
+    in_order "$1" "$(awk -f tools/facts.d/reached.awk crates/*/specs/*.antt crates/*/src/*.rt - <<< "$2")" "$2"
+}

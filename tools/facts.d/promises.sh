@@ -8,6 +8,17 @@ clauses=$(awk '/^## / { crate = $2 } /^### / { item = $2 } crate == "fisb_app" &
 while read -r clause; do
     in_order "$page, the clause $clause of run" "$(grep -x "$clause" <<< "$clauses")" "$clause"
 done < <(table "$page" '## Of the program' | cell 2 | grep -oE '`[a-z_]+`' | plain | sort -u)
+are_built_on "$page, definitions of promises" "$(table "$page" '## Of the program' | awk -F'\t' '
+    # `spare` and `reach` are of the trait of sinks, and name no definition
+    $3 ~ /`/ && $2 !~ /`spare`/ {
+        gsub(/`/, "")
+        sub(/ and its like/, "", $2)
+        gsub(/,/, "", $2)
+        n = split($3, files, ", ")
+        folder = files[1]
+        sub(/[^\/]*$/, "", folder)
+        for (i = 1; i <= n; i++) print "fisb_app run " $2 " " (i > 1 ? folder : "") files[i]
+    }')"
 mended=$((${number[uplink_weave.block_roots]} / 2))
 message=$(definition crates/fisb_app/specs/Output.antt uplink_bytes | grep -oE '= [0-9]+' | cut -d' ' -f2)
 in_order "$page, numbers of promises" "$mended

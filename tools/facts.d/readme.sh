@@ -10,6 +10,8 @@ reads=$(
 reads=$(sed 's/ $//' <<< "$reads")
 rows=$(table README.md '## Commands')
 in_order "README.md, commands" "$(variants Command | tr 'A-Z' 'a-z')" "$(cell 1 <<< "$rows" | plain | cut -d' ' -f1)"
+in_order "README.md, the words of make" "make $(sed -n 's/^make_of \([a-z ]*\) = do$/\1/p' crates/fisb_app/specs/Command.antt | sed 's/count/n/' | tr 'a-z' 'A-Z')" \
+    "$(cell 1 <<< "$rows" | plain | grep '^make')"
 in_order "README.md, what commands read" "$reads" "$(paste -d' ' \
     <(cell 1 <<< "$rows" | plain | sed 's/ .*$//; s/$/:/') \
     <(cell 2 <<< "$rows" | grep -oE '^(table|nothing)') \
@@ -46,6 +48,28 @@ while read -r call clause; do
 done < <(table README.md '## What is promised, and proved' | cut -f2 | grep -oE '`[A-Za-z_]+::[A-Za-z_:]+`(, `[a-z_]+`)+' | awk '{
     gsub(/[`,]/, ""); n = split($0, words, " "); call = words[1]; sub(/^.*::/, "", call)
     for (i = 2; i <= n; i++) print call, words[i] }')
+
+
+# and it is built on definitions of the file that the row names
+are_built_on "README.md, definitions of promises" "$(table README.md '## What is promised, and proved' | awk -F'\t' '
+    $2 == "all" { next }
+    {
+        gsub(/`/, "")
+        file = $3
+        sub(/ .*$/, "", file)
+        calls = $2
+        if (sub(/ of run$/, "", calls)) calls = "fisb_app::run, " calls
+        n = split(calls, parts, "; ")
+        for (i = 1; i <= n; i++) {
+            gsub(/,/, "", parts[i])
+            sub(/^Ground::/, "ground_core::", parts[i])
+            sub(/^Receiver::/, "receiver_core::", parts[i])
+            sub(/::([A-Z][a-z]*::)?/, " ", parts[i])
+            crate = parts[i]
+            sub(/ .*$/, "", crate)
+            print parts[i], (file ~ /\//) ? file : crate "/specs/" file
+        }
+    }')"
 
 # the numbers of promises: how many wrong bytes a block may have, and how long a burst may be
 mended=$((${number[uplink_weave.block_roots]} / 2))
