@@ -28,6 +28,20 @@ in_order "$page, words of promises" "$(for party in link receive gdl make ground
     table "$page" '## Of the program' | awk -F'\t' '$1 ~ /^`(link|ground|receive|gdl|make)`/ {
         split($1, said, "`"); clause = $2; sub(/^[^`]*`/, "", clause); sub(/(_alone)?`.*$/, "", clause); print said[2] ": " clause }')"
 
+# bounds that the text names
+burst=$(definition crates/uplink_weave/specs/Laws.antt BurstGivesPayload | grep -oE 'first \+ [0-9]+' | cut -d' ' -f3)
+room=$(grep -oE '2 \* bytes_of before / [0-9]+ \+ [0-9]+' crates/ground_core/specs/Starving.antt | tr -cd '0-9 ' | tr -s ' ' | sed 's/^ //')
+held=crates/receiver_core/specs/Bound.antt
+bound_of() { sed -n "s/^  pub $1 : .* ≤ \([0-9a-z_]*\) \* number\$/\1/p" "$held"; }
+in_order "$page, no starvation" "$room" "$(numbers_in "$(paragraph "$page" '**No starvation.**')")"
+in_order "$page, a burst" "$burst $mended" "$(numbers_in "$(paragraph "$page" '**A burst.**')")"
+in_order "$page, what a receiver keeps" "${number[uplink_frame.frame_room]} $(bound_of numbers) $(bound_of entries) 2" \
+    "$(points "$page" '### receiver_core' | grep '^.*Proved of what it keeps' | sed 's/^/x\t/' | numbers 2 | sed 's/^x: //')"
+in_order "$page, texts of a ground" "${number[dlac_text.LONGEST_TEXT]} $(definition crates/segment_core/specs/Cutting.antt TextsHaveFewParts |
+    grep -oE '≤ [0-9]+' | cut -d' ' -f2)" "$(points "$page" '### ground_core' | grep -oE 'Texts have .* segments' | sed 's/^/x\t/' | numbers 2 | sed 's/^x: //')"
+in_order "$page, the code" "${number[uplink_weave.block_bytes]} ${number[uplink_weave.block_roots]} ${number[uplink_weave.first_root]} \
+$(sed -n 's/^  pub short : count ≤ \([0-9]*\)$/\1/p' crates/rs_code/specs/CodeWord.antt)" "$(numbers_in "$(paragraph "$page" '`Rs<N, ROOTS, FIRST>`')")"
+
 # goals: of receptions, of blocks of radar, of runs
 goals=$(sed -n 's/^# To reach: a reception with \([0-9]*\) reports kept takes at most \([0-9.]*\) times what it takes with \([0-9]*\), .*at most \([0-9]*\)$/\1 \2 \3 \4/p' bench/link)
 read -r many times few least <<< "$goals"

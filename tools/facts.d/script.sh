@@ -54,6 +54,10 @@ blank: 0
 turn: 0
 rx: ${number[uplink_weave.frame_bytes]}" "$(numbers 3 <<< "$rows")"
 
+updates=$(sed -n 's/^is_update (\([a-z]*\) .*) = true$/\1/p' crates/fisb_app/specs/Reading.antt | tr '\n' ' ')
+in_order "$page, words of what lines do" "station: ${updates}turn
+rx: $(for party in ground receive gdl; do [ "$(given_words "$party" rx)" = bytes ] && echo "$party"; done)" "$(words 3 <<< "$rows")"
+
 # the fields of lines: their ranges, and the numbers of what they are
 fields=$(table "$page" '## Input' 2)
 bytes=${number[uplink_weave.frame_bytes]}
