@@ -25,13 +25,12 @@ Ok(())" "$(documented_answers '## A ground')"
 in_order "$page, numbers of the answers of hear" "Err(Lost { block }): $mended" "$(table "$page" '## A receiver' | numbers 2)"
 in_order "$page, numbers of the answers of give_text" "Err(BadText(fault)): ${number[dlac_text.LONGEST_TEXT]}" \
     "$(table "$page" '## A ground' | numbers 2)"
-in_order "$page, a minute ahead" "$((60 / $(definition crates/ground_core/specs/Refusal.antt version_refusal |
-    grep -oE 'moment \+ [0-9]+' | cut -d' ' -f3))) minute" "$(table "$page" '## A ground' | grep -oE 'more than a minute ahead' | sed 's/more than a minute ahead/1 minute/')"
-years="$(date -u -d "@${number[fisb_time.first_moment]}" +%Y) $(date -u -d "@${number[fisb_time.last_moment]}" +%Y)"
-in_order "$page, numbers of every call" "**Moments** never: $years" \
+in_order "$page, a minute ahead" "$(number_after ground_core/Refusal version_refusal 'moment \+ ')" \
+    "$(table "$page" '## A ground' | sed -n 's/^.*more than a minute ahead.*$/60/p')"
+in_order "$page, numbers of every call" "**Moments** never: $first_year $last_year" \
     "$(points "$page" '## What holds of every call' | awk '{ print $1 " " $2 "\t" $0 }' | numbers 2)"
 in_order "$page, bytes that calls take" "${number[uplink_weave.frame_bytes]} ${number[uplink_frame.payload_length]}" \
-    "$(numbers_in "$(paragraph "$page" '`Receiver::new` takes' | grep -oE '`hear` the [0-9]+')") $(numbers_in "$(paragraph "$page" '`hear_payload` takes' | grep -oE 'takes the [0-9]+')")"
+    "$(grep -oE '`hear` the [0-9]+' "$page" | cut -d' ' -f3) $(grep -oE '^`hear_payload` takes the [0-9]+' "$page" | cut -d' ' -f4)"
 
 # each block of these pages that names a file is that file from its first doc comment on
 for page in docs/CALLING.md crates/uses/README.md; do
@@ -41,9 +40,12 @@ for page in docs/CALLING.md crates/uses/README.md; do
     done < <(sed -n 's/^```rust \(crates.*\)$/\1/p' "$page")
 done
 
-# what a row of the smaller parts names reads, writes, finds or cuts what the row says: a call of one of these words
+# each call that a row of the smaller parts names is a public one
+calls_in() { grep -oE '`[a-z0-9]+_[a-z0-9]+::[A-Za-z_:]+`' <<< "$1" | plain; }
 while IFS=$'\t' read -r what calls; do
-    in_order "docs/CALLING.md, smaller parts, $what" "$(grep -oE '`[a-z0-9]+_[a-z0-9]+::[A-Za-z_:]+`' <<< "$calls" | tr -d '`' | while IFS=: read -r crate _ name; do
-        awk -v heading="## $crate" -v item="### \`$name\`" '/^## / { inside = ($0 == heading) } inside && $0 == item { print "'"$crate::$name"'" }' docs/API.md
-    done)" "$(grep -oE '`[a-z0-9]+_[a-z0-9]+::[A-Za-z_:]+`' <<< "$calls" | tr -d '`')"
+    in_order "docs/CALLING.md, smaller parts, $what" "$(calls_in "$calls" | while IFS=: read -r crate _ name; do
+        awk -v crate="$crate" -v name="$name" '
+            /^## / { inside = ($2 == crate) }
+            inside && $0 == "### `" name "`" { print crate "::" name }' docs/API.md
+    done)" "$(calls_in "$calls")"
 done < <(table docs/CALLING.md '## Smaller parts')

@@ -156,6 +156,9 @@ done < <(
     ' crates/*/src/*.rt crates/*/specs/*.antt
 )
 
+# the file of specs/ that is named CRATE/FILE
+file_of() { echo "crates/${1%/*}/specs/${1#*/}.antt"; }
+
 # the text of a definition: its equations, in one line
 definition() {
     awk -v name="$2" '
@@ -163,8 +166,11 @@ definition() {
         /^$/ { inside = 0 }
         inside { text = text " " $0 }
         END { gsub(/ +/, " ", text); print text }
-    ' "$1"
+    ' "$(file_of "$1")"
 }
+
+# the first number after a pattern in a definition
+number_after() { definition "$1" "$2" | grep -oE "$3[0-9]+" | head -n 1 | grep -oE '[0-9]+$'; }
 
 # the fields that a definition puts side by side: width and number of each
 side_by_side() {
@@ -182,7 +188,7 @@ variants() {
 
 # the words that a definition gives to the variants of an enum, in its order: Variant word
 variant_words() {
-    sed -n "s/^$2 (\{0,1\}[a-z]*\.\{0,1\}\([A-Z][A-Za-z]*\)[a-z ]*)\{0,1\} = codes \"\([a-z]*\)\".*\$/\1 \2/p" "$1"
+    sed -n "s/^$2 (\{0,1\}[a-z]*\.\{0,1\}\([A-Z][A-Za-z]*\)[a-z ]*)\{0,1\} = codes \"\([a-z]*\)\".*\$/\1 \2/p" "$(file_of "$1")"
 }
 
 # the words of lines, in the order in which a line is defined, with that of the empty line
@@ -252,6 +258,10 @@ written_words() {
 # the exit status of an answer
 statuses=$(sed -n 's/^ *Status::\([A-Za-z]*\)\( { .. }\)\{0,1\} => \([0-9]*\),$/\1 \3/p' crates/run_core/src/status.rt)
 status_of() { awk -v name="$1" '$1 == name { print $2 }' <<< "$statuses"; }
+
+# the years of the first and of the last moment
+first_year=$(date -u -d "@${number[fisb_time.first_moment]}" +%Y)
+last_year=$(date -u -d "@${number[fisb_time.last_moment]}" +%Y)
 
 # the highest intensity of a cell, which takes three bits
 highest_intensity=$(($(sed -n 's/^  pub intensity : run.intensity < \([0-9]*\)$/\1/p' crates/radar_core/specs/Runs.antt) - 1))

@@ -18,7 +18,7 @@ for ((power = 15; power > 1; power--)); do
         powers="$powers $power"
     fi
 done
-generator=$(definition crates/rs_code/specs/CodeWord.antt power_sum | grep -oE 'element_power [0-9]+' | cut -d' ' -f2)
+generator=$(number_after rs_code/CodeWord power_sum 'element_power ')
 in_order "$page, a frame on the air" "payload: $payload $blocks $part
 blocks: $blocks 0 $((blocks - 1)) $roots $block
 order on the air: $blocks $air
@@ -28,7 +28,7 @@ byte order of a block: $((block - 1))
 corrected: $((roots / 2))" "$(table "$page" '## A frame on the air' | numbers 2)"
 
 # The header: name, width and place of each field. The page says a place in words; they are read as the first bit.
-header=$(side_by_side crates/uplink_frame/specs/UplinkFrame.antt header_bytes | awk '
+header=$(side_by_side uplink_frame/UplinkFrame header_bytes | awk '
     BEGIN {
         names["h.lat"] = "latitude"; names["h.lon"] = "longitude"; names["h.position_valid"] = "position valid"
         names["h.utc"] = "UTC coupled"; names["h.app_valid"] = "application data valid"; names["h.slot"] = "slot"
@@ -66,23 +66,23 @@ in_order "$page, sizes of the payload" "$((payload - room)) $((payload - room)) 
     "$(numbers_in "$(paragraph "$page" 'The header has')") $(numbers_in "$(paragraph "$page" 'From byte')")"
 
 # information frames
-front=$(side_by_side crates/uplink_frame/specs/UplinkFrame.antt frame_front)
+front=$(side_by_side uplink_frame/UplinkFrame frame_front)
 width_of() { awk -v name="$1" '$NF == name { print $1 }' <<< "$front"; }
 in_order "$page, an information frame" "length of the body $(width_of size)
 reserved $(width_of reserved)
 type $(width_of kind)
 body 8 times the length" "$(table "$page" '## The payload' 2 | sed 's/[,:][^\t]*//' | tr '\t' ' ')"
 in_order "$page, numbers of an information frame" "length of the body, 0 to 511: 0 $((2 ** $(width_of size) - 1))
-type: 0 is a FIS-B APDU: $(definition crates/uplink_frame/specs/UplinkFrame.antt fisb_frame | grep -oE 'kind = [0-9]+' | cut -d' ' -f3)" \
+type: 0 is a FIS-B APDU: $(number_after uplink_frame/UplinkFrame fisb_frame 'kind = ')" \
     "$(table "$page" '## The payload' 2 | numbers 1)"
 
 # the APDU: the widths of its header, and what each form makes of them
-apdu=crates/apdu_core/specs/Apdu.antt
+apdu=apdu_core/Apdu
 widths=$(side_by_side "$apdu" header_fields | cut -d' ' -f1)
 time=$(side_by_side "$apdu" time_fields)
 width_in_time() { awk -v name="t.$1" '$2 == name { print $1 }' <<< "$time"; }
 segment=$(side_by_side "$apdu" segment_fields | cut -d' ' -f1 | tr '\n' ' ' | sed 's/ $//; s/ /, /g')
-form_number() { sed -n "s/^form_number $1 = //p" "$apdu"; }
+form_number() { sed -n "s/^form_number $1 = //p" "$(file_of "$apdu")"; }
 in_order "$page, widths of an APDU" "$widths
 $(width_in_time month), $(width_in_time day)
 $(width_in_time hours), $(width_in_time minutes)
@@ -138,7 +138,8 @@ tests=crates/wire_trials/src/times.rt
 named=$(tr -d '\n_' < "$tests" | grep -oE 'let received = [0-9]+;|namedat\(&hourandminute\([0-9]+, [0-9]+\), received\), *Some\([0-9]+\)' | awk '
     /^let/ { gsub(/[^0-9]/, ""); received = $0; next }
     { gsub(/[^0-9]+/, " "); printf "0 %02d:%02d %s %s\n", $1, $2, received, $3 }')
-leap=$(tr -d '\n_' < "$tests" | grep -oE 'for received in \[[0-9]+, [0-9]+\] \{ *assert[^;]*; *namedin\(TimeForm::DayMinute, &noonof\(2, 29\), received\), *Some\([0-9]+\)' |
+leap_test='for received in \[[0-9]+, [0-9]+\] \{ *assert[^;]*; *namedin\(TimeForm::DayMinute, &noonof\(2, 29\), received\), *Some\([0-9]+\)'
+leap=$(tr -d '\n_' < "$tests" | grep -oE "$leap_test" |
     awk '{ gsub(/[^0-9]+/, " "); print "2 29 February 12:00", $2, $NF }')
 in_order "$page, moments that times name" "$named
 $leap" "$(table "$page" '## The APDU' 3 | awk -F'\t' '{ sub(/:/, "", $1); sub(/ .*/, "", $2); sub(/,.*/, "", $3); print $1, $2, $3 }')"
@@ -155,11 +156,11 @@ $(date -u -d "@$(awk '{ print $5 }' <<< "$leap")" +%Y) $(date -u -d "@$(awk '{ p
         sed "s/day\$/$(($(awk 'NR == 3 { print $4 - $3 }' <<< "$named")))/")"
 
 # the six-bit codes, by the numbers of their characters
-alphabet=$(definition crates/dlac_text/specs/Alphabet.antt code_of)
+alphabet=$(definition dlac_text/Alphabet code_of)
 letters=$(grep -oE 'is_in_range [0-9]+ [0-9]+ character then character - [0-9]+' <<< "$alphabet" | tr -cd '0-9 ' | tr -s ' ')
 read -r first last below <<< "$letters"
 code_of() { grep -oE "character == $1 then [0-9]+" <<< "$alphabet" | grep -oE '[0-9]+$'; }
-itself=$(definition crates/dlac_text/specs/Alphabet.antt is_in_alphabet | grep -oE 'is_in_range [0-9]+ [0-9]+' | sed -n 2p | cut -d' ' -f2,3)
+itself=$(definition dlac_text/Alphabet is_in_alphabet | grep -oE 'is_in_range [0-9]+ [0-9]+' | sed -n 2p | cut -d' ' -f2,3)
 letter() { printf "\\$(printf %03o "$1")"; }
 in_order "$page, codes" "${number[dlac_text.END]} and ${number[dlac_text.OTHER_END]}	the end of a report
 $((first - below)) to $((last - below))	$(letter "$first") to $(letter "$last")
@@ -172,27 +173,29 @@ in_order "$page, numbers of codes" "27: U+001A
 ${number[dlac_text.TAB]}: 0 63" "$(table "$page" '## Text in six-bit codes' | numbers 2)"
 
 # radar records: the first three bytes, the bitmap, the faults
-front=$(side_by_side crates/radar_core/specs/Keys.antt front_bytes)
+front=$(side_by_side radar_core/Keys front_bytes)
 in_order "$page, the front of a radar record" "$(cut -d' ' -f1 <<< "$front")" "$(table "$page" '## Radar records' | cell 2)"
-in_order "$page, names at the front of a radar record" "$(sed 's/^[0-9]* //; s/bit is_run/run flag/; s/bit key.south/hemisphere/; s/key.scale/scale/; s/key.number/block number/' <<< "$front")" \
+in_order "$page, names at the front of a radar record" "$(sed 's/^[0-9]* //; s/bit is_run/run flag/; s/bit key.south/hemisphere/
+    s/key.scale/scale/; s/key.number/block number/' <<< "$front")" \
     "$(table "$page" '## Radar records' | cell 1 | sed 's/[:,].*//')"
 largest_scale=$(sed -n 's/^  pub scale : key.scale ≤ \([0-9]*\)$/\1/p' crates/radar_core/specs/Keys.antt)
-in_order "$page, numbers at the front of a radar record" "run flag: $(definition crates/radar_core/specs/Keys.antt is_run_in | grep -oE '== [0-9]+' | cut -d' ' -f2) 0
+in_order "$page, numbers at the front of a radar record" "run flag: $(number_after radar_core/Keys is_run_in '== ') 0
 hemisphere: 1
 scale: 0 $largest_scale" "$(table "$page" '## Radar records' | numbers 1 | sed 's/, [^:]*:/:/; s/:[^:]*:/:/')"
 
 # the offset of a bit of the bitmap, as `is_named` has it: bit j of byte i is offset 8 i + j less this
-less=$(definition crates/radar_core/specs/Blanks.antt is_named | grep -oE 'offset \+ [0-9]+\) / 8' | tr -cd '0-9 ' | cut -d' ' -f3)
-front_bits=$(seq -s ' ' $((less + 1)) 7)
-in_order "$page, bits and offsets" "byte 3: $(for bit in $front_bits; do printf '0x%02X ' $((1 << bit)); done)L 1 more is $(for bit in $front_bits; do echo -n "$((bit - less)) "; done)
-byte 3 + i: from 1 to L 1: 0x01 0x02 .. 0x80 is 8i $less, 8i $((less - 1)), .. 8i $((7 - less)) " "$(table "$page" '## Radar records' 2 | sed '
+less=$(definition radar_core/Blanks is_named | grep -oE 'offset \+ [0-9]+\) / 8' | tr -cd '0-9 ' | cut -d' ' -f3)
+front_masks=$(for ((bit = less + 1; bit < 8; bit++)); do printf '0x%02X ' $((1 << bit)); done)
+front_offsets=$(for ((bit = less + 1; bit < 8; bit++)); do echo -n "$((bit - less)) "; done)
+in_order "$page, bits and offsets" "byte 3: ${front_masks}L 1 more is $front_offsets
+byte 3 + i: i is 1 to L - 1: 0x01 0x02 .. 0x80 is 8i - $less, 8i - $((less - 1)), .. 8i + $((7 - less))" "$(table "$page" '## Radar records' 2 | sed '
     1s/^byte 3: \(.*\), if L is 1 or more\t\(.*\)$/byte 3: \1 L 1 more is \2 /
     1s/,//g
-    2s/^byte 3 + i, for i from 1 to L − 1: \(.*\), \.\. \(.*\)\t8i − \([0-9]*\), 8i − \([0-9]*\), \.\. 8i + \([0-9]*\)$/byte 3 + i: from 1 to L 1: \1 .. \2 is 8i \3, 8i \4, .. 8i \5 /
-    2s/0x01, /0x01 /')"
+    2s/^byte 3 + i, for i from 1 to L − 1: 0x01, \(.*\), \.\. \(.*\)\t/byte 3 + i: i is 1 to L - 1: 0x01 \1 .. \2 is /
+    2s/−/-/g')"
 faults=$(table "$page" '## Radar records' 3)
 in_order "$page, faults of radar" "$(variants RadarFault)" "$(cell 1 <<< "$faults" | plain)"
-radar=$(definition crates/radar_core/specs/Radar.antt radar_blocks)
+radar=$(definition radar_core/Radar radar_blocks)
 in_order "$page, numbers of faults of radar" "Short: $(grep -oE 'length payload\) [0-9]+' <<< "$radar" | cut -d' ' -f3)
 BadScale: $((largest_scale + 1))
 RunsNot128: ${number[radar_core.CELLS]}
@@ -219,9 +222,10 @@ done < <(table "$page" '## Radar records' 4 | plain)
 # damages of messages
 damages=$(table "$page" '## Messages to displays')
 in_order "$page, damages" "$(variants Damage)" "$(cell 1 <<< "$damages" | plain)"
-hex() { printf '%X' "$1"; }
+hex() { printf '%X ' "$1"; }
 reading=crates/gdl90_core/specs/Reading.antt
-in_order "$page, numbers of damages" "a $(hex "${number[gdl90_core.ESCAPE]}") is not followed by $(hex "${number[gdl90_core.ESCAPED_ESCAPE]}") or $(hex "${number[gdl90_core.ESCAPED_FLAG]}")
+read -r escape escaped_escape escaped_flag <<< "$(for name in ESCAPE ESCAPED_ESCAPE ESCAPED_FLAG; do hex "${number[gdl90_core.$name]}"; done)"
+in_order "$page, numbers of damages" "a $escape is not followed by $escaped_escape or $escaped_flag
 $(sed -n 's/^BytesSay bytes (damaged Short) = length bytes < //p' "$reading")
 $(sed -n 's/^BytesSay bytes (damaged TooLong) = \([0-9]*\) < length bytes$/\1/p' "$reading")
 2" "$(cell 2 <<< "$damages" | sed -n 1p)

@@ -1,9 +1,9 @@
 # docs/LIFE_TABLE.md: keys and their values, the default table, and the faults of rows.
 
 page=docs/LIFE_TABLE.md
-document=crates/life_table/specs/Document.antt
+document=life_table/Document
 rules=crates/life_table/specs/Rules.antt
-rows_of=crates/life_table/specs/RowsOf.antt
+rows_of=life_table/RowsOf
 
 # the first number after a text in a definition
 after_text() { grep -oE "$1[0-9]+" <<< "$2" | head -n 1 | grep -oE '[0-9]+$'; }
@@ -65,16 +65,17 @@ in_order "$page, the lives of the default table" "$(hours 'type = "METAR"') $(ho
 $(($(life_of 'product = 63') / 60)) $(($(life_of 'product = 64') / 60)) of a day $((24 * 3600 / $(life_of 'type = "WINDS"')))" \
     "$(numbers_in "$(paragraph "$page" 'So a METAR lives')") of a day $(grep -cE 'winds a day;' "$page")"
 metar=$(paragraph "$page" '**What a life means.**' | grep -oE '[0-9]+:[0-9:]+' | tr '\n' ' ')
-in_order "$page, the last second of a METAR" "22:13:00 $(date -u -d "2023-11-14 22:13:00 UTC $(($(life_of 'type = "METAR"') - 1)) seconds" +%H:%M:%S) " "$metar"
+seconds=$(($(life_of 'type = "METAR"') - 1))
+in_order "$page, the last second of a METAR" "22:13:00 $(date -u -d "2023-11-14 22:13:00 UTC $seconds seconds" +%H:%M:%S) " "$metar"
 
 # The faults of rows: each with its word; in the order in which each kind of row is looked at, and, where no row has both, in
 # that of their declaration. `product` is declared last and looked at before `twice`.
 faults=$(table "$page" '## Refusals')
 named=$(awk -F'\t' '{ gsub(/`/, "", $1); print $5, $1 }' <<< "$faults")
 in_order "$page, faults of rows" "$(variants RowFault | grep -vx Product | while read -r name; do
-    variant_words crates/refusal_core/specs/Refusal.antt row_word | grep "^$name "
+    variant_words refusal_core/Refusal row_word | grep "^$name "
 done)" "$(grep -v '^Product ' <<< "$named")"
-in_order "$page, the fault of a product" "$(variant_words crates/refusal_core/specs/Refusal.antt row_word | grep '^Product '
+in_order "$page, the fault of a product" "$(variant_words refusal_core/Refusal row_word | grep '^Product '
     echo Twice)" "$(grep -A1 '^Product ' <<< "$named" | sed 's/^Twice.*/Twice/')"
 faults_in() {
     local file=$1

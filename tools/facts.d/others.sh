@@ -12,25 +12,25 @@ while IFS=$'\t' read -r word means place standard; do
 done < <(grep -E '^\|.*\| `[a-z0-9_]+` [A-Za-z]+: [A-Za-z_]+ \|' docs/GLOSSARY.md | sed 's/^| *//; s/ *|$//; s/ *| */\t/g')
 
 # the numbers in what its words mean
-code_bits=$(definition crates/dlac_text/specs/SixBitFields.antt AreFields | grep -oE '[0-9]+$')
+code_bits=$(definition dlac_text/SixBitFields AreFields | grep -oE '[0-9]+$')
 air=${number[uplink_weave.frame_bytes]}
 roots=${number[uplink_weave.block_roots]}
 block=${number[uplink_weave.block_bytes]}
 forms=$(sed -n 's/^form_number [A-Za-z]* = //p' crates/apdu_core/specs/Apdu.antt)
-in_order "docs/GLOSSARY.md, numbers" "moment: 1970 $(date -u -d "@${number[fisb_time.first_moment]}" +%Y) $(date -u -d "@${number[fisb_time.last_moment]}" +%Y)
+in_order "docs/GLOSSARY.md, numbers" "moment: 1970 $first_year $last_year
 time form: $(head -n 1 <<< "$forms") $(tail -n 1 <<< "$forms")
 field: 256 ${number[gf256_core.UAT_MODULUS]}
-power sum: $(definition crates/rs_code/specs/CodeWord.antt power_sum | grep -oE 'element_power [0-9]+' | cut -d' ' -f2)
+power sum: $(number_after rs_code/CodeWord power_sum 'element_power ')
 code word: $(sed -n 's/^  pub sums : .*power_sum word j ≡ \([0-9]*\)$/\1/p' crates/rs_code/specs/CodeWord.antt)
 near: $((roots / 2)) $block
 block: $block $((air / block))
 woven: $air $((air / block))
 slot: 0 $(($(sed -n 's/^  pub slot : h.slot < \([0-9]*\)$/\1/p' crates/uplink_frame/specs/UplinkFrame.antt) - 1))
-APDU: $(definition crates/uplink_frame/specs/UplinkFrame.antt fisb_frame | grep -oE 'kind = [0-9]+' | cut -d' ' -f3)
+APDU: $(number_after uplink_frame/UplinkFrame fisb_frame 'kind = ')
 product: ${number[life_table.text_product]} ${number[life_table.regional_radar]} ${number[life_table.conus_radar]}
 DLAC: $code_bits
 report: 2
-plain text: $(printf 'U+%04X' "$(definition crates/dlac_text/specs/Plain.antt plain_character | grep -oE 'character == [0-9]+' | sed -n 2p | cut -d' ' -f3)")
+plain text: $(printf 'U+%04X' "$(definition dlac_text/Plain plain_character | grep -oE 'character == [0-9]+' | sed -n 2p | cut -d' ' -f3)")
 radar block: ${number[radar_core.CELLS]}
 cells: ${number[radar_core.CELLS]} 0 $highest_intensity
 file number: ${number[ground_core.FILE_NUMBERS]}
@@ -66,8 +66,7 @@ gf256_core: 256
 uplink_weave: $air
 uplink_vectors: $(grep -cE "^($(grep '^uplink_vectors:' <<< "$lists" | cut -d: -f2 | sed 's/ uplink_frame//; s/^ //; s/ /|/g')):" <<< "$lists")
 uses: $(grep -E '^(pub )?mod [a-z]*;$' crates/uses/src/lib.rt | grep -vc tests)" "$(numbers 2 <<< "$crates")"
-without=$(awk '/^### / { inside = ($0 == "### Crates without promises") } /^## / { inside = 0 } inside' docs/PROMISES.md | tr '\n' ' ' | sed 's/ - /\n- /g' |
-    sed -n 's/^- \(.*\)/\1/p' | sed 's/ \(has\|have\|are\|is\|weaves\) .*//' | grep -oE '`[a-z0-9_]+`' | plain)
+without=$(points docs/PROMISES.md '### Crates without promises' | sed 's/ \(has\|have\|are\|is\|weaves\) .*//' | grep -oE '`[a-z0-9_]+`' | plain)
 compare "docs/PROMISES.md, crates" "$(cut -d: -f1 <<< "$lists")" "$(awk '/^### [a-z0-9_]+$/ { print $2 }' docs/PROMISES.md; echo "$without")"
 
 # the examples: exit statuses, and the numbers of what they show
@@ -87,7 +86,7 @@ long_text: $(awk '$1 == "text" { $1 = $2 = $3 = ""; print length($0) - 3 - gsub(
 damaged_frames: $(sed -n 2p <<< "$wrong") $(sed -n '$p' <<< "$wrong")
 two_stations: $(lines_in two_stations station)
 own_table: $(sed -n 's/^words = \(3\)$/\1/p' examples/own_table.txt)
-no_table: $(tr -cd - <<< "$(definition crates/run_core/specs/Opening.antt is_table_end | cut -d'"' -f2)" | wc -c) $(cut -d' ' -f2 examples/no_table.out)
+no_table: $(tr -cd - <<< "$(definition run_core/Opening is_table_end | cut -d'"' -f2)" | wc -c) $(cut -d' ' -f2 examples/no_table.out)
 radar: $(awk '$1 == "blank" { print split($7, list, ",") }' examples/radar.txt) $(awk '$1 == "picture" { print $3 }' examples/radar.out)
 rain_moves: $(lines_in rain_moves show)
 received_metar: $(lines_in received_metar rx)
@@ -108,7 +107,9 @@ done
 
 # each public call that a document names by its crate stands in docs/API.md, in the part of that crate
 while IFS=: read -r crate name; do
-    found=$(awk -v heading="## $crate" -v item="^### .(laws::)?$name." '/^## / { inside = ($0 == heading) } inside && $0 ~ item { print "public"; exit }' docs/API.md)
+    found=$(awk -v crate="$crate" -v item="^### .(laws::)?$name." '
+        /^## / { inside = ($2 == crate) }
+        inside && $0 ~ item { print "public"; exit }' docs/API.md)
     in_order "the call $crate::$name" "${found:-not there}" public
 done < <(
     grep -ohE '`[a-z0-9_]+::[A-Za-z_:]+`' README.md CONTRIBUTING.md docs/SCRIPT.md docs/FORMATS.md docs/LIFE_TABLE.md docs/PROMISES.md \
@@ -117,8 +118,15 @@ done < <(
 )
 
 # blocks of documents that are parts of examples
-block_after() { awk -v start="$2" 'code && $0 == "```" { code = 0; if (seen) exit; next } /^```/ { code = 1; next } code && $0 == start { seen = 1 } seen && code { print }' "$1"; }
-in_order "docs/SCRIPT.md, the first script" "$(tail -n +2 examples/one_metar.txt)" "$(block_after docs/SCRIPT.md 'text 1700000000 1699999980 METAR KSEA')"
+block_after() {
+    awk -v start="$2" '
+        code && $0 == "```" { code = 0; if (seen) exit; next }
+        /^```/ { code = 1; next }
+        code && $0 == start { seen = 1 }
+        seen && code' "$1"
+}
+in_order "docs/SCRIPT.md, the first script" \
+    "$(tail -n +2 examples/one_metar.txt)" "$(block_after docs/SCRIPT.md "$(sed -n 2p examples/one_metar.txt)")"
 in_order "docs/SCRIPT.md, its output" "$(cat examples/one_metar.out)" "$(block_after docs/SCRIPT.md "$(head -n 1 examples/one_metar.out)")"
 in_order "docs/RECIPES.md, heard and lost" "$(grep -E '^(heard|lost)' examples/received_metar.out)" \
     "$(block_after docs/RECIPES.md '$ bench/decoder < examples/received_metar.txt' | grep -E '^heard|^lost [0-9]+ ')"

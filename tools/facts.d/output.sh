@@ -20,7 +20,7 @@ written_fields() {
         }' | sed "$4"
 }
 
-printed=crates/script_core/specs/Printed.antt
+printed=script_core/Printed
 corrected=$(sed -n 's/^  pub six : length counts ≡ \([0-9]*\)$/\1/p' crates/uplink_weave/specs/Woven.antt)
 each_block=$(for ((block = 0; block < corrected; block++)); do echo -n " C$block"; done)
 sent=$(written_fields "$printed" sent_line sent 's/ AIR$//')
@@ -34,8 +34,8 @@ forms=$(
     written_fields "$printed" picture_head picture 's/^picture/picture = "picture"/'
     written_fields "$printed" entry_text text 's/^text/entry = "text"/; s/KIND/TYPE/; s/THIRD/[ THIRD ]/; s/CHARS/REPORT/'
     written_fields "$printed" entry_text radar 's/^radar/entry = "radar"/; s/SOUTH/HEMI/; s/INTENSITIES/CELLS/'
-    written_fields crates/refusal_core/specs/Refusal.antt refusal_text refused 's/^refused/refused = "refused"/'
-    written_fields crates/fisb_app/specs/Make.antt summary_text make 's/^make/summary = "make"/; s/COUNT/N/; s/UPDATES/U/; s/TURNS/T/
+    written_fields refusal_core/Refusal refusal_text refused 's/^refused/refused = "refused"/'
+    written_fields fisb_app/Make summary_text make 's/^make/summary = "make"/; s/COUNT/N/; s/UPDATES/U/; s/TURNS/T/
         s/HEARD/H/; s/LOST/L/; s/CORRECTED/C/; s/ENTRIES/E/'
 )
 in_order "$page, the forms of lines out" "$forms" "$(grammar "$page" 2 | sed 's/ (in [a-z]*)$//' | awk '
@@ -66,7 +66,7 @@ turn: $(given_by turn)
 hear rx receive: $(given_by hear)
 rx gdl: $(given_by rx gdl)
 show: $(given_by show)
-a line at fault: $(definition crates/refusal_core/specs/Refusal.antt refusal_text | grep -oE 'codes "[a-z]+"' | cut -d'"' -f2) gdl" "$(
+a line at fault: $(definition refusal_core/Refusal refusal_text | grep -oE 'codes "[a-z]+"' | cut -d'"' -f2) gdl" "$(
     table "$page" '## Output' | awk -F'\t' '
         { sub(/^empty/, "`empty`", $1); sub(/^none$/, "`none`", $2); sub(/as many entries/, "`entries`", $2) }
         $2 ~ /^no line: the bytes of a message/ && $2 ~ /nothing if the frame is lost$/ { $2 = "`bytes`" }
@@ -89,20 +89,22 @@ in_order "$page, what hear and rx of receive give" "$(given_by hear)" "$(given_b
 # the ranges and numbers of the fields
 fields=$(table "$page" '## Output' 2)
 last_block=$((corrected - 1))
+most_words=$(sed -n 's/^  pub words : .*(row.words ≡ \([0-9]*\))$/\1/p' crates/life_table/specs/Rules.antt)
 in_order "$page, numbers of fields out" "INDEX: 0
 BODIES, USED: 0 ${number[uplink_frame.frame_room]}
 AIR: ${number[uplink_weave.frame_bytes]} $((2 * ${number[uplink_weave.frame_bytes]}))
 C0 to C5: $corrected 0 $((${number[uplink_weave.block_roots]} / 2))
 BLOCK: 0 $last_block
-TYPE, PLACE, THIRD: $(sed -n 's/^  pub words : .*(row.words ≡ \([0-9]*\))$/\1/p' crates/life_table/specs/Rules.antt)
+TYPE, PLACE, THIRD: $most_words
 LINE: 1" "$(numbers 2 <<< "$fields")"
 named=$(cut -f1 <<< "$fields" | sed "s/C0 to C$last_block/${each_block# }/" | tr -d ',' | tr ' ' '\n')
-in_order "$page, names of fields out" "$(
-    # those of the lines out that no line in has, each once
-    grammar "$page" 2 | grep -oE '\b[A-Z][A-Z0-9]*\b' | sort -u | grep -vxF "$(grammar "$page" 1 | grep -oE '\b[A-Z]+\b' | grep -vxE 'SLOT|SITE|VERSION|REPORT|PLACE')" |
-        grep -vxE 'WORD|KIND|PRODUCT|LENGTH|COUNT|REASON|N|SEED|HEMI' | sort
-)" "$(sort <<< "$named")"
-in_order "$page, words of fields out" "TYPE, PLACE, THIRD: words = $(sed -n 's/^  pub words : .*(row.words ≡ \([0-9]*\))$/\1/p' crates/life_table/specs/Rules.antt)
-REPORT: $(definition crates/dlac_text/specs/Plain.antt plain_character | grep -oE '92 ∷ [0-9]+' | awk '{ printf "%s\\%c", (NR > 1 ? " " : ""), $3 }')" "$(words 2 <<< "$fields")"
+# those of the lines out that no line in has or that mean another thing there, without what other sections of the page tell
+known=$(grammar "$page" 1 | grep -oE '\b[A-Z]+\b' | grep -vxE 'SLOT|SITE|VERSION|REPORT|PLACE')
+elsewhere='WORD|KIND|PRODUCT|LENGTH|COUNT|REASON|N|SEED|HEMI'
+in_order "$page, names of fields out" \
+    "$(grammar "$page" 2 | grep -oE '\b[A-Z][A-Z0-9]*\b' | sort -u | grep -vxF "$known" | grep -vxE "$elsewhere")" "$(sort <<< "$named")"
+escapes=$(definition dlac_text/Plain plain_character | grep -oE '92 ∷ [0-9]+' | awk '{ printf " \\%c", $3 }')
+in_order "$page, words of fields out" "TYPE, PLACE, THIRD: words = $most_words
+REPORT:$escapes" "$(words 2 <<< "$fields")"
 in_order "$page, numbers of a lost reception" "$((${number[uplink_weave.block_roots]} / 2))" \
     "$(numbers_in "$(paragraph "$page" 'A reception is `lost`' | grep -oE '^.* places.')")"

@@ -20,7 +20,7 @@ are_built_on "$page, definitions of promises" "$(table "$page" '## Of the progra
         for (i = 1; i <= n; i++) print "fisb_app run " $2 " " (i > 1 ? folder : "") files[i]
     }')"
 mended=$((${number[uplink_weave.block_roots]} / 2))
-message=$(definition crates/fisb_app/specs/Output.antt uplink_bytes | grep -oE '= [0-9]+' | cut -d' ' -f2)
+message=$(number_after fisb_app/Output uplink_bytes '= ')
 in_order "$page, numbers of promises" "$mended
 $message
 ${number[run_core.RING_LIMIT]}" "$(table "$page" '## Of the program' | numbers 1 | sed 's/^.*: //')"
@@ -29,27 +29,27 @@ in_order "$page, words of promises" "$(for party in link receive gdl make ground
         split($1, said, "`"); clause = $2; sub(/^[^`]*`/, "", clause); sub(/(_alone)?`.*$/, "", clause); print said[2] ": " clause }')"
 
 # bounds that the text names
-burst=$(definition crates/uplink_weave/specs/Laws.antt BurstGivesPayload | grep -oE 'first \+ [0-9]+' | cut -d' ' -f3)
+burst=$(number_after uplink_weave/Laws BurstGivesPayload 'first \+ ')
 room=$(grep -oE '2 \* bytes_of before / [0-9]+ \+ [0-9]+' crates/ground_core/specs/Starving.antt | tr -cd '0-9 ' | tr -s ' ' | sed 's/^ //')
 held=crates/receiver_core/specs/Bound.antt
 bound_of() { sed -n "s/^  pub $1 : .* ≤ \([0-9a-z_]*\) \* number\$/\1/p" "$held"; }
 in_order "$page, no starvation" "$room" "$(numbers_in "$(paragraph "$page" '**No starvation.**')")"
 in_order "$page, a burst" "$burst $mended" "$(numbers_in "$(paragraph "$page" '**A burst.**')")"
 in_order "$page, what a receiver keeps" "${number[uplink_frame.frame_room]} $(bound_of numbers) $(bound_of entries) 2" \
-    "$(points "$page" '### receiver_core' | grep '^.*Proved of what it keeps' | sed 's/^/x\t/' | numbers 2 | sed 's/^x: //')"
-in_order "$page, texts of a ground" "${number[dlac_text.LONGEST_TEXT]} $(definition crates/segment_core/specs/Cutting.antt TextsHaveFewParts |
-    grep -oE '≤ [0-9]+' | cut -d' ' -f2)" "$(points "$page" '### ground_core' | grep -oE 'Texts have .* segments' | sed 's/^/x\t/' | numbers 2 | sed 's/^x: //')"
-in_order "$page, the code" "${number[uplink_weave.block_bytes]} ${number[uplink_weave.block_roots]} ${number[uplink_weave.first_root]} \
-$(sed -n 's/^  pub short : count ≤ \([0-9]*\)$/\1/p' crates/rs_code/specs/CodeWord.antt)" "$(numbers_in "$(paragraph "$page" '`Rs<N, ROOTS, FIRST>`')")"
+    "$(numbers_in "$(points "$page" '### receiver_core' | grep 'Proved of what it keeps')")"
+in_order "$page, texts of a ground" "${number[dlac_text.LONGEST_TEXT]} $(number_after segment_core/Cutting TextsHaveFewParts '≤ ')" \
+    "$(numbers_in "$(points "$page" '### ground_core' | grep -oE 'Texts have .* segments')")"
+longest=$(sed -n 's/^  pub short : count ≤ \([0-9]*\)$/\1/p' crates/rs_code/specs/CodeWord.antt)
+in_order "$page, the code" "${number[uplink_weave.block_bytes]} ${number[uplink_weave.block_roots]} ${number[uplink_weave.first_root]} $longest" \
+    "$(numbers_in "$(paragraph "$page" '`Rs<N, ROOTS, FIRST>`')")"
 
 # goals: of receptions, of blocks of radar, of runs
-goals=$(sed -n 's/^# To reach: a reception with \([0-9]*\) reports kept takes at most \([0-9.]*\) times what it takes with \([0-9]*\), .*at most \([0-9]*\)$/\1 \2 \3 \4/p' bench/link)
-read -r many times few least <<< "$goals"
+read -r _ times few _ least <<< "$(grep '^# To reach: a reception' bench/link | numbers 1 | sed 's/^.*: //')"
 sizes=$(sed -n 's/^ *counts=(\([0-9 ]*\))$/\1/p' bench/link | head -n 1)
-heads() { awk -v heading="$1" -v wanted="$2" '$0 == heading { inside = 1 } /^\|/ && inside && !row++ && ++count == wanted { print } !/^\|/ { row = 0 }' "$page"; }
-in_order "$page, sizes of what bench/link counts" "$sizes" "$(numbers_in "$(heads '## Measured' 1)")"
+in_order "$page, sizes of what bench/link counts" "$sizes" "$(numbers_in "$(grep '^| | [0-9]* reports' "$page")")"
+clean=$(numbers_in "$(paragraph "$page" '- `uplink_bench` weaves' | grep -oE '[0-9,]+ to take a clean one')")
 in_order "$page, goals of bench/link" "a hear of 14 newer reports: $times $few
-the last without the code words, $(numbers_in "$(paragraph "$page" '- `uplink_bench` weaves' | grep -oE '[0-9,]+ to take a clean one')") by bench/uplink: $least $few" \
+the last without the code words, $clean by bench/uplink: $least $few" \
     "$(table "$page" '## Measured' | sed 's/,\([0-9]\)/\1/g' | numbers 5)"
 in_a_frame=$(sed -n 's/^in_a_frame=//p' bench/link)
 in_order "$page, reports of a frame" "a turn: $in_a_frame
@@ -59,13 +59,14 @@ code_words=$(numbers_in "$(table "$page" '## Measured' | sed -n 5p | cut -f1 | t
 in_order "$page, what is left without the code words" "$(table "$page" '## Measured' | sed -n 4p | cut -f2-4 | tr -d ',' |
     awk -v code_words="$code_words" '{ print $1 - code_words, $2 - code_words, $3 - code_words }')" \
     "$(table "$page" '## Measured' | sed -n 5p | cut -f2-4 | tr -d ',' | tr '\t' ' ')"
-radar_goals=$(tr '\n' ' ' < bench/radar | grep -oE 'at most [0-9]+ a block of an empty record, [0-9]+ where the block is kept already with this version, and [0-9]+ a run record' |
-    grep -oE '[0-9]+' | tr '\n' ' ')
-read -r new kept record <<< "$radar_goals"
+radar_goals=$(tr '\n' ' ' < bench/radar | grep -oE 'at most [0-9]+ a block of an empty record, [^.]*')
+read -r new kept record <<< "$(grep -oE '[0-9]+' <<< "$radar_goals" | tr '\n' ' ')"
 in_order "$page, goals of bench/radar" "$new
 $kept
 $record" "$(table "$page" '## Measured' 2 | cell 4 | tr -d ',' | grep . | awk '!seen[$0]++')"
-in_order "$page, goals of bench/speed" "$(sed -n 's/^    (\[\("[^]]*\)\], [^ ]*, \([0-9]*\)_000_000),$/\1 \2/p' bench/speed | sed 's/str(SEED)/'"$(sed -n 's/^SEED = //p' bench/speed)"'/; s/[",]//g')" \
+seed=$(sed -n 's/^SEED = //p' bench/speed)
+in_order "$page, goals of bench/speed" "$(sed -n 's/^    (\[\("[^]]*\)\], [^ ]*, \([0-9]*\)_000_000),$/\1 \2/p' bench/speed |
+    sed "s/str(SEED)/$seed/; s/[\",]//g")" \
     "$(table "$page" '## Measured' 3 | cut -f1,3 | plain | tr '\t' ' ')"
 in_order "$page, the ratio of hours" "$(sed -n 's/^.*return ratio <= \([0-9.]*\)$/\1/p' bench/speed)" \
     "$(numbers_in "$(paragraph "$page" 'So each is within its goal' | grep -oE 'where [0-9.]+ times')")"

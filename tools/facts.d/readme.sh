@@ -10,7 +10,7 @@ reads=$(
 reads=$(sed 's/ $//' <<< "$reads")
 rows=$(table README.md '## Commands')
 in_order "README.md, commands" "$(variants Command | tr 'A-Z' 'a-z')" "$(cell 1 <<< "$rows" | plain | cut -d' ' -f1)"
-in_order "README.md, the words of make" "make $(sed -n 's/^make_of \([a-z ]*\) = do$/\1/p' crates/fisb_app/specs/Command.antt | sed 's/count/n/' | tr 'a-z' 'A-Z')" \
+in_order "README.md, the words of make" "$(sed -n 's/^make_of count \([a-z]*\) = do$/make N \U\1/p' crates/fisb_app/specs/Command.antt)" \
     "$(cell 1 <<< "$rows" | plain | grep '^make')"
 in_order "README.md, what commands read" "$reads" "$(paste -d' ' \
     <(cell 1 <<< "$rows" | plain | sed 's/ .*$//; s/$/:/') \
@@ -19,8 +19,9 @@ in_order "README.md, what commands read" "$reads" "$(paste -d' ' \
 
 # what they write: lines by their first words, and `picture` with the entries that it has
 for party in link ground receive gdl; do
-    written=$(awk -F'\t' -v party="\`$party\`" '$1 == party { print $3 }' <<< "$rows" | sed 's/`receive`/`heard`, `lost`, `noapp`, `unread`, pictures/' |
-        sed 's/pictures/`picture` `radar` `text`/; s/GDL 90 message, in bytes/`bytes`/' | quoted | tr ' ' '\n')
+    written=$(awk -F'\t' -v party="\`$party\`" '$1 == party { print $3 }' <<< "$rows" |
+        sed 's/`receive`/`heard`, `lost`, `noapp`, `unread`, pictures/; s/pictures/`picture` `radar` `text`/
+            s/GDL 90 message, in bytes/`bytes`/' | quoted | tr ' ' '\n')
     compare "README.md, what $party writes" "$(written_words "$party")" "$written"
 done
 in_order "README.md, numbers in what commands read" "receive: ${number[uplink_weave.frame_bytes]}" "$(numbers 2 <<< "$rows")"
@@ -73,7 +74,7 @@ are_built_on "README.md, definitions of promises" "$(table README.md '## What is
 
 # the numbers of promises: how many wrong bytes a block may have, and how long a burst may be
 mended=$((${number[uplink_weave.block_roots]} / 2))
-burst=$(definition crates/uplink_weave/specs/Laws.antt BurstGivesPayload | grep -oE 'first \+ [0-9]+' | grep -oE '[0-9]+')
+burst=$(number_after uplink_weave/Laws BurstGivesPayload 'first \+ ')
 in_order "README.md, numbers of promises" "$mended
 ${number[run_core.RING_LIMIT]}
 $mended

@@ -77,8 +77,6 @@ PLACE 0 $((bytes - 1))
 BYTE 00 FF
 HEX  
 REPORT  " "$(awk -F'\t' '{ print $1, $3, $4 }' <<< "$fields")"
-first_year=$(date -u -d "@${number[fisb_time.first_moment]}" +%Y)
-last_year=$(date -u -d "@${number[fisb_time.last_moment]}" +%Y)
 unit=$(sed -n 's/^.*The longitude, a raw count of \([0-9]*\) \/ \([0-9]*\)^\([0-9]*\) degrees.*$/\1 \2 \3/p' crates/uplink_frame/src/station.rt)
 in_order "$page, numbers of what fields are" "MOMENT, VERSION: 1970 $first_year $last_year
 LAT: $unit
@@ -88,21 +86,21 @@ CELLS: ${number[script_core.CELLS]} $((${number[script_core.CELLS]} / row_of_cel
 PLACE: $bytes
 BYTE: 2
 HEX: $bytes $((2 * bytes))
-REPORT: $(definition crates/script_core/specs/Fields.antt report_in | grep -oE 'is_utf[0-9]+' | tr -d 'a-z_')" "$(numbers 2 <<< "$fields")"
-in_order "$page, the hemispheres" "$(grep -oE 'codes "[ns]"' <<< "$(definition crates/script_core/specs/Fields.antt south_in)" | cut -d'"' -f2 | tr '\n' ' ')" \
+REPORT: $(definition script_core/Fields report_in | grep -oE 'is_utf[0-9]+' | tr -d 'a-z_')" "$(numbers 2 <<< "$fields")"
+in_order "$page, the hemispheres" "$(grep -oE 'codes "[ns]"' <<< "$(definition script_core/Fields south_in)" | cut -d'"' -f2 | tr '\n' ' ')" \
     "$(awk -F'\t' '$1 == "HEMI" { print $2 }' <<< "$fields" | quoted | tr ' ' '\n' | tr '\n' ' ')"
 
 # refusals and unread parts: word, numbers and name of each, in their order
 refusals=$(table "$page" '## Refusals')
 unread=$(table "$page" '## What is passed on unread')
 in_order "$page, refusals" "$(variants Reason | while read -r name; do
-    variant_words crates/refusal_core/specs/Refusal.antt reason_words | grep "^$name "
+    variant_words refusal_core/Refusal reason_words | grep "^$name "
 done)" "$(awk -F'\t' '{ gsub(/`/, "", $1); sub(/ .*$/, "", $1); print $3, $1 }' <<< "$refusals")"
-in_order "$page, what refusals say beside their word" "$(definition crates/refusal_core/specs/Refusal.antt reason_words |
+in_order "$page, what refusals say beside their word" "$(definition refusal_core/Refusal reason_words |
     grep -oE '\(reasons\.[A-Za-z]+ [a-z ]+\) = codes "[a-z]+"' | sed 's/^([^ ]* \([a-z ]*\)) = codes "\([a-z]*\)"/\2 \1/' |
     tr 'a-z' 'A-Z')" "$(cell 1 <<< "$refusals" | grep ' ' | plain | sed 's/^\([a-z]*\)/\U\1/')"
-largest_scale=$(definition crates/ground_core/specs/Refusal.antt is_block | grep -oE 'key.scale [0-9]+' | cut -d' ' -f2)
-ahead=$(definition crates/ground_core/specs/Refusal.antt version_refusal | grep -oE 'moment \+ [0-9]+' | cut -d' ' -f3)
+largest_scale=$(number_after ground_core/Refusal is_block 'key.scale ')
+ahead=$(number_after ground_core/Refusal version_refusal 'moment \+ ')
 in_order "$page, numbers of refusals" "tablelong: ${number[run_core.RING_LIMIT]} 0 ${number[run_core.TABLE_LIMIT]}
 linelong: ${number[run_core.LINE_LIMIT]}
 station: $((${number[fisb_app.STATION_LIMIT]} + 1))
@@ -112,7 +110,7 @@ textlong: ${number[dlac_text.LONGEST_TEXT]}
 block: $((largest_scale + 1)) ${number[ground_core.MOST_BLANKS]} ${number[radar_core.FIRST_HIGH]}
 ahead: $ahead
 nofile: ${number[ground_core.FILE_NUMBERS]}" "$(numbers 2 <<< "$refusals")"
-dashes=$(definition crates/run_core/specs/Opening.antt is_table_end | cut -d'"' -f2)
+dashes=$(definition run_core/Opening is_table_end | cut -d'"' -f2)
 in_order "$page, words in refusals" "tablelong: $dashes
 toml: $dashes $dashes
 row ROW WHY: $dashes
@@ -120,13 +118,13 @@ late: $(grep -oE 'allowed|late' <<< "$(grep -A1 '^own_refusal party table acted 
 block: blank" "$(words 2 <<< "$refusals")"
 
 in_order "$page, unread parts" "$(variants UnreadReason | while read -r name; do
-    variant_words crates/script_core/specs/Printed.antt unread_word | grep "^$name "
+    variant_words script_core/Printed unread_word | grep "^$name "
 done)" "$(awk -F'\t' '{ gsub(/`/, "", $1); print $3, $1 }' <<< "$unread")"
 shortest=${number[apdu_core.LEAST_LENGTH]}
-radar_front=$(definition crates/radar_core/specs/Radar.antt radar_blocks | grep -oE 'length payload\) [0-9]+' | cut -d' ' -f3)
-bad_scale=$(definition crates/radar_core/specs/Radar.antt radar_blocks | grep -oE 'scale_in payload == [0-9]+' | grep -oE '[0-9]+')
+radar_front=$(number_after radar_core/Radar radar_blocks 'length payload\) ')
+bad_scale=$(number_after radar_core/Radar radar_blocks 'scale_in payload == ')
 cells=${number[radar_core.CELLS]}
-in_order "$page, numbers of unread parts" "kind: $(definition crates/receiver_core/specs/Reception.antt arrival_in | grep -oE 'frame.kind == [0-9]+' | grep -oE '[0-9]+')
+in_order "$page, numbers of unread parts" "kind: $(number_after receiver_core/Reception arrival_in 'frame.kind == ')
 short: $shortest
 segment: 0
 product: ${number[life_table.text_product]} ${number[life_table.regional_radar]} ${number[life_table.conus_radar]}
@@ -135,7 +133,7 @@ radarshort: $radar_front
 scale: $bad_scale
 runs: $cells
 high: ${number[radar_core.FIRST_HIGH]}" "$(numbers 2 <<< "$unread")"
-in_order "$page, numbers of an unread line" "0 $(definition crates/apdu_core/specs/Apdu.antt product_of | grep -oE 'length body\) [0-9]+' | grep -oE '[0-9]+')" \
+in_order "$page, numbers of an unread line" "0 $(number_after apdu_core/Apdu product_of 'length body\) ')" \
     "$(numbers_in "$(paragraph "$page" 'What a reception cannot use' | grep -oE 'PRODUCT is that .* bytes. LENGTH')")"
 
 # exit statuses: 1 comes before the program is run
@@ -151,7 +149,7 @@ limits=$(table "$page" '## Limits')
 while IFS=$'\t' read -r what at_most constant; do
     in_order "$page, limits, $what" "${number[${constant/ /.}]:-}" "${at_most//,/}"
 done < <(plain <<< "$limits")
-few_parts=$(definition crates/segment_core/specs/Cutting.antt TextsHaveFewParts | grep -oE '≤ [0-9]+' | grep -oE '[0-9]+')
+few_parts=$(number_after segment_core/Cutting TextsHaveFewParts '≤ ')
 in_order "$page, numbers of limits" "characters of a report, which has then $few_parts segments or fewer: $few_parts" "$(numbers 1 <<< "$limits")"
 in_order "$page, words of limits" "stations that station lines name: station
 numbers of a blank line: blank" "$(words 1 <<< "$limits")"
