@@ -49,3 +49,8 @@ while IFS=$'\t' read -r what calls; do
             inside && $0 == "### `" name "`" { print crate "::" name }' docs/API.md
     done)" "$(calls_in "$calls")"
 done < <(table docs/CALLING.md '## Smaller parts')
+over=$(table docs/CALLING.md '## Smaller parts' | grep '::run_[a-z]*_over`')
+in_order "docs/CALLING.md, the command over another receiver" "$(sed 's/^.*::run_\([a-z]*\)_over`.*$/\1/' <<< "$over")" \
+    "$(cell 1 <<< "$over" | quoted)"
+in_order "docs/CALLING.md, its trait" "$(grep -oE '^pub trait [A-Za-z]+' crates/fisb_app/src/ear.rt | cut -d' ' -f3)" \
+    "$(cell 2 <<< "$over" | quoted | cut -d' ' -f2)"

@@ -63,7 +63,7 @@ radar_goals=$(tr '\n' ' ' < bench/radar | grep -oE 'at most [0-9]+ a block of an
 read -r new kept record <<< "$(grep -oE '[0-9]+' <<< "$radar_goals" | tr '\n' ' ')"
 in_order "$page, goals of bench/radar" "$new
 $kept
-$record" "$(table "$page" '## Measured' 2 | cell 4 | tr -d ',' | grep . | awk '!seen[$0]++')"
+$record" "$(table "$page" '## Measured' 2 | awk -F'\t' '{ gsub(/,/, "", $NF) } $NF != "" && !seen[$NF]++ { print $NF }')"
 seed=$(sed -n 's/^SEED = //p' bench/speed)
 in_order "$page, goals of bench/speed" "$(sed -n 's/^    (\[\("[^]]*\)\], [^ ]*, \([0-9]*\)_000_000),$/\1 \2/p' bench/speed |
     sed "s/str(SEED)/$seed/; s/[\",]//g")" \
