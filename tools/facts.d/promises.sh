@@ -28,6 +28,9 @@ in_order "$page, words of promises" "$(for party in link receive gdl make ground
     table "$page" '## Of the program' | awk -F'\t' '$1 ~ /^`(link|ground|receive|gdl|make)`/ {
         split($1, said, "`"); clause = $2; sub(/^[^`]*`/, "", clause); sub(/(_alone)?`.*$/, "", clause); print said[2] ": " clause }')"
 
+answers=$(table "$page" '## Of the program' | cell 1 | grep -oE '`[A-Z][A-Za-z]+`' | plain)
+in_order "$page, answers in promises" "$(variants Status | grep -xF "$answers")" "$answers"
+
 # bounds that the text names
 burst=$(number_after uplink_weave/Laws BurstGivesPayload 'first \+ ')
 room=$(grep -oE '2 \* bytes_of before / [0-9]+ \+ [0-9]+' crates/ground_core/specs/Starving.antt | tr -cd '0-9 ' | tr -s ' ' | sed 's/^ //')
@@ -47,6 +50,8 @@ in_order "$page, the code" "${number[uplink_weave.block_bytes]} ${number[uplink_
 read -r _ times few _ least <<< "$(grep '^# To reach: a reception' bench/link | numbers 1 | sed 's/^.*: //')"
 sizes=$(sed -n 's/^ *counts=(\([0-9 ]*\))$/\1/p' bench/link | head -n 1)
 in_order "$page, sizes of what bench/link counts" "$sizes" "$(numbers_in "$(grep '^| | [0-9]* reports' "$page")")"
+kinds=$(table "$page" '## Measured' | cell 1 | quoted | grep -vE '^$|/')
+in_order "$page, lines that bench/link counts" "$(while read -r kind; do grep -x "$kind" <<< "$line_kinds"; done <<< "$kinds")" "$kinds"
 clean=$(numbers_in "$(paragraph "$page" '- `uplink_bench` weaves' | grep -oE '[0-9,]+ to take a clean one')")
 in_order "$page, goals of bench/link" "a hear of 14 newer reports: $times $few
 the last without the code words, $clean by bench/uplink: $least $few" \
@@ -64,6 +69,10 @@ read -r new kept record <<< "$(grep -oE '[0-9]+' <<< "$radar_goals" | tr '\n' ' 
 in_order "$page, goals of bench/radar" "$new
 $kept
 $record" "$(table "$page" '## Measured' 2 | awk -F'\t' '{ gsub(/,/, "", $NF) } $NF != "" && !seen[$NF]++ { print $NF }')"
+in_order "$page, sizes of what bench/radar counts" "$(numbers_in "$(grep -oE 'the figures with [0-9,]+ and with [0-9,]+ blocks kept' bench/radar)")" \
+    "$(numbers_in "$(grep '^| | [0-9,]* blocks kept' "$page" | cut -d'|' -f3,4)")"
+in_order "$page, records of runs" "$((${number[radar_core.CELLS]} / ${number[radar_core.LONGEST]}))
+${number[radar_core.CELLS]}" "$(table "$page" '## Measured' 2 | grep -oE '^a record of [0-9]+ runs' | cut -d' ' -f4)"
 seed=$(sed -n 's/^SEED = //p' bench/speed)
 in_order "$page, goals of bench/speed" "$(sed -n 's/^    (\[\("[^]]*\)\], [^ ]*, \([0-9]*\)_000_000),$/\1 \2/p' bench/speed |
     sed "s/str(SEED)/$seed/; s/[\",]//g")" \

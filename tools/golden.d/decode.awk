@@ -1,4 +1,4 @@
-# Reads each table `Bytes | Say` of docs/FORMATS.md that follows a block `payload N` or `message N`: its bytes have to be the next
+# Reads each table `Bytes | Say` of a document (docs/FORMATS.md) that follows a block `payload N` or `message N`: its bytes have to be the next
 # ones of that payload (what is left out between rows is 0, or `..`), and what they say has to be what the formats make of them. It
 # prints what differs, and last how many rows are right and how many are not.
 
@@ -137,7 +137,7 @@ function said(say, start, count,    text) {
     return "`" report() "`"
 }
 
-function tell(text) { failed++; print "golden: docs/FORMATS.md, the bytes " $2 ": " text }
+function tell(text) { failed++; print "golden: " FILENAME ", the bytes " $2 ": " text }
 
 # the place of the row's bytes: the next ones, or after what may be left out
 function place_of(n, open,    place, i) {
