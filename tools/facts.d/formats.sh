@@ -212,12 +212,24 @@ said_of() {
         grep -oE "written_blank\(&rt, [0-9_]+, &\[[^]]*\], &\[$bytes\]" <<< "$trials" | sed 's/^written_blank(&rt, //; s/, &\[0x.*//'
     } | head -n 1 | tr -d '_&[]' | tr -s ', ' ' ' | sed 's/ $//'
 }
+# the record of a block that is the same in all cells, by the widths above: its front, and the length and intensity of its runs
+said_of_runs() {
+    local front=$((16#$(cut -d' ' -f1-3 <<< "$1" | tr -d ' '))) runs
+    runs=$(cut -d' ' -f4- <<< "$1" | tr ' ' '\n')
+    echo "$((front & 0xFFFFF)) $((front >> 20 & 3)) $(wc -l <<< "$runs") $(((16#$(head -n 1 <<< "$runs") >> 3) + 1)) \
+$((16#$(head -n 1 <<< "$runs") & 7))$(((front >> 22 & 1) == 0 && front >> 23 == 1)) $(sort -u <<< "$runs" | wc -l)"
+}
+records=$(table "$page" '## Radar records' 4 | plain)
+in_order "$page, records that are decoded" "run record empty record" "$(
+    grep -q 'runs of' <<< "$records" && echo -n 'run record '
+    grep -q 'are empty' <<< "$records" && echo 'empty record')"
 while IFS=$'\t' read -r bytes said; do
     if [[ $said == *'runs of'* ]]; then
-        continue
+        in_order "$page, what $bytes says" "$(said_of_runs "$bytes")" "$(numbers_in "$said")$(grep -c north <<< "$said") 1"
+    else
+        in_order "$page, what $bytes says" "$(said_of "$bytes")" "$(numbers_in "$(grep -oE '(blocks|first:) .*' <<< "$said" | sed 's/^first: //')")"
     fi
-    in_order "$page, what $bytes says" "$(said_of "$bytes")" "$(numbers_in "$(grep -oE '(blocks|first:) .*' <<< "$said" | sed 's/^first: //')")"
-done < <(table "$page" '## Radar records' 4 | plain)
+done <<< "$records"
 
 # damages of messages
 damages=$(table "$page" '## Messages to displays')

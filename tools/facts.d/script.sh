@@ -149,6 +149,8 @@ limits=$(table "$page" '## Limits')
 while IFS=$'\t' read -r what at_most constant; do
     in_order "$page, limits, $what" "${number[${constant/ /.}]:-}" "${at_most//,/}"
 done < <(plain <<< "$limits")
+in_order "$page, limits of an input" "$(sed -n 's/^\([a-z_]*\) = [0-9]*$/\U\1/p' "$(file_of run_core/Limits)")" \
+    "$(cell 3 <<< "$limits" | plain | sed -n 's/^run_core \([A-Z]*_LIMIT\)$/\1/p')"
 few_parts=$(number_after segment_core/Cutting TextsHaveFewParts '≤ ')
 in_order "$page, numbers of limits" "characters of a report, which has then $few_parts segments or fewer: $few_parts" "$(numbers 1 <<< "$limits")"
 in_order "$page, words of limits" "stations that station lines name: station
