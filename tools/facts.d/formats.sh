@@ -49,7 +49,7 @@ in_order "$page, the header" "$header" "$(table "$page" '## The payload' | awk -
             else if (i > 3 && w[i - 1] == "of" && w[i - 3] == "high") { to = at + of(w[i - 4]) - 1; from = at }
             else if (i > 4 && w[i - 1] == "of" && w[i - 2] == "bits" && w[i - 4] == "low") { from = at + 8 - of(w[i - 3]); to = at + 7 }
             else if (i > 4 && w[i - 1] == "of" && w[i - 2] == "bits" && w[i - 4] == "high") { from = at; to = at + of(w[i - 3]) - 1 }
-            else if (w[i + 2] ~ /^0x/) { from = at + index("8421", substr(w[i + 2], 3, 1)) - 1; to = from }
+            else if (w[i + 2] ~ /^0x[8421]0$/) { from = at + index("8421", substr(w[i + 2], 3, 1)) - 1; to = from }
             else { from = at; to = at + 7 }
             if (i > 3 && w[i - 2] == "bits" && w[i - 3] == "high" && first < 0) from = at
             if (first < 0) first = from
@@ -227,7 +227,11 @@ while IFS=$'\t' read -r bytes said; do
     if [[ $said == *'runs of'* ]]; then
         in_order "$page, what $bytes says" "$(said_of_runs "$bytes")" "$(numbers_in "$said")$(grep -c north <<< "$said") 1"
     else
-        in_order "$page, what $bytes says" "$(said_of "$bytes")" "$(numbers_in "$(grep -oE '(blocks|first:) .*' <<< "$said" | sed 's/^first: //')")"
+        base=""
+        if [[ $said == base* ]]; then
+            base="$((16#$(cut -d' ' -f1-3 <<< "$bytes" | tr -d ' ') & 0xFFFFF)) "
+        fi
+        in_order "$page, what $bytes says" "$base$(said_of "$bytes")" "$(numbers_in "$said")"
     fi
 done <<< "$records"
 
