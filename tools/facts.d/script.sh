@@ -87,8 +87,9 @@ PLACE: $bytes
 BYTE: 2
 HEX: $bytes $((2 * bytes))
 REPORT: $(definition script_core/Fields report_in | grep -oE 'is_utf[0-9]+' | tr -d 'a-z_')" "$(numbers 2 <<< "$fields")"
-in_order "$page, the hemispheres" "$(grep -oE 'codes "[ns]"' <<< "$(definition script_core/Fields south_in)" | cut -d'"' -f2 | tr '\n' ' ')" \
-    "$(awk -F'\t' '$1 == "HEMI" { print $2 }' <<< "$fields" | quoted | tr ' ' '\n' | tr '\n' ' ')"
+sending=$(for kind in $line_kinds; do [ "$(given_words ground "$kind")" = sent ] && echo "$kind"; done)
+in_order "$page, words of fields" "HEMI:$(definition script_core/Fields south_in | grep -oE 'codes "[ns]"' | sed 's/codes "\(.\)"/ \1/' | tr -d '\n')
+FRAME: $sending" "$(words 2 <<< "$fields")"
 
 # refusals and unread parts: word, numbers and name of each, in their order
 refusals=$(table "$page" '## Refusals')
