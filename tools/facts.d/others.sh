@@ -93,6 +93,15 @@ received_metar: $(lines_in received_metar rx)
 display_messages: $(($(od -An -v -tx1 -w1 examples/display_messages.out | grep -c 7e) / 2))
 make_one_minute: $(tail -n +2 examples/make_one_minute.words | tr '\n' ' ')1" "$(numbers 2 <<< "$shown")"
 
+# the words in what they show: the command of the example first, and else commands, lines and examples alone
+in_order "$page, commands" "$(while read -r name; do
+    [ -e "examples/$name.words" ] && echo "$name: $(tr '\n' ' ' < "examples/$name.words" | sed 's/ $//')"
+done < <(cell 1 <<< "$shown" | plain))" "$(awk -F'\t' '{ split($2, said, "`"); gsub(/`/, "", $1); print $1 ": " said[2] }' <<< "$shown" |
+    grep -E "^($(for words in examples/*.words; do basename "$words" .words; done | tr '\n' '|')none): ")"
+known=$(variants Command | tr 'A-Z' 'a-z'; echo "$line_kinds"; cell 1 <<< "$shown" | plain)
+shown_words=$(cell 2 <<< "$shown" | grep -oE '`[^`]*`' | plain | sed 's/ .*//')
+in_order "$page, words" "$(while read -r word; do grep -x "$word" <<< "$known"; done <<< "$shown_words")" "$shown_words"
+
 # tests: the crates of trials that CONTRIBUTING names
 compare "CONTRIBUTING.md, crates of tests" "$(cut -d: -f1 <<< "$lists" | grep -E '_trials$|_vectors$')" \
     "$(paragraph CONTRIBUTING.md 'Tests stand in crates of their own' | grep -oE '`[a-z_]+`' | plain)"
