@@ -10,7 +10,7 @@ use Rattle.fisb_time.specs.declared.form.TimeForm.{TimeForm}
 use Rattle.fisb_time.specs.declared.form.TimeForm.TheVariants.{Minute, Second, DayMinute, DaySecond}
 use Rattle.fisb_time.specs.declared.form.TimeFields.{TimeFields}
 use Rattle.bit_fields.specs.Bits.{Field, as_number, number_of, field_at}
-use Rattle.apdu_core.specs.declared.unit.Seg.{Seg}
+use Rattle.apdu_core.specs.declared.apdu.Seg.{Seg}
 use Rattle.apdu_core.specs.declared.fault.ApduFault.{ApduFault}
 use Rattle.apdu_core.specs.declared.fault.ApduFault.TheVariants.{Short, Flagged, BadSegment}
 use Rattle.apdu_core.specs.Apdu.{Apdu, form_number, form_of, time_fields, segment_fields, time_width, header_width, header_length, header_fields, header_with, fill_width, time_in, segmentation_in, form_in, is_segmented_in, is_bad, apdu_of_header, apdu_of}

@@ -4,7 +4,7 @@ use Rattle.fisb_time.specs.declared.form.TimeForm.{TimeForm}
 use Rattle.fisb_time.specs.declared.form.TimeForm.TheVariants.{Minute, Second, DayMinute, DaySecond}
 use Rattle.fisb_time.specs.declared.form.TimeFields.{TimeFields}
 use Rattle.bit_fields.specs.Bits.{Field, field_at}
-use Rattle.apdu_core.specs.declared.unit.Seg.{Seg}
+use Rattle.apdu_core.specs.declared.apdu.Seg.{Seg}
 use Rattle.apdu_core.specs.Apdu.{Apdu, form_number, time_fields, segment_fields, time_width, header_length, header_fields, fill_width, time_in, segmentation_in}
 use Rattle.apdu_core.specs.Spelling.{FitsTime, FitsSegmentation, FitsApdu}
 use Rattle.apdu_core.proofs.FieldLemmas.{total_width, AreWithin, AreAt}

@@ -22,4 +22,5 @@ SpellingIsReading = (body : List ℕ) → AreBytes body → IsReadingOf body (ap
 
 -- the fields of a moment fit in each form
 abbrev pub ShownFits : Type 0
-ShownFits = (form : TimeForm) (moment : ℕ) → IsMoment moment → FitsTime form (shown_fields form moment)
+ShownFits =
+    (form : TimeForm) (moment : ℕ) → IsMoment moment → FitsTime form (shown_fields form moment)

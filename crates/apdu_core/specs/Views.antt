@@ -2,7 +2,7 @@
 use Rattle.std.specs.Prelude.{◌≡◌, ℕ, ◌*◌, List, length, Result, Ok, Err}
 use Rattle.bit_fields.specs.Bits.{number_of}
 use Rattle.apdu_core.specs.declared.bits.Bits.{Bits}
-use Rattle.apdu_core.specs.declared.unit.Apdu.{Apdu as Read}
+use Rattle.apdu_core.specs.declared.apdu.Apdu.{Apdu as Read}
 use Rattle.apdu_core.specs.declared.fault.ApduFault.{ApduFault}
 use Rattle.apdu_core.specs.Apdu.{Apdu}
 

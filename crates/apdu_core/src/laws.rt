@@ -1,7 +1,7 @@
 //! Laws of the definitions, for the crates above: each is the contract of a function that does nothing.
 ghost use Rattle.apdu_core.specs.Laws.{ReadsBack, ShownFits, SpellingIsReading};
 
-use fisb_time::date_of_day;
+use fisb_time::laws::date_of_day;
 
 /// The law that what is written of an APDU reads back as that APDU, with the size of what is written.
 #[inline]

@@ -1,16 +1,15 @@
 //! The application protocol data unit of FIS-B (RTCA DO-358): a header of bit fields, and a payload.
 #![tactic(auto)]
 
+mod apdu;
 mod bits;
 mod fault;
-mod laws;
+pub mod laws;
 mod reading;
 mod sizes;
-mod unit;
 mod writing;
 
+pub use apdu::{Apdu, Seg};
 pub use fault::ApduFault;
-pub use laws::{apdu_reads_back, shown_fits, spelling_is_reading};
 pub use reading::{product_of, read_apdu};
-pub use unit::{Apdu, Seg};
 pub use writing::write_apdu;

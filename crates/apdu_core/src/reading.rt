@@ -5,10 +5,10 @@ ghost use Rattle.apdu_core.specs.Apdu.{apdu_of_header, segmentation_in, time_in,
 ghost use Rattle.apdu_core.specs.Spelling.{IsReadingOf};
 ghost use Rattle.apdu_core.specs.Views.{AreBitsOf, answer_view};
 
+use crate::apdu::{Apdu, Seg};
 use crate::bits::{Bits, bits_of};
 use crate::fault::ApduFault;
 use crate::sizes::{header_length, time_width};
-use crate::unit::{Apdu, Seg};
 use fisb_time::{TimeFields, TimeForm};
 
 /// The bytes of the shortest header.

@@ -7,8 +7,8 @@ ghost use Rattle.apdu_core.specs.Apdu.{time_fields};
 ghost use Rattle.apdu_core.specs.Spelling.{FitsApdu, FitsSegmentation, FitsTime};
 ghost use Rattle.apdu_core.specs.Views.{apdu_view};
 
+use crate::apdu::{Apdu, Seg};
 use crate::sizes::{header_length, header_width};
-use crate::unit::{Apdu, Seg};
 use fisb_time::{TimeFields, TimeForm};
 
 /// Writes an APDU at the front of a room, with the flags and the fill bits 0, and answers the number of bytes.

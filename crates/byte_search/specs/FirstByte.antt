@@ -1,5 +1,6 @@
 -- The answer of a search for a byte is the place of the first such byte, as `position` tells it.
-use Rattle.std.proofs.Common.{◌≡◌, ◌==◌, ℕ, ◌<◌, nat_lt, true, false, List, Option, Some, None, slice_index, length, refl, sym, ap, arith, inl, inr}
+use Rattle.std.proofs.Common.{◌≡◌, ◌==◌, ℕ, ◌<◌, nat_lt, true, false, List, Option, Some, None}
+use Rattle.std.proofs.Common.{slice_index, length, refl, sym, ap, arith, inl, inr}
 use Rattle.std.specs.List.{position, position_or_len}
 use Rattle.std.proofs.lemmas.Bool.{cases_Bool}
 use Rattle.std.proofs.lemmas.Bool.Decides.{nat_tests}
@@ -14,7 +15,8 @@ first_byte c xs None none =
       | inl here ↦ absurd (none k (omega arith) within here)
       | inr not_here ↦ not_here
     ]) (λ past. absurd (omega (arith, past))) in
-    let test : nat_lt (position_or_len (λ b. b == c) xs) (length xs) ≡ false = grind (arith, nat_tests) in
+    let test : nat_lt (position_or_len (λ b. b == c) xs) (length xs) ≡ false =
+    grind (arith, nat_tests) in
     rw test refl
 first_byte c xs (Some place) found =
     let within = found.0.high in
@@ -23,5 +25,6 @@ first_byte c xs (Some place) found =
       | inl here ↦ absurd (found.0.before k (omega arith) before here)
       | inr not_here ↦ not_here
     ]) (λ inside. found.1) in
-    let test : nat_lt (position_or_len (λ b. b == c) xs) (length xs) ≡ true = grind (arith, nat_tests) in
+    let test : nat_lt (position_or_len (λ b. b == c) xs) (length xs) ≡ true =
+    grind (arith, nat_tests) in
     rw test (ap Some (sym at))

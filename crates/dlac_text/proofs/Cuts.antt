@@ -2,7 +2,7 @@
 use Rattle.std.proofs.Common.{Bool, true, false, ◌&&◌, IsTrue, ◌≡◌, ℕ, ◌-◌, ◌≤◌, List, [], ◌∷◌, ◌++◌, length, get_or, take, drop, map, arith, sym, ap, ◌∙◌, subst, append_assoc}
 use Rattle.std.proofs.lemmas.List.{take_all}
 use Rattle.dlac_text.specs.Alphabet.{IsDlac, code_of}
-use Rattle.dlac_text.specs.SixBits.{packed_bytes, six_bit_groups}
+use Rattle.dlac_text.specs.SixBits.{packed_bytes}
 
 -- what is behind the first n elements
 abbrev pub behind : ℕ → List ℕ → List ℕ
@@ -54,13 +54,3 @@ pub packed_step :
     (all so_far xs group new : List ℕ) → 4 ≤ length xs → all ≡ so_far ++ packed_bytes (map code_of xs ++ 0 ∷ []) → group ≡ packed_bytes (code_of (get_or xs 0 0) ∷ code_of (get_or xs 1 0) ∷ code_of (get_or xs 2 0) ∷ code_of (get_or xs 3 0) ∷ []) → new ≡ so_far ++ group → all ≡ new ++ packed_bytes (map code_of (behind 4 xs) ++ 0 ∷ [])
 packed_step all so_far xs group new l e g h =
     join_step all so_far _ _ _ group new e (ap (λ ys. packed_bytes (map code_of ys ++ 0 ∷ [])) (first_four xs l)) g h
-
--- the four codes of three bytes
-abbrev pub four_codes : ℕ → ℕ → ℕ → List ℕ
-four_codes x y z = six_bit_groups (x ∷ y ∷ z ∷ [])
-
--- three more bytes, and their four codes
-pub groups_step :
-    (all so_far xs group new : List ℕ) → 3 ≤ length xs → all ≡ so_far ++ six_bit_groups xs → group ≡ four_codes (get_or xs 0 0) (get_or xs 1 0) (get_or xs 2 0) → new ≡ so_far ++ group → all ≡ new ++ six_bit_groups (behind 3 xs)
-groups_step all so_far xs group new l e g h =
-    join_step all so_far _ _ _ group new e (ap six_bit_groups (first_three xs l)) g h

@@ -1,36 +1,19 @@
 -- What reading a code, or four characters, does to the reports of all.
-use Rattle.std.proofs.Common.{◌≡◌, ◌≢◌, ◌⊎◌, ℕ, ◌≤◌, Bool, true, false, List, [], ◌∷◌, ◌++◌, length, get_or, replicate, filter, refl, sym, ap, ◌∙◌, append_assoc, append-nil, arith, Result, Ok, Err, OnOk, IfOk}
+use Rattle.std.proofs.Common.{◌≡◌, ◌≢◌, ◌⊎◌, ℕ, Bool, true, false, List, [], ◌∷◌, ◌++◌, replicate, filter, sym, ap, ◌∙◌, append_assoc, append-nil, arith}
 use Rattle.dlac_text.specs.Alphabet.{character_or_zero}
 use Rattle.dlac_text.specs.Reading.{Reading, HasRead, reports_from, reports_with}
 use Rattle.dlac_text.specs.Reports.{has_characters}
 use Rattle.dlac_text.proofs.CharacterRows.{some_character, is_character}
-use Rattle.dlac_text.specs.SixBits.{six_bit_groups}
-use Rattle.dlac_text.proofs.Cuts.{behind, first_three}
 use Rattle.dlac_text.proofs.Joining.{from_nothing, from_end_code, from_tab, from_character}
-
--- what follows from what holds of an answer
-pub if_ok : {T E : Type 0} (r : Result T E) (P Q : Type 0) → (P → Q) → IfOk r (λ _. P) → OnOk r Q
-if_ok (Ok x) P Q f h = f h
-if_ok (Err e) P Q f h = tt
-
-pub if_ok_then : {T E : Type 0} (r : Result T E) (P Q : T → Type 0) → ((x : T) → P x → Q x) → IfOk r P → IfOk r Q
-if_ok_then (Ok x) P Q f h = f x h
-if_ok_then (Err e) P Q f h = tt
 
 abbrev pub reading : List (List ℕ) → List ℕ → Bool → Reading
 reading reports text is_tab = record { reports = reports; text = text; is_tab = is_tab }
-
-pub read_nothing : (old : Reading) → HasRead [] old old
-read_nothing old more = refl
 
 pub read_on : (code : ℕ) (codes : List ℕ) (old between new : Reading) → HasRead (code ∷ []) old between → HasRead codes between new → HasRead (code ∷ codes) old new
 read_on code codes old between new h k more = k more ∙ h (codes ++ more)
 
 pub read_spaces : (reports : List (List ℕ)) (text : List ℕ) (code : ℕ) → HasRead (code ∷ []) (reading reports text true) (reading reports (text ++ replicate code 32) false)
 read_spaces reports text code more = ap (λ rs. reports ++ rs) (sym (from_tab text more code))
-
-pub read_tab : (reports : List (List ℕ)) (text : List ℕ) → HasRead (28 ∷ []) (reading reports text false) (reading reports text true)
-read_tab reports text more = refl
 
 pub read_end : (reports : List (List ℕ)) (text : List ℕ) (code : ℕ) → (code ≡ 0) ⊎ (code ≡ 29) → HasRead (code ∷ []) (reading reports text false) (reading (reports ++ filter has_characters (text ∷ [])) [] false)
 read_end reports text code h more = append_assoc reports (filter has_characters (text ∷ [])) (reports_from [] more) ∙ ap (λ rs. reports ++ rs) (sym (from_end_code text more code h))
@@ -72,8 +55,3 @@ four_read old new a b c d (h, i, j, k) no_tab told more = rw (told, no_tab) (rea
 pub read_all : (reports : List (List ℕ)) (text : List ℕ) (is_tab : Bool) → reports ++ filter has_characters (text ∷ []) ≡ reports_with (reading reports text is_tab) []
 read_all reports text false = ap (λ rs. reports ++ rs) (sym (from_nothing text [] (omega arith)))
 read_all reports text true = ap (λ t. reports ++ filter has_characters (t ∷ [])) (sym (append-nil text))
-
--- what all bytes give is what is read of them and of the rest
-pub three_more : (xs : List ℕ) (all : List (List ℕ)) (old new : Reading) → 3 ≤ length xs → all ≡ reports_with old (six_bit_groups xs)
-    → HasRead (six_bit_groups (get_or xs 0 0 ∷ get_or xs 1 0 ∷ get_or xs 2 0 ∷ [])) old new → all ≡ reports_with new (six_bit_groups (behind 3 xs))
-three_more xs all old new l e h = e ∙ ap (λ ys. reports_with old (six_bit_groups ys)) (first_three xs l) ∙ sym (h (six_bit_groups (behind 3 xs)))

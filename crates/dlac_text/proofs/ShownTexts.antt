@@ -1,9 +1,9 @@
 -- What a plain text shows is UTF-8 again.
-use Rattle.std.proofs.Common.{◌≡◌, ◌≢◌, ℕ, ◌<◌, true, ◌&&◌, inl, inr, List, [], ◌∷◌, ◌++◌, Option, None, Some, length, get_or, sym, ap, subst, ◌∙◌, append-nil, lit<, arith}
+use Rattle.std.proofs.Common.{◌≡◌, ◌≢◌, ℕ, ◌<◌, true, inl, inr, List, [], ◌∷◌, ◌++◌, Option, None, Some, length, get_or, sym, ap, subst, ◌∙◌, append-nil, lit<, arith}
 use Rattle.std.proofs.Math.Utf8.{scalar, scalars, encode, encodes, low_scalar}
 use Rattle.std.proofs.lemmas.Bool.{and_parts}
 use Rattle.std.proofs.lemmas.Bool.Decides.{eqb_tells}
-use Rattle.std.proofs.lemmas.Str.{IsUtf8-nil, IsUtf8-append, encode_ascii, inside_one, char_from_byte}
+use Rattle.std.proofs.lemmas.Str.{IsUtf8-nil, IsUtf8-append, IsUtf8-encode, encode_ascii, inside_one, char_from_byte}
 use Rattle.std.specs.Str.{IsUtf8}
 use Rattle.dlac_text.specs.Plain.{prefixed_text, text_of_plain}
 use Rattle.dlac_text.proofs.PlainLemmas.{text_of_plain-append, text_of_plain-none}
@@ -17,11 +17,8 @@ behind : (front : List ℕ) (rest : Option (List ℕ)) → IsUtf8 front → IsSh
 behind front None u h = tt
 behind front (Some text) u h = IsUtf8-append front text u h
 
-one_character : (c : ℕ) → scalar c ≡ true → IsUtf8 (encode c)
-one_character c s = (c ∷ [], (ap (λ b. b && true) s, append-nil (encode c)))
-
 one_ascii : (c : ℕ) → c < 128 → IsUtf8 (c ∷ [])
-one_ascii c h = subst IsUtf8 (encode_ascii c h) (one_character c (low_scalar c (omega arith)))
+one_ascii c h = subst IsUtf8 (encode_ascii c h) (IsUtf8-encode c (low_scalar c (omega arith)))
 
 -- no byte of another character is a backslash
 no_backslash_in : (c : ℕ) → c ≢ 92 → (i : ℕ) → i < length (encode c) → get_or (encode c) i 0 ≢ 92
@@ -29,7 +26,7 @@ no_backslash_in c other i within e = other (inside_one c [] (encode c) i (sym (a
 
 other_first : (c : ℕ) (rest : List ℕ) → scalar c ≡ true → c ≢ 92 → IsShownText (text_of_plain rest) → IsShownText (text_of_plain (encode c ++ rest))
 other_first c rest s other h =
-    subst IsShownText (sym (text_of_plain-append (encode c) rest (no_backslash_in c other))) (behind (encode c) (text_of_plain rest) (one_character c s) h)
+    subst IsShownText (sym (text_of_plain-append (encode c) rest (no_backslash_in c other))) (behind (encode c) (text_of_plain rest) (IsUtf8-encode c s) h)
 
 begins_with : (c x : ℕ) (rest more : List ℕ) → x < 128 → encode c ++ rest ≡ x ∷ more → c ≡ x
 begins_with c x rest more ascii e = char_from_byte (x ∷ more) rest c (sym e) ascii (omega arith)

@@ -1,6 +1,5 @@
 -- What six-bit groups are like.
-use Rattle.std.proofs.Common.{ℕ, ◌<◌, List, [], ◌∷◌, get_or, All, arith, suc}
-use Rattle.std.proofs.lemmas.List.Elements.{All-from_recursion}
+use Rattle.std.proofs.Common.{ℕ, ◌<◌, List, [], ◌∷◌, get_or, arith, suc}
 use Rattle.std.specs.List.{AllByRecursion}
 use Rattle.dlac_text.specs.SixBits.{six_bit_groups}
 
@@ -21,7 +20,3 @@ by_recursion (x ∷ y ∷ z ∷ more) h =
     let y_fits : y < 256 = h 1 in
     let z_fits : z < 256 = h 2 in
     (omega arith, (omega arith, (omega arith, (omega arith, by_recursion more (λ k. h (suc (suc (suc k))))))))
-
--- the groups of bytes are below 64
-pub six_bit_groups-fit : (bytes : List ℕ) → ((k : ℕ) → get_or bytes k 0 < 256) → All IsSixBits (six_bit_groups bytes)
-six_bit_groups-fit bytes h = All-from_recursion IsSixBits (six_bit_groups bytes) (by_recursion bytes h)

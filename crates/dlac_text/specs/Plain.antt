@@ -1,5 +1,6 @@
 -- How a report is shown on one line of plain text, and how such a text is read back.
-use Rattle.std.specs.Prelude.{ℕ, Bool, not, ◌&&◌, ◌==◌, if◌then◌else◌, List, [], ◌∷◌, ◌++◌, Option, None, Some}
+use Rattle.std.specs.Prelude.{ℕ, Bool, not, ◌&&◌, ◌==◌, if◌then◌else◌, List, [], ◌∷◌, ◌++◌, Option}
+use Rattle.std.specs.Prelude.{None, Some}
 
 -- newline is shown as a backslash and an n, U+001A as a backslash and a z, any other character as
 -- itself

@@ -16,7 +16,8 @@ lengthened_texts front (text ∷ texts) = (front ++ text) ∷ texts
 
 -- the reports of codes that follow a text
 abbrev pub reports_from : List ℕ → List ℕ → List (List ℕ)
-reports_from text codes = filter has_characters (lengthened_texts text (texts_between (pieces_of codes)))
+reports_from text codes =
+    filter has_characters (lengthened_texts text (texts_between (pieces_of codes)))
 
 -- the codes that follow a TAB or none
 abbrev pub after_tab : Bool → List ℕ → List ℕ

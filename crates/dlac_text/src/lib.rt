@@ -6,7 +6,7 @@ mod alphabet;
 mod decoding;
 mod draft;
 mod encoding;
-mod laws;
+pub mod laws;
 mod printing;
 mod reader;
 mod report_text;
@@ -15,10 +15,6 @@ mod text_fault;
 
 pub use decoding::reports;
 pub use encoding::encode_text;
-pub use laws::{
-    codes_are_fields, codes_are_pieces, payload_size, plain_text_reads_back,
-    reading_undoes_writing, refused_texts, shown_texts,
-};
 pub use printing::{plain, unplain};
 pub use report_text::Report;
 pub use text_fault::TextFault;

@@ -3,7 +3,8 @@ ghost use Rattle.std.specs.Prelude.{◌≡◌, ◌<◌, [], ◌∷◌, ◌++◌,
 ghost use Rattle.std.specs.Prelude.{None, option_map};
 ghost use Rattle.std.specs.String.{string_bytes};
 ghost use Rattle.std.specs.List.{list_all};
-ghost use Rattle.dlac_text.specs.Plain.{is_itself, plain_character, plain_text, text_of_plain, prefixed_text};
+ghost use Rattle.dlac_text.specs.Plain.{is_itself, plain_character, plain_text, text_of_plain};
+ghost use Rattle.dlac_text.specs.Plain.{prefixed_text};
 
 use crate::report_text::Report;
 use std::alloc::{AllocError, Global};

@@ -1,5 +1,6 @@
 //! Reports while their codes are read.
-ghost use Rattle.std.specs.Prelude.{◌≡◌, ◌≢◌, ◌<◌, [], ◌∷◌, ◌++◌, length, filter, IfOk, OnOk, true, false};
+ghost use Rattle.std.specs.Prelude.{◌≡◌, ◌≢◌, ◌<◌, [], ◌∷◌, ◌++◌, length, filter, IfOk, OnOk, true};
+ghost use Rattle.std.specs.Prelude.{false};
 ghost use Rattle.dlac_text.specs.Alphabet.{IsDlac, character_or_zero};
 ghost use Rattle.dlac_text.specs.Reading.{HasRead, reports_with};
 ghost use Rattle.dlac_text.specs.Reports.{has_characters};

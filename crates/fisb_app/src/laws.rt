@@ -6,9 +6,9 @@ ghost use Rattle.run_core.specs.Run.{task_of};
 
 use fisb_link::{hearings_stay, pictures_agree};
 use ground_core::frames_read_back;
-use life_table::tables_keep_rules;
+use life_table::laws::tables_keep_rules;
 use script_core::ranges_of_lines;
-use uplink_weave::near_frame_gives_payload;
+use uplink_weave::laws::near_frame_gives_payload;
 
 /// What a link promises is what it does, whatever bytes it reads. The pictures by the bytes that
 /// were heard are those that follow from what was given, sent and heard alone, as long as no block

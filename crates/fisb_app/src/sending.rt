@@ -25,7 +25,8 @@ use script_core::{Line, Reason};
 use std::alloc::{AllocError, Global};
 use std::collections::BTreeMap;
 use std::mem;
-use uplink_frame::{StationId, stations_are_told};
+use uplink_frame::StationId;
+use uplink_frame::laws::stations_are_told;
 
 /// The most frames of a run.
 pub(crate) const FRAME_LIMIT: usize = 65_536;

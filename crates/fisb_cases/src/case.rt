@@ -35,7 +35,7 @@ fn run_over(alloc: Global, words: &str, script: Vec<u8>) -> Result<(Status, Vec<
     let mut source = MemorySource::new(Bytes::of(script), Numbers::of(Vec::new(alloc)), PIECE);
     let mut sink = MemorySink::new(alloc, room, Numbers::of(Vec::new(alloc)))?;
     let status = run(alloc, words.as_slice(), &mut source, &mut sink);
-    Ok((status, Vec::from_slice(alloc, sink.taken())?))
+    Ok((status, Vec::from_slice(alloc, sink.bytes())?))
 }
 
 /// The words of a command line: each stands after a space.

@@ -37,7 +37,7 @@ fn link_shows_the_text_that_was_sent_and_heard(rt: HostRuntime) -> Result<(), Fa
     let words = args(rt.alloc(), &["fisb", "link"])?;
     let number = run_args(rt.alloc(), Ok(words), &mut source, &mut sink);
     assert_eq!(rt; number, 0);
-    assert_eq!(rt; sink.taken(), PICTURE.as_bytes());
+    assert_eq!(rt; sink.bytes(), PICTURE.as_bytes());
     Ok(())
 }
 
@@ -48,7 +48,7 @@ fn words_that_name_no_command_end_with_2(rt: HostRuntime) -> Result<(), Fail> {
     let words = args(rt.alloc(), &["link", "fisb"])?;
     let number = run_args(rt.alloc(), Ok(words), &mut source, &mut sink);
     assert_eq!(rt; number, 2);
-    assert!(rt; sink.taken().is_empty());
+    assert!(rt; sink.bytes().is_empty());
     Ok(())
 }
 
@@ -60,6 +60,6 @@ fn words_that_can_not_be_had_end_with_7_or_1(rt: HostRuntime) -> Result<(), Fail
     let no_text = Err(io::Error::from(ErrorKind::InvalidData));
     assert_eq!(rt; run_args(rt.alloc(), no_memory, &mut source, &mut sink), 7);
     assert_eq!(rt; run_args(rt.alloc(), no_text, &mut source, &mut sink), 1);
-    assert!(rt; sink.taken().is_empty());
+    assert!(rt; sink.bytes().is_empty());
     Ok(())
 }

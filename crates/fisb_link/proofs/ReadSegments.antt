@@ -11,7 +11,7 @@ use Rattle.fisb_time.specs.declared.form.TimeForm.TheVariants.{Minute, Second, D
 use Rattle.life_table.specs.Products.{regional_radar, conus_radar, text_product, is_read_product}
 use Rattle.life_table.specs.LifeTable.{LifeTable, longest}
 use Rattle.life_table.specs.Rules.{IsTable, IsWithinForm}
-use Rattle.apdu_core.specs.declared.unit.Seg.{Seg}
+use Rattle.apdu_core.specs.declared.apdu.Seg.{Seg}
 use Rattle.apdu_core.specs.Apdu.{Apdu, apdu_of}
 use Rattle.apdu_core.specs.Spelling.{FitsSegmentation}
 use Rattle.uplink_frame.specs.declared.station.StationId.{StationId}

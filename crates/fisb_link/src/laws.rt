@@ -2,8 +2,8 @@
 //! call the laws of lower crates.
 ghost use Rattle.fisb_link.specs.PicturesAgree.{HearingsStay, PicturesAgree};
 
-use apdu_core::{apdu_reads_back, shown_fits};
-use fisb_time::form_round_trip;
+use apdu_core::laws::{apdu_reads_back, shown_fits};
+use fisb_time::laws::form_round_trip;
 use ground_core::{
     frames_read_back, histories_have_items, items_are_of_stations, segments_are_of_items,
     segments_are_same,
@@ -12,7 +12,7 @@ use picture_core::laws::{keys_are_ordered, same_pictures, shown_is_newest};
 use segment_core::laws::{
     completed_grows, files_complete, only_files_complete, parts_fit_frames, whole_files_complete,
 };
-use uplink_frame::stations_are_told;
+use uplink_frame::laws::stations_are_told;
 
 /// The law of the two pictures: what is shown of the bytes that were heard is what updates, fills
 /// and hearings promise.

@@ -32,9 +32,6 @@ same_second DayMinute m n whole_m whole_n same =
 same_second DaySecond m n whole_m whole_n same =
     omega (arith, ap (λ f. f.hours) same, ap (λ f. f.minutes) same, ap (λ f. f.seconds) same)
 
-leap_day_bound : (y : ℕ) → leap_day (pos y) ≤ 1
-leap_day_bound y = grind (arith, nat_tests)
-
 -- one month and day of two years are at least 365 days apart
 year_apart :
     (y later m d : ℕ) → IsCivilDate (pos y) m d → IsCivilDate (pos later) m d → y < later →

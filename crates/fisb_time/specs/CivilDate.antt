@@ -10,8 +10,8 @@ pub record CivilDate : Type 0 where
   pub month : ℕ
   pub day : ℕ
 
--- the moment lies on this date: the calendar has it, and its day number, counted from 1970-01-01, is
--- the full days of the moment
+-- the moment lies on this date: the calendar has it, and its day number, counted from 1970-01-01,
+-- is the full days of the moment
 pub record IsDateOf (moment : ℕ) (date : CivilDate) : Type 0 where
   pub civil : IsCivilDate (pos date.year) date.month date.day
   pub number : days_from_civil (pos date.year) date.month date.day ≡ pos (moment / day_seconds)
@@ -21,8 +21,8 @@ pub record IsMonthAndDay (month day : ℕ) : Type 0 where
   pub month_in : IsInRange 1 12 month
   pub day_in : IsInRange 1 (days_in_month (pos 2000) month) day
 
--- For use inside other definitions, the same as a function: it walks from 2000-01-01 over whole years
--- and then over whole months.
+-- For use inside other definitions, the same as a function: it walks from 2000-01-01 over whole
+-- years and then over whole months.
 
 -- the date that is so many days after the first of a month of this year, at most so many months on
 unfoldable pub walk_months : ℕ → ℕ → ℕ → ℕ → CivilDate

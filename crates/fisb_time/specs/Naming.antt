@@ -1,7 +1,8 @@
--- Which moment the fields of a received time name. A time field has no year, and often no day, so many
--- moments have the same fields. Meant is the latest of them that is at most a minute after the
+-- Which moment the fields of a received time name. A time field has no year, and often no day, so
+-- many moments have the same fields. Meant is the latest of them that is at most a minute after the
 -- reception: what is broadcast lies in the past, and the minute allows for clocks that differ.
-use Rattle.std.specs.Prelude.{◌≡◌, ℕ, zero, suc, ◌+◌, ◌*◌, ◌<◌, ◌≤◌, Bool, ◌&&◌, cond, IsTrue, Option, None, Some}
+use Rattle.std.specs.Prelude.{◌≡◌, ℕ, zero, suc, ◌+◌, ◌*◌, ◌<◌, ◌≤◌, Bool, ◌&&◌, cond, IsTrue}
+use Rattle.std.specs.Prelude.{Option, None, Some}
 use Rattle.fisb_time.specs.declared.form.TimeForm.{TimeForm}
 use Rattle.fisb_time.specs.declared.form.TimeForm.TheVariants.{Minute, Second, DayMinute, DaySecond}
 use Rattle.fisb_time.specs.declared.form.TimeFields.{TimeFields}

@@ -1,5 +1,6 @@
 //! Which moment a received time names.
-ghost use Rattle.std.specs.Prelude.{◌≡◌, ℕ, ◌+◌, ◌*◌, ◌%◌, ◌<◌, ◌≤◌, ◌↔◌, min, IsTrue, IsSome, IsNone, IfSome};
+ghost use Rattle.std.specs.Prelude.{◌≡◌, ℕ, ◌+◌, ◌*◌, ◌%◌, ◌<◌, ◌≤◌, ◌↔◌, min, IsTrue, IsSome};
+ghost use Rattle.std.specs.Prelude.{IsNone, IfSome};
 ghost use Rattle.fisb_time.specs.Moment.{IsMoment, day_seconds, last_moment};
 ghost use Rattle.fisb_time.specs.CivilDate.{IsMonthAndDay, date_of};
 ghost use Rattle.fisb_time.specs.TimeFields.{IsSecondIn, IsDateIn, IsTimeIn};

@@ -21,7 +21,7 @@ fn link_over<S: Source>(alloc: Global, source: &mut S) -> Result<(Status, Vec<u8
     let none = Numbers::of(Vec::new(alloc));
     let mut sink = MemorySink::new(alloc, 1024, none)?;
     let status = run_link(alloc, source, &mut sink);
-    Ok((status, Vec::from_slice(alloc, sink.taken())?))
+    Ok((status, Vec::from_slice(alloc, sink.bytes())?))
 }
 
 // The same over the first bytes of the script.

@@ -14,7 +14,7 @@ fn new_sink(alloc: Global) -> Result<MemorySink, AllocError> {
 fn summary(alloc: Global) -> Result<(Status, Vec<u8>), AllocError> {
     let mut sink = new_sink(alloc)?;
     let status = run_make(alloc, 1, 1, &mut sink);
-    Ok((status, Vec::from_slice(alloc, sink.taken())?))
+    Ok((status, Vec::from_slice(alloc, sink.bytes())?))
 }
 
 // The number that a word spells.
@@ -65,6 +65,6 @@ fn frames_of_a_workload_go_to_the_receiver(rt: HostRuntime) -> Result<(), Fail> 
     let mut sink = new_sink(rt.alloc())?;
     let status = run_make_over::<MemorySink, Mute>(rt.alloc(), 1, 1, &mut sink);
     assert_eq!(rt; status, Status::NoMemory);
-    assert_eq!(rt; sink.taken(), b"".as_slice());
+    assert_eq!(rt; sink.bytes(), b"".as_slice());
     Ok(())
 }

@@ -49,7 +49,7 @@ fn without_read(alloc: Global, number: u32) -> Result<(Status, Vec<u8>), AllocEr
     let mut source = MemorySource::new(script(alloc)?, numbers(alloc, &[number])?, 16);
     let mut sink = MemorySink::new(alloc, 1024, numbers(alloc, &[])?)?;
     let status = run_link(alloc, &mut source, &mut sink);
-    Ok((status, Vec::from_slice(alloc, sink.taken())?))
+    Ok((status, Vec::from_slice(alloc, sink.bytes())?))
 }
 
 // The same where the write of this number fails.
@@ -57,7 +57,7 @@ fn without_write(alloc: Global, number: u32) -> Result<(Status, Vec<u8>), AllocE
     let mut source = FaithfulSource::new(script(alloc)?);
     let mut sink = MemorySink::new(alloc, 1024, numbers(alloc, &[number])?)?;
     let status = run_link(alloc, &mut source, &mut sink);
-    Ok((status, Vec::from_slice(alloc, sink.taken())?))
+    Ok((status, Vec::from_slice(alloc, sink.bytes())?))
 }
 
 // The same over reads of so many bytes.
@@ -68,7 +68,7 @@ fn in_pieces(alloc: Global, size: u32) -> Result<(Status, Vec<u8>), AllocError>
     let mut source = PieceSource::new(script(alloc)?, sizes);
     let mut sink = MemorySink::new(alloc, 1024, numbers(alloc, &[])?)?;
     let status = run_link(alloc, &mut source, &mut sink);
-    Ok((status, Vec::from_slice(alloc, sink.taken())?))
+    Ok((status, Vec::from_slice(alloc, sink.bytes())?))
 }
 
 #[test]
@@ -134,7 +134,7 @@ fn frame_script(alloc: Global, show: &[u8]) -> Result<Vec<u8>, AllocError> {
     let status = run_ground(alloc, &mut source, &mut sink);
     let mut script = Vec::from_slice(alloc, b"---\nrx 1700000002 ")?;
     if status == Status::Done {
-        let digits = sink.taken().split(|byte| *byte == b' ').last();
+        let digits = sink.bytes().split(|byte| *byte == b' ').last();
         script.extend_from_slice(digits.unwrap_or(b""))?;
     }
     script.extend_from_slice(show)?;
@@ -150,7 +150,7 @@ fn a_frame_of_a_ground_is_received(rt: HostRuntime) -> Result<(), Fail> {
         run_receive(rt.alloc(), &mut source, &mut sink),
         Status::Done
     );
-    assert_eq!(rt; sink.taken(), RECEIVED);
+    assert_eq!(rt; sink.bytes(), RECEIVED);
     Ok(())
 }
 
@@ -175,7 +175,7 @@ fn a_frame_of_a_ground_is_handed_on_to_displays(rt: HostRuntime) -> Result<(), F
     assert_eq!(rt; run_gdl(rt.alloc(), &mut source, &mut sink), Status::Done);
     let mut message = [0; 436];
     message[..27].copy_from_slice(&MESSAGE_FRONT);
-    assert!(rt; is_message(sink.taken(), &message));
+    assert!(rt; is_message(sink.bytes(), &message));
     Ok(())
 }
 
@@ -188,7 +188,7 @@ fn a_frame_without_valid_application_data_is_handed_on_too(rt: HostRuntime) -> R
     assert_eq!(rt; run_gdl(rt.alloc(), &mut source, &mut sink), Status::Done);
     let mut message = [0; 436];
     message[..4].copy_from_slice(&[0x07, 0xff, 0xff, 0xff]);
-    assert!(rt; is_message(sink.taken(), &message));
+    assert!(rt; is_message(sink.bytes(), &message));
     Ok(())
 }
 
@@ -226,7 +226,7 @@ fn a_frame_that_is_heard_goes_to_the_receiver(rt: HostRuntime) -> Result<(), Fai
         &mut sink,
     );
     assert_eq!(rt; status, Status::NoMemory);
-    assert_eq!(rt; sink.taken(), SENT);
+    assert_eq!(rt; sink.bytes(), SENT);
     Ok(())
 }
 
@@ -272,7 +272,7 @@ fn deaf_run(alloc: Global, script: &[u8]) -> Result<(Status, Vec<u8>), AllocErro
     let mut source = FaithfulSource::new(Bytes::of(Vec::from_slice(alloc, script)?));
     let mut sink = MemorySink::new(alloc, 1024, numbers(alloc, &[])?)?;
     let status = run_link_over::<FaithfulSource, MemorySink, Deaf>(alloc, &mut source, &mut sink);
-    Ok((status, Vec::from_slice(alloc, sink.taken())?))
+    Ok((status, Vec::from_slice(alloc, sink.bytes())?))
 }
 
 #[test]

@@ -1,6 +1,7 @@
 -- What a read of a source and a write into a sink answer and leave.
 -- Which bytes they move is said by the standard library's `ReadConsumes` and `WriteAppends`.
-use Rattle.std.specs.Prelude.{◌≡◌, ℕ, ◌+◌, ◌<◌, ◌≤◌, List, length, Option, Some, None, Result, MatchResult, IfOk, ⊤}
+use Rattle.std.specs.Prelude.{◌≡◌, ℕ, ◌+◌, ◌<◌, ◌≤◌, List, length, Option, Some, None, Result}
+use Rattle.std.specs.Prelude.{MatchResult, IfOk, ⊤}
 
 -- a write of a piece of so many bytes takes at most these, and at least one where there is one
 abbrev pub TakesSome : {E : Type 0} → Result ℕ E → ℕ → Type 0
@@ -21,7 +22,8 @@ SpendsCount (Some old) (Some new) n = new + n ≡ old
 abbrev pub SpendsTaken : {E : Type 0} → Option ℕ → Option ℕ → Result ℕ E → Type 0
 SpendsTaken old new result = MatchResult result (SpendsCount old new) (λ _. SpendsCount old new 0)
 
--- where a sink has a reach, its bytes are told, and it has faults only once so many bytes were written
+-- where a sink has a reach, its bytes are told, and it has faults only once so many bytes were
+-- written
 abbrev pub IsReached : Option ℕ → Option (List ℕ) → ℕ → Type 0
 IsReached None written faults = ⊤
 IsReached (Some reach) None faults = ⊥

@@ -1,7 +1,8 @@
 -- A source and a sink in memory, as their callers see them. Both fail at chosen calls.
 use Rattle.fisb_wire.specs.Faults.{u64_count}
 use Rattle.fisb_wire.specs.Ends.{IsReached}
-use Rattle.std.specs.Prelude.{◌≡◌, ℕ, ◌<◌, ◌≤◌, ◌⊎◌, Bool, true, false, eqb, leb, ◌&&◌, ◌||◌, if◌then◌else◌, List, length, Contains, Option, Some, None, refl}
+use Rattle.std.specs.Prelude.{◌≡◌, ℕ, ◌<◌, ◌≤◌, ◌⊎◌, Bool, true, false, eqb, leb, ◌&&◌, ◌||◌}
+use Rattle.std.specs.Prelude.{if◌then◌else◌, List, length, Contains, Option, Some, None, refl}
 use Rattle.std.proofs.Common.{arith}
 
 -- a source in memory
@@ -20,7 +21,7 @@ pub record Supply : Type 0 where
 -- a sink in memory
 pub record Store : Type 0 where
   -- the bytes taken so far
-  pub taken : List ℕ
+  pub bytes : List ℕ
   -- how many bytes it can take in all
   pub room : ℕ
   -- the number of the next call: the first one is 0, and from 2^64 − 1 on it stands still
@@ -38,18 +39,19 @@ FailsNext supply = Contains supply.fails supply.next
 -- something to take and the room is full
 abbrev pub RefusesNext : Store → ℕ → Type 0
 RefusesNext store size =
-    Contains store.fails store.next ⊎ ((0 < size) × (store.room ≤ length store.taken))
+    Contains store.fails store.next ⊎ ((0 < size) × (store.room ≤ length store.bytes))
 
--- Where no call is listed, a write fails at the full room alone: so the room is reached before any fault.
--- A store that has a fault, an empty list and room left comes about by no call; it has no reach.
+-- Where no call is listed, a write fails at the full room alone: so the room is reached before any
+-- fault. A store that has a fault, an empty list and room left comes about by no call; it has no
+-- reach.
 abbrev pub store_reach : Store → Option ℕ
 store_reach store =
-    if eqb (length store.fails) 0 && (eqb store.faults 0 || leb store.room (length store.taken))
+    if eqb (length store.fails) 0 && (eqb store.faults 0 || leb store.room (length store.bytes))
     then Some store.room
     else None
 
--- What the fields of the sink keep: the bytes taken are within the room, and where no call is listed
--- there is a fault only once the room is full.
+-- What the fields of the sink keep: the bytes taken are within the room, and where no call is
+-- listed there is a fault only once the room is full.
 pub record IsWhole (used room : ℕ) (fails : List ℕ) (failed : ℕ) : Type 0 where
   pub within : used ≤ room
   pub full : length fails ≡ 0 → 0 < failed → room ≤ used
@@ -69,7 +71,7 @@ no-fault-or-full a b c room faults size b-is c-is holds faulty = grind arith
 
 -- a store's reach is reached before its first fault
 pub store-reached : (store : Store)
-    → IsReached (store_reach store) (Some store.taken) (u64_count store.faults)
+    → IsReached (store_reach store) (Some store.bytes) (u64_count store.faults)
 store-reached store =
-    reached-where _ store.room _ store.taken
+    reached-where _ store.room _ store.bytes
     (no-fault-or-full (eqb (length store.fails) 0) _ _ _ _ _ refl refl)

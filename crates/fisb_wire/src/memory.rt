@@ -1,5 +1,6 @@
 //! A source and a sink in memory, which fail at chosen calls.
-ghost use Rattle.std.specs.Prelude.{◌≡◌, ℕ, ◌+◌, ◌-◌, ◌<◌, ◌≤◌, ◌↔◌, min, [], ◌++◌, length, take, drop, Contains, Some, None, IsTrue, IsErr, IfOk, OnOk, OnErr};
+ghost use Rattle.std.specs.Prelude.{◌≡◌, ℕ, ◌+◌, ◌-◌, ◌<◌, ◌≤◌, ◌↔◌, min, [], ◌++◌, length, take};
+ghost use Rattle.std.specs.Prelude.{drop, Contains, Some, None, IsTrue, IsErr, IfOk, OnOk, OnErr};
 ghost use Rattle.std.specs.Io.{ReadsAtMost};
 ghost use Rattle.std.specs.Io.KnownBytes.{ReadConsumes, WriteAppends};
 ghost use Rattle.fisb_wire.specs.Faults.{HasCause, u64_count, u64_count-bound, next_count};
@@ -124,7 +125,7 @@ impl Model for MemorySink {
     ghost Value = { Store };
 
     ghost view = { λ s. record {
-      taken = take s.used s.buffer.items;
+      bytes = take s.used s.buffer.items;
       room = vec_len s.buffer;
       next = s.calls;
       fails = s.fails;
@@ -139,7 +140,7 @@ impl MemorySink {
     /// from 0.
     pub fn new(alloc: Global, room: usize, fails: Numbers) -> Result<MemorySink, AllocError>
         ensures { IfOk result (λ sink. sink ≡ record {
-          taken = [];
+          bytes = [];
           room = room;
           next = 0;
           fails = fails;
@@ -157,15 +158,15 @@ impl MemorySink {
     }
 
     /// The bytes taken so far.
-    pub fn taken(&self) -> &[u8]
-        ensures { result.now ≡ self.now.taken }
+    pub fn bytes(&self) -> &[u8]
+        ensures { result.now ≡ self.now.bytes }
     {
         &self.buffer.as_slice()[..self.used]
     }
 }
 
 impl Sink for MemorySink {
-    ghost written = { λ s. Some s.taken };
+    ghost written = { λ s. Some s.bytes };
 
     ghost faults = { λ s. u64_count s.faults };
 
@@ -179,7 +180,7 @@ impl Sink for MemorySink {
 
     fn write(&mut self, piece: &[u8]) -> Result<usize, Failed>
         ensures some { TakesSome result (length piece.now) }
-        ensures bytes { WriteAppends (Some self.old.taken) (Some self.new.taken) result piece.now }
+        ensures bytes { WriteAppends (Some self.old.bytes) (Some self.new.bytes) result piece.now }
         ensures spare { SpendsTaken None None result }
         ensures reach { store_reach self.new ≡ store_reach self.old }
         ensures cause { HasCause (u64_count self.old.faults) (u64_count self.new.faults) result }
@@ -187,9 +188,9 @@ impl Sink for MemorySink {
 
         ensures fails { IsErr result ↔ RefusesNext self.old (length piece.now) }
         ensures count { IfOk result (λ n.
-            n ≡ min (length piece.now) (self.old.room - length self.old.taken)) }
+            n ≡ min (length piece.now) (self.old.room - length self.old.bytes)) }
         ensures ok { IfOk result (λ n. self.new ≡ record self.old {
-          taken = self.old.taken ++ take n piece.now;
+          bytes = self.old.bytes ++ take n piece.now;
           next = next_count self.old.next;
         }) }
         ensures err { OnErr result (self.new ≡ record self.old {

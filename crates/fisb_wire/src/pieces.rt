@@ -1,5 +1,6 @@
 //! A source that gives its bytes in pieces of chosen sizes.
-ghost use Rattle.std.specs.Prelude.{◌≡◌, ℕ, ◌<◌, ◌≤◌, min, ◌++◌, length, take, drop, Some, All, IfOk, IsOk, OnOk, nat_lt, if◌then◌else◌};
+ghost use Rattle.std.specs.Prelude.{◌≡◌, ℕ, ◌<◌, ◌≤◌, min, ◌++◌, length, take, drop, Some, All};
+ghost use Rattle.std.specs.Prelude.{IfOk, IsOk, OnOk, nat_lt, if◌then◌else◌};
 ghost use Rattle.std.specs.Io.{ReadsAtMost};
 ghost use Rattle.std.specs.Io.KnownBytes.{ReadConsumes};
 ghost use Rattle.fisb_wire.specs.Faults.{HasCause, u64_count, u64_count-bound};

@@ -6,8 +6,8 @@ use Rattle.std.proofs.lemmas.Bool.{ne_eqb}
 use Rattle.std.proofs.lemmas.List.{append-nil, append_assoc}
 use Rattle.std.proofs.lemmas.List.Concat.{flat_map-append}
 use Rattle.gdl90_core.specs.declared.piece_bytes.PieceBytes.{PieceBytes}
-use Rattle.gdl90_core.specs.declared.deframing.Stage.{Stage}
-use Rattle.gdl90_core.specs.declared.deframing.Stage.TheVariants.{Outside, Start, Inside, Escaping, Broken}
+use Rattle.gdl90_core.specs.declared.deframer.Stage.{Stage}
+use Rattle.gdl90_core.specs.declared.deframer.Stage.TheVariants.{Outside, Start, Inside, Escaping, Broken}
 use Rattle.gdl90_core.specs.declared.pieces.Damage.TheVariants.{BadEscape, Short, TooLong, BadFcs}
 use Rattle.gdl90_core.specs.Framing.{escaped_byte, escaped_bytes}
 use Rattle.gdl90_core.specs.Stream.{behind_flag, if_not_empty}
@@ -45,16 +45,6 @@ inside_at kept bytes byte first rest e keeps = (
     keeps,
   ),
 )
-
-pub escaping_at :
-    (kept : PieceBytes) (bytes : List ℕ) (byte : ℕ) → byte ≡ 0x7D → Keeps kept bytes
-    → IsAt Escaping kept (Some (escaped_bytes bytes ++ byte ∷ []))
-escaping_at kept bytes byte e keeps = (bytes, ap (λ (b : ℕ). Some (escaped_bytes bytes ++ b ∷ [])) e, keeps)
-
-pub broken_at :
-    (kept : PieceBytes) (bytes : List ℕ) (next : ℕ) → next ≢ 0x5E → next ≢ 0x5D
-    → IsAt Broken kept (Some (escaped_bytes bytes ++ 0x7D ∷ next ∷ []))
-broken_at kept bytes next flag escape = (bytes, next, [], refl, (escape, flag))
 
 -- the stage is that of the stream that goes on by this byte
 pub goes_on :

@@ -1,7 +1,9 @@
--- The frame check sequence of a message (Garmin 560-1058-00, FCS Calculation). A polynomial over the two elements 0 and 1
--- is written as a number: its binary digits are the coefficients, the highest power first. A sum adds coefficients, and
--- 1 + 1 is 0, so it is `bit_xor`; a product with x^k is a product with 2^k.
-use Rattle.std.specs.Prelude.{◌≡◌, ℕ, ◌+◌, ◌*◌, ◌/◌, ◌%◌, ◌^◌, ◌<◌, List, [], ◌∷◌, fold, bit_xor, nat_lt}
+-- The frame check sequence of a message (Garmin 560-1058-00, FCS Calculation). A polynomial over
+-- the two elements 0 and 1 is written as a number: its binary digits are the coefficients, the
+-- highest power first. A sum adds coefficients, and 1 + 1 is 0, so it is `bit_xor`; a product with
+-- x^k is a product with 2^k.
+use Rattle.std.specs.Prelude.{◌≡◌, ℕ, ◌+◌, ◌*◌, ◌/◌, ◌%◌, ◌^◌, ◌<◌, List, [], ◌∷◌, fold, bit_xor}
+use Rattle.std.specs.Prelude.{nat_lt}
 use Rattle.std.specs.Prelude.{if◌then◌else◌}
 use Rattle.bit_fields.specs.Bits.{number_of}
 
@@ -19,9 +21,12 @@ pub record IsRest (number rest : ℕ) : Type 0 where
 abbrev pub IsRemainder : List ℕ → ℕ → Type 0
 IsRemainder message rest = IsRest (number_of message) rest
 
--- long division goes on by a coefficient: where the rest then has degree 16, the divisor is taken away
+-- long division goes on by a coefficient: where the rest then has degree 16, the divisor is taken
+-- away
 abbrev pub with_bit : ℕ → ℕ → ℕ
-with_bit rest bit = let longer = 2 * rest + bit in if nat_lt longer 65536 then longer else bit_xor longer 0x11021
+with_bit rest bit =
+    let longer = 2 * rest + bit in
+    if nat_lt longer 65536 then longer else bit_xor longer 0x11021
 
 -- the bits of a byte, the highest first
 abbrev pub bits_of : ℕ → List ℕ

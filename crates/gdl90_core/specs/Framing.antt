@@ -6,7 +6,8 @@ use Rattle.gdl90_core.specs.CheckSequence.{remainder}
 -- the flag 7E and the control-escape 7D are sent as 7D and the byte with its bit 5 turned
 abbrev pub escaped_byte : ℕ → List ℕ
 escaped_byte byte =
-    if byte == 0x7E then 0x7D ∷ 0x5E ∷ [] else (if byte == 0x7D then 0x7D ∷ 0x5D ∷ [] else byte ∷ [])
+    if byte == 0x7E then 0x7D ∷ 0x5E ∷ [] else
+    (if byte == 0x7D then 0x7D ∷ 0x5D ∷ [] else byte ∷ [])
 
 abbrev pub escaped_bytes : List ℕ → List ℕ
 escaped_bytes bytes = flat_map escaped_byte bytes

@@ -1,5 +1,6 @@
 -- The laws of remainders, of pieces and of what they say.
-use Rattle.std.specs.Prelude.{◌≡◌, ◌≢◌, ℕ, ◌<◌, ◌≤◌, ◌↔◌, List, [], ◌∷◌, ◌++◌, All, length, map, Option}
+use Rattle.std.specs.Prelude.{◌≡◌, ◌≢◌, ℕ, ◌<◌, ◌≤◌, ◌↔◌, List, [], ◌∷◌, ◌++◌, All, length, map}
+use Rattle.std.specs.Prelude.{Option}
 use Rattle.std.specs.List.{flat_map}
 use Rattle.std.specs.Option.{option_map, option_to_list}
 use Rattle.bit_fields.specs.Bits.{AreBytes}
@@ -12,7 +13,8 @@ use Rattle.gdl90_core.specs.declared.pieces.Framed.{Framed}
 
 -- a message has one remainder, and it is that of the long division
 abbrev pub OneRemainder : Type 0
-OneRemainder = (text : List ℕ) (rest : ℕ) → AreBytes text → IsRemainder text rest ↔ (rest ≡ remainder text)
+OneRemainder =
+    (text : List ℕ) (rest : ℕ) → AreBytes text → IsRemainder text rest ↔ (rest ≡ remainder text)
 
 -- a byte more brings the piece that it ends, and changes no other
 abbrev pub PiecesGoOn : Type 0
@@ -23,7 +25,8 @@ PiecesGoOn = (stream : List ℕ) (byte : ℕ)
 abbrev pub AnswersInOrder : Type 0
 AnswersInOrder = (stream : List ℕ) (byte : ℕ) (answer : Option Framed) (readings : List Reading)
     → Answers stream byte answer → SayInOrder (pieces_of stream) readings
-    → SayInOrder (pieces_of (stream ++ byte ∷ [])) (readings ++ option_to_list (option_map reading_of answer))
+    → SayInOrder (pieces_of (stream ++ byte ∷ []))
+    (readings ++ option_to_list (option_map reading_of answer))
 
 -- the piece says this, and nothing else
 pub record SaysOnly (piece : List ℕ) (reading : Reading) : Type 0 where
@@ -43,4 +46,5 @@ pub record FitsFrame (text : List ℕ) : Type 0 where
 -- framed messages, one after another, say these messages, and nothing else
 abbrev pub MessagesReadBack : Type 0
 MessagesReadBack = (texts : List (List ℕ)) (readings : List Reading) → All FitsFrame texts
-    → SayInOrder (pieces_of (flat_map framed_message texts)) readings ↔ (readings ≡ map message texts)
+    → SayInOrder (pieces_of (flat_map framed_message texts)) readings
+    ↔ (readings ≡ map message texts)

@@ -38,7 +38,8 @@ BytesSay bytes (damaged Short) = length bytes < 3
 BytesSay bytes (damaged TooLong) = 1024 < length bytes
 BytesSay bytes (damaged BadFcs) =
     (2 < length bytes) × (length bytes ≤ 1024)
-    × ((front : List ℕ) (low high : ℕ) → bytes ≡ front ++ low ∷ high ∷ [] → low + 256 * high ≢ remainder front)
+    × ((front : List ℕ) (low high : ℕ) → bytes ≡ front ++ low ∷ high ∷ []
+    → low + 256 * high ≢ remainder front)
 
 -- what a piece says
 abbrev pub Says : List ℕ → Reading → Type 0

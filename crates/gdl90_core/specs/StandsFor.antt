@@ -3,11 +3,12 @@ use Rattle.std.specs.Prelude.{◌≡◌, ◌≢◌, ⊤, ℕ, ◌-◌, ◌<◌, 
 use Rattle.std.specs.Prelude.{Option, Some, None, MatchBool, MatchOption}
 use Rattle.std.specs.Borrow.{follows_so, Fml, MutBor}
 use mathlib.Core.Option.{none}
-use Rattle.gdl90_core.specs.contracts.deframing.Deframer.{the_row}
+use Rattle.gdl90_core.specs.contracts.deframer.Deframer.{the_row}
 use Rattle.gdl90_core.specs.declared.piece_bytes.PieceBytes.{PieceBytes}
-use Rattle.gdl90_core.specs.declared.deframing.Stage.{Stage}
-use Rattle.gdl90_core.specs.declared.deframing.Stage.TheVariants.{Outside, Start, Inside, Escaping, Broken}
-use Rattle.gdl90_core.specs.declared.deframing.Deframer.{Deframer}
+use Rattle.gdl90_core.specs.declared.deframer.Stage.{Stage}
+use Rattle.gdl90_core.specs.declared.deframer.Stage.TheVariants.{Outside, Start, Inside, Escaping}
+use Rattle.gdl90_core.specs.declared.deframer.Stage.TheVariants.{Broken}
+use Rattle.gdl90_core.specs.declared.deframer.Deframer.{Deframer}
 use Rattle.gdl90_core.specs.declared.pieces.Framed.{Framed}
 use Rattle.gdl90_core.specs.CheckSequence.{remainder}
 use Rattle.gdl90_core.specs.Framing.{escaped_bytes}
@@ -25,7 +26,8 @@ Keeps kept bytes = MatchBool kept.too_long (1024 < length bytes) (KeepsAll kept 
 
 -- the piece after the last flag is these bytes, escaped, and what is put after them
 abbrev pub IsRead : PieceBytes → Option (List ℕ) → List ℕ → Type 0
-IsRead kept piece behind = (bytes : List ℕ) × (piece ≡ Some (escaped_bytes bytes ++ behind)) × Keeps kept bytes
+IsRead kept piece behind =
+    (bytes : List ℕ) × (piece ≡ Some (escaped_bytes bytes ++ behind)) × Keeps kept bytes
 
 -- what is kept at a stage of the piece after the last flag
 abbrev pub IsAt : Stage → PieceBytes → Option (List ℕ) → Type 0
@@ -51,7 +53,8 @@ PieceAnswers ended answer = MatchOption answer
     (ended ≡ None)
     (λ framed. (piece : List ℕ) × (ended ≡ Some piece) × Says piece (reading_of framed))
 
--- the answer at this byte after the stream: what the piece says that it ends, and nothing where it ends none
+-- the answer at this byte after the stream: what the piece says that it ends, and nothing where it
+-- ends none
 abbrev pub Answers : List ℕ → ℕ → Option Framed → Type 0
 Answers stream byte answer = PieceAnswers (ended_piece stream byte) answer
 

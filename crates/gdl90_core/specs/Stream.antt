@@ -1,11 +1,13 @@
--- A stream of bytes, cut at each flag 7E. A piece stands between two flags; one flag may end a piece and begin the next.
+-- A stream of bytes, cut at each flag 7E. A piece stands between two flags; one flag may end a
+-- piece and begin the next.
 use Rattle.std.specs.Prelude.{ℕ, ◌==◌, if◌then◌else◌, List, [], ◌∷◌, ◌++◌, Option, Some, None}
 use Rattle.std.specs.Option.{option_map, option_or, option_to_list}
 
 -- the bytes before the first flag, where there is a flag
 abbrev pub before_flag : List ℕ → Option (List ℕ)
 before_flag [] = None
-before_flag (byte ∷ more) = if byte == 0x7E then Some [] else option_map (λ piece. byte ∷ piece) (before_flag more)
+before_flag (byte ∷ more) =
+    if byte == 0x7E then Some [] else option_map (λ piece. byte ∷ piece) (before_flag more)
 
 -- the bytes after the last flag, where there is a flag
 abbrev pub behind_flag : List ℕ → Option (List ℕ)
@@ -22,7 +24,8 @@ if_not_empty (Some (byte ∷ more)) = Some (byte ∷ more)
 abbrev pub pieces_of : List ℕ → List (List ℕ)
 pieces_of [] = []
 pieces_of (byte ∷ more) =
-    (if byte == 0x7E then option_to_list (if_not_empty (before_flag more)) else []) ++ pieces_of more
+    (if byte == 0x7E then option_to_list (if_not_empty (before_flag more)) else [])
+    ++ pieces_of more
 
 -- the piece, not empty, that this byte ends after the stream
 abbrev pub ended_piece : List ℕ → ℕ → Option (List ℕ)

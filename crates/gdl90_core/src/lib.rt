@@ -3,7 +3,7 @@
 #![tactic(auto)]
 
 mod check_sequence;
-mod deframing;
+mod deframer;
 mod framing;
 pub mod laws;
 mod piece_bytes;
@@ -12,7 +12,7 @@ mod remainders;
 mod uplink;
 
 pub use check_sequence::fcs;
-pub use deframing::Deframer;
+pub use deframer::Deframer;
 pub use framing::frame_message;
 pub use pieces::{Damage, Framed};
 pub use uplink::uplink_message;

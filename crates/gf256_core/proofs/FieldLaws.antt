@@ -44,11 +44,6 @@ comm {p} t a b =
     ∙ comm_bytes t (a % 256) (b % 256) (mod_below a 256 (lit< tt)) (mod_below b 256 (lit< tt))
     ∙ product-low_right p (b % 256) a ∙ product-low_left p b a
 
--- a product of x times 1, so often, with a product
-product-shifted_any : (p n b : ℕ) → HasDegreeEight p → product p (shifted p n 1) b ≡ shifted p n (b % 256)
-product-shifted_any p n b d =
-    sym (product-low_right p (shifted p n 1) b) ∙ product-shifted p n (b % 256) d (mod_below b 256 (lit< tt))
-
 shifted-product :
     (p n b c : ℕ) → HasDegreeEight p → b < 256 → product p (shifted p n b) c ≡ shifted p n (product p b c)
 unfolding shifted

@@ -18,10 +18,6 @@ unfoldable pub shifted : ℕ → ℕ → ℕ → ℕ
 shifted p zero z = z
 shifted p (suc n) z = times_x p (shifted p n z)
 
-pub shifted-suc : (p n z : ℕ) → shifted p (suc n) z ≡ times_x p (shifted p n z)
-unfolding shifted
-shifted-suc p n z = refl
-
 pub shifted-fits : (p n z : ℕ) → HasDegreeEight p → z < 256 → shifted p n z < 256
 unfolding shifted
 shifted-fits p zero z d h = h
@@ -112,10 +108,6 @@ row_not_zero :
     {p : ℕ} {powers logarithms : List ℕ} (t : AreTables p powers logarithms) (i : ℕ) → i < 255 → 0 < shifted p i 1
 row_not_zero {p} {powers} t i h =
     let n : 0 < get_or powers i 0 = t.not_zero i h in let r : get_or powers i 0 ≡ shifted p i 1 = row-shifted t i h in omega arith
-
-shifted-one : (p : ℕ) → shifted p 1 1 ≡ times_x p 1
-unfolding shifted
-shifted-one p = refl
 
 -- the row that x times would make 0 is not the last one: with 1 added it would be a row too
 not_the_last :

@@ -7,7 +7,8 @@ pub record AreTables (modulus : ℕ) (powers logarithms : List ℕ) : Type 0 whe
   pub low : 256 ≤ modulus
   pub high : modulus < 512
   pub first : slice_index powers 0 ≡ 1
-  pub next : (i : ℕ) → i < 254 → slice_index powers (i + 1) ≡ product modulus (slice_index powers i) 2
+  pub next : (i : ℕ) → i < 254
+      → slice_index powers (i + 1) ≡ product modulus (slice_index powers i) 2
   pub not_zero : (i : ℕ) → i < 255 → 0 < slice_index powers i
   pub logarithm : (i : ℕ) → i < 255 → slice_index logarithms (slice_index powers i) ≡ i
   pub of_zero : slice_index logarithms 0 ≡ 0

@@ -2,9 +2,8 @@
 #![tactic(auto)]
 
 mod element;
-mod laws;
+pub mod laws;
 mod tables;
 
 pub use element::{Gf, Uat};
-pub use laws::{field_laws, one_remainder};
 pub use tables::{FieldTables, UatTables};

@@ -94,7 +94,8 @@ impl FieldTables for UatTables {
 
     const LOG: [u8; 256] = UAT_LOGARITHMS;
 
-    ghost use Rattle.gf256_core.specs.declared.tables.TheConstants.{UAT_MODULUS, UAT_POWERS, UAT_LOGARITHMS};
+    ghost use Rattle.gf256_core.specs.declared.tables.TheConstants.{UAT_MODULUS, UAT_POWERS};
+    ghost use Rattle.gf256_core.specs.declared.tables.TheConstants.{UAT_LOGARITHMS};
 
     ghost POLY = { UAT_MODULUS };
 
@@ -130,7 +131,8 @@ mod tests {
 
         const LOG: [u8; 256] = UAT_LOGARITHMS;
 
-        ghost use Rattle.gf256_core.specs.declared.tables.TheConstants.{UAT_MODULUS, UAT_POWERS, UAT_LOGARITHMS};
+        ghost use Rattle.gf256_core.specs.declared.tables.TheConstants.{UAT_MODULUS, UAT_POWERS};
+        ghost use Rattle.gf256_core.specs.declared.tables.TheConstants.{UAT_LOGARITHMS};
 
         ghost POLY = { UAT_MODULUS };
 

@@ -28,17 +28,16 @@ use crate::line::Line;
 use crate::newest::{Newest, given_of};
 use crate::numbered_key::NumberedKey;
 use crate::radar_items::{block_item, group_items};
-use apdu_core::apdu_reads_back;
-use dlac_text::payload_size;
 use fisb_time::Moment;
-use life_table::{CONUS_RADAR, LifeTable, REGIONAL_RADAR, TEXT_PRODUCT, longest_is_greatest};
+use life_table::laws::longest_is_greatest;
+use life_table::{CONUS_RADAR, LifeTable, REGIONAL_RADAR, TEXT_PRODUCT};
 use picture_core::laws::{keys_are_ordered, life_of_entries};
 use radar_core::laws::groups_are_records;
 use radar_core::{BlockKey, Cells, group_blanks};
 use segment_core::{is_segmented, part_count};
 use std::alloc::Global;
 use std::rc::Rc;
-use uplink_frame::{AppData, StationId, stations_are_told};
+use uplink_frame::{AppData, StationId};
 
 /// The ground: what it was given and has to send.
 #[derive(Drop)]
@@ -267,9 +266,9 @@ impl Ground {
 
         ensures room { IfOk result (λ frame. frame.used ≤ frame_room) }
     {
-        apdu_reads_back();
+        apdu_core::laws::apdu_reads_back();
         keys_are_ordered();
-        stations_are_told();
+        uplink_frame::laws::stations_are_told();
         if let Some(kept) = self.last_above(moment) {
             return Err(FillFault::Clock { kept });
         }
@@ -328,7 +327,7 @@ impl Ground {
             (latest_at self.now.newest) (count_at self.now.files)
             moment (text_update version text.now))) }
     {
-        payload_size();
+        dlac_text::laws::payload_size();
         let payload = payload_of_text(self.alloc, text)?;
         let key = key_of_text(self.alloc, &self.table, text)?;
         let Some(row) = self.table.text_row(key.kind.all()) else {

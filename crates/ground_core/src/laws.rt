@@ -4,13 +4,13 @@ ghost use Rattle.ground_core.specs.Sound.{AcceptedIsGiven, HistoriesHaveItems};
 ghost use Rattle.ground_core.specs.Sent.{FramesReadBack, ItemsAreOfStations, SegmentsAreOfItems};
 ghost use Rattle.ground_core.specs.Sent.{HistoriesGrow, SegmentsAreSame};
 
-use apdu_core::apdu_reads_back;
-use dlac_text::{payload_size, reading_undoes_writing, refused_texts};
-use life_table::longest_is_greatest;
+use apdu_core::laws::apdu_reads_back;
+use dlac_text::laws::{payload_size, reading_undoes_writing, refused_texts};
+use life_table::laws::longest_is_greatest;
 use picture_core::laws::keys_are_ordered;
 use radar_core::laws::{blank_records_read_back, groups_are_records, run_records_read_back};
 use segment_core::laws::{parts_are_few, parts_fit_frames};
-use uplink_frame::{bodies_read_back, stations_are_told};
+use uplink_frame::laws::{bodies_read_back, stations_are_told};
 
 /// The law that what an accepted update says is sound weather, given in time.
 #[inline]

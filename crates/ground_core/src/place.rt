@@ -6,7 +6,8 @@ ghost use Rattle.uplink_frame.specs.UplinkFrame.{fisb_frame, frame_room, spelled
 
 use crate::item::SentItem;
 use crate::newest::Newest;
-use apdu_core::{Apdu, Seg, apdu_reads_back, shown_fits, write_apdu};
+use apdu_core::laws::{apdu_reads_back, shown_fits};
+use apdu_core::{Apdu, Seg, write_apdu};
 use fisb_time::{Moment, fields_of};
 use segment_core::laws::parts_fit_frames;
 use std::rc::Rc;

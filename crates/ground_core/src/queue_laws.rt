@@ -4,7 +4,7 @@ ghost use Rattle.ground_core.specs.Starving.{NoStarvation};
 
 use picture_core::laws::keys_are_ordered;
 use segment_core::laws::parts_fit_frames;
-use uplink_frame::stations_are_told;
+use uplink_frame::laws::stations_are_told;
 
 /// The law that no segment waits for ever: while it stays live, it is aired at the latest by the n-th next fill, n being
 /// twice the bytes before it by 425, rounded down, plus 2.

@@ -5,13 +5,12 @@
 mod document;
 mod entries;
 mod fault;
-mod laws;
+pub mod laws;
 mod products;
 mod rows;
 mod table;
 
 pub use fault::{RowFault, TableFault};
-pub use laws::{longest_is_greatest, tables_keep_rules};
 pub use products::{CONUS_RADAR, REGIONAL_RADAR, TEXT_PRODUCT};
 pub use rows::{RadarRow, TextRow};
 pub use table::LifeTable;

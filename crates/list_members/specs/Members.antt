@@ -1,9 +1,11 @@
 -- Members of filters and of joined lists.
-use Rattle.std.proofs.Common.{◌≡◌, Bool, true, ◌⊎◌, List, [], ◌∷◌, ◌++◌, filter, sym, ap, subst, ◌∙◌, inl, inr}
+use Rattle.std.proofs.Common.{◌≡◌, Bool, true, ◌⊎◌, List, [], ◌∷◌, ◌++◌, filter, sym, ap, subst}
+use Rattle.std.proofs.Common.{◌∙◌, inl, inr}
 use Rattle.std.proofs.lemmas.Bool.{cases_Bool, cond-true, cond-false}
 use Rattle.list_members.specs.Membership.{IsIn}
 
-pub IsIn-filter : {X : Type 0} (p : X → Bool) (x : X) (xs : List X) → IsIn x xs → p x ≡ true → IsIn x (filter p xs)
+pub IsIn-filter : {X : Type 0} (p : X → Bool) (x : X) (xs : List X) → IsIn x xs → p x ≡ true
+    → IsIn x (filter p xs)
 IsIn-filter p x [] here passes = absurd here
 IsIn-filter p x (y ∷ ys) (inl same) passes = rw (sym (ap p same) ∙ passes) (inl same)
 IsIn-filter p x (y ∷ ys) (inr later) passes = elim (cases_Bool (p y)) [
@@ -11,14 +13,18 @@ IsIn-filter p x (y ∷ ys) (inr later) passes = elim (cases_Bool (p y)) [
   | inr f ↦ rw f (IsIn-filter p x ys later passes)
 ]
 
-pub IsIn-from_filter : {X : Type 0} (p : X → Bool) (x : X) (xs : List X) → IsIn x (filter p xs) → IsIn x xs × (p x ≡ true)
+pub IsIn-from_filter : {X : Type 0} (p : X → Bool) (x : X) (xs : List X) → IsIn x (filter p xs)
+    → IsIn x xs × (p x ≡ true)
 IsIn-from_filter p x [] here = absurd here
 IsIn-from_filter p x (y ∷ ys) here = elim (cases_Bool (p y)) [
   | inl t ↦ elim (subst (IsIn x) (cond-true (p y) (y ∷ filter p ys) (filter p ys) t) here) [
     | inl same ↦ (inl same, ap p same ∙ t)
     | inr later ↦ let rest = IsIn-from_filter p x ys later in (inr rest.0, rest.1)
   ]
-  | inr f ↦ let rest = IsIn-from_filter p x ys (subst (IsIn x) (cond-false (p y) (y ∷ filter p ys) (filter p ys) f) here) in (inr rest.0, rest.1)
+  | inr f ↦
+      let rest = IsIn-from_filter p x ys
+      (subst (IsIn x) (cond-false (p y) (y ∷ filter p ys) (filter p ys) f) here) in
+      (inr rest.0, rest.1)
 ]
 
 pub IsIn-before : {X : Type 0} (x : X) (xs ys : List X) → IsIn x xs → IsIn x (xs ++ ys)

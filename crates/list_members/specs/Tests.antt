@@ -1,6 +1,7 @@
 -- What tests of an option and of two numbers say, and what nothing adds.
-use Rattle.std.proofs.Common.{◌≡◌, ℕ, ◌+◌, ◌==◌, nat_lt, Bool, true, false, cond, Option, Some, None, is_some, Result, Ok, Err}
-use Rattle.std.proofs.Common.{OnOk, refl, inl, inr, arith}
+use Rattle.std.proofs.Common.{◌≡◌, ℕ, ◌+◌, ◌==◌, nat_lt, Bool, true, false, cond, Option, Some}
+use Rattle.std.proofs.Common.{None, is_some, Result, Ok, Err}
+use Rattle.std.proofs.Common.{refl, inl, inr, arith}
 use Rattle.std.specs.Option.{option_map, option_or}
 use Rattle.std.specs.Ordering.{is_eq, nat_cmp}
 use Rattle.std.proofs.lemmas.Bool.{cases_Bool, ltb-true, ne_eqb}
@@ -19,19 +20,16 @@ or_none (Some x) = refl
 
 -- an answer after a test that refuses: the test was false
 pub ok_past_test :
-    {A E : Type 0} (b : Bool) (e : E) (r : Result A E) (y : A) → cond b (Err e) r ≡ Ok y → (b ≡ false) × (r ≡ Ok y)
+    {A E : Type 0} (b : Bool) (e : E) (r : Result A E) (y : A) → cond b (Err e) r ≡ Ok y
+    → (b ≡ false) × (r ≡ Ok y)
 ok_past_test true e r y is = absurd (cc)
 ok_past_test false e r y is = (refl, is)
 
 -- something after a test that gives nothing: the test was false
-pub some_past_test : {A : Type 0} (b : Bool) (o : Option A) (x : A) → cond b None o ≡ Some x → (b ≡ false) × (o ≡ Some x)
+pub some_past_test : {A : Type 0} (b : Bool) (o : Option A) (x : A) → cond b None o ≡ Some x
+    → (b ≡ false) × (o ≡ Some x)
 some_past_test true o x is = absurd (cc)
 some_past_test false o x is = (refl, is)
-
--- what follows from what holds of an answer
-pub on_ok : {T E : Type 0} (r : Result T E) (P Q : Type 0) → (P → Q) → OnOk r P → OnOk r Q
-on_ok (Ok x) P Q f h = f h
-on_ok (Err e) P Q f h = tt
 
 pub mapped_some : {A B : Type 0} (f : A → B) (o : Option A) → is_some (option_map f o) ≡ is_some o
 mapped_some f None = refl

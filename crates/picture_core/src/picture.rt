@@ -1,5 +1,6 @@
 //! The picture and its calls.
-ghost use Rattle.std.specs.Prelude.{◌≡◌, ◌≤◌, IsSome, IfOk, OnOk, OnErr, Some, None, [], length, map};
+ghost use Rattle.std.specs.Prelude.{◌≡◌, ◌≤◌, IsSome, IfOk, OnOk, OnErr, Some, None, [], length};
+ghost use Rattle.std.specs.Prelude.{map};
 ghost use Rattle.picture_core.specs.Entry.{AreOfKind, IsOfKind};
 ghost use Rattle.picture_core.specs.Kept.{IsRising, keys, live_entries, put};
 ghost use Rattle.picture_core.specs.Marked.{MarkedEntries};

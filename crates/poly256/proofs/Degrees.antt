@@ -10,9 +10,6 @@ use Rattle.poly256.proofs.ListProducts.{coefficient-product, product-single, pro
 use Rattle.bit_fields.specs.Xors.{xor-swap, xor-equal}
 use Rattle.poly256.proofs.Trims.{trimmed_coefficients-empty, trimmed_from_last, last_from_trimmed, trimmed_from_same, same_from_trimmed, coefficient-trimmed_coefficients, trimmed_coefficients-trimmed_coefficients, trimmed_coefficients-product, length-trimmed_coefficients}
 
-pub IsBytes : List ℕ → Type 0
-IsBytes xs = (k : ℕ) → get_or xs k 0 < 256
-
 pub last_not_zero : (xs : List ℕ) → trimmed_coefficients xs ≡ xs → 0 < length xs → 0 < get_or xs (length xs - 1) 0
 last_not_zero xs e h = last_from_trimmed xs (length xs - 1) e (omega arith)
 

@@ -11,10 +11,6 @@ unfolding sum_of
 sum-empty_right [] = refl
 sum-empty_right (x ∷ xs) = refl
 
-pub sum-empty_left : (xs : List ℕ) → sum_of [] xs ≡ xs
-unfolding sum_of
-sum-empty_left xs = refl
-
 pub sum_comm : (xs ys : List ℕ) → sum_of xs ys ≡ sum_of ys xs
 unfolding sum_of
 sum_comm [] ys = sym (sum-empty_right ys)

@@ -14,10 +14,6 @@ unfolding raised_coefficients shifted_coefficients
 raised_coefficients-empty zero = refl
 raised_coefficients-empty (suc n) = ap shifted_coefficients (raised_coefficients-empty n)
 
-pub raised_coefficients-suc : (n : ℕ) (cs : List ℕ) → raised_coefficients (suc n) cs ≡ shifted_coefficients (raised_coefficients n cs)
-unfolding raised_coefficients
-raised_coefficients-suc n cs = refl
-
 sum-cons_shifted : (r : ℕ) (us vs : List ℕ) → sum_of (r ∷ us) (shifted_coefficients vs) ≡ r ∷ sum_of us vs
 unfolding sum_of shifted_coefficients
 sum-cons_shifted r us [] = ap (λ (xs : List ℕ). r ∷ xs) (sym (sum-empty_right us))

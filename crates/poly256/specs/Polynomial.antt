@@ -1,6 +1,8 @@
--- Polynomials over the field of the uplink. A polynomial is a list of its coefficients, lowest power first. Zeros at the
--- end of a list change nothing, and the list with none at its end is the one that stands for the polynomial.
-use Rattle.std.specs.Prelude.{◌≡◌, ℕ, zero, suc, ◌<◌, ◌≤◌, List, [], ◌∷◌, length, slice_index, bit_xor, Option, Some, None}
+-- Polynomials over the field of the uplink. A polynomial is a list of its coefficients, lowest
+-- power first. Zeros at the end of a list change nothing, and the list with none at its end is the
+-- one that stands for the polynomial.
+use Rattle.std.specs.Prelude.{◌≡◌, ℕ, zero, suc, ◌<◌, ◌≤◌, List, [], ◌∷◌, length, slice_index}
+use Rattle.std.specs.Prelude.{bit_xor, Option, Some, None}
 use Rattle.gf256_core.specs.Field.{product, power}
 
 -- the product in the field whose modulus is x^8 + x^7 + x^2 + x + 1
@@ -45,12 +47,14 @@ raised_coefficients (suc n) cs = shifted_coefficients (raised_coefficients n cs)
 -- the first coefficient times the second factor, and x times the product with the rest
 unfoldable pub list_product : List ℕ → List ℕ → List ℕ
 list_product [] ys = []
-list_product (x ∷ xs) ys = sum_of (scaled_coefficients x ys) (shifted_coefficients (list_product xs ys))
+list_product (x ∷ xs) ys =
+    sum_of (scaled_coefficients x ys) (shifted_coefficients (list_product xs ys))
 
 -- the value at an element: the sum of the coefficients, each times the power of the element
 unfoldable pub terms_from : ℕ → List ℕ → ℕ → ℕ
 terms_from n [] at = 0
-terms_from n (c ∷ cs) at = bit_xor (element_product c (element_power at n)) (terms_from (suc n) cs at)
+terms_from n (c ∷ cs) at =
+    bit_xor (element_product c (element_power at n)) (terms_from (suc n) cs at)
 
 unfoldable pub value_at : List ℕ → ℕ → ℕ
 value_at cs at = terms_from 0 cs at
@@ -82,7 +86,9 @@ pub record IsPolynomial (capacity : ℕ) (cs : List ℕ) : Type 0 where
   pub bytes : (k : ℕ) → slice_index cs k < 256
   pub no_end_zeros : trimmed_coefficients cs ≡ cs
 
--- the dividend is the quotient times the divisor and the rest, which is zero or of lower degree than the divisor
+-- the dividend is the quotient times the divisor and the rest, which is zero or of lower degree
+-- than the divisor
 pub record IsDivision (dividend divisor quotient rest : List ℕ) : Type 0 where
-  pub whole : trimmed_coefficients (sum_of (list_product quotient divisor) rest) ≡ trimmed_coefficients dividend
+  pub whole : trimmed_coefficients (sum_of (list_product quotient divisor) rest)
+      ≡ trimmed_coefficients dividend
   pub lower : length rest < length divisor

@@ -1,6 +1,7 @@
 ghost use Rattle.poly256.specs.Laws.{IsRing, IgnoresEndZeros, HasDegrees, HasValues, HasFewRoots};
 
-use gf256_core::{UatTables, field_laws};
+use gf256_core::UatTables;
+use gf256_core::laws::field_laws;
 
 /// The law that sums and products of polynomials make a ring.
 #[inline]

@@ -1,7 +1,8 @@
 ghost use Rattle.std.specs.Prelude.{◌≡◌, ◌+◌, ◌<◌, ◌≤◌, ◌↔◌, [], length, take, slice_index, IsNone};
 
 use crate::room::{add_list, add_product, divide, trimmed_len, value_of, write_derivative};
-use gf256_core::{Uat, UatTables, field_laws};
+use gf256_core::laws::field_laws;
+use gf256_core::{Uat, UatTables};
 use std::marker::Model;
 
 /// A polynomial over the field of the uplink's code, with room for `CAP` coefficients, from 1 to 1,024. It is seen as
@@ -24,7 +25,9 @@ impl<const CAP: usize> Model for Poly<CAP> {
 }
 
 impl<const CAP: usize> Poly<CAP> {
-    ghost use Rattle.poly256.specs.Polynomial.{IsPolynomial, trimmed_coefficients, sum_of, list_product, value_at, derivative_of, degree_of, IsDivision};
+    ghost use Rattle.poly256.specs.Polynomial.{IsPolynomial, trimmed_coefficients, sum_of};
+    ghost use Rattle.poly256.specs.Polynomial.{list_product, value_at, derivative_of, degree_of};
+    ghost use Rattle.poly256.specs.Polynomial.{IsDivision};
 
     /// The polynomial that is 0 everywhere.
     pub fn zero() -> Self

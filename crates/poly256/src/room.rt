@@ -1,7 +1,10 @@
 ghost use Rattle.std.specs.Prelude.{◌≡◌, ◌+◌, ◌-◌, ◌<◌, ◌≤◌, ℕ, length, take, slice_index};
-ghost use Rattle.poly256.specs.Polynomial.{sum_of, scaled_coefficients, raised_coefficients, list_product, derivative_of, value_at, trimmed_coefficients};
+ghost use Rattle.poly256.specs.Polynomial.{sum_of, scaled_coefficients, raised_coefficients};
+ghost use Rattle.poly256.specs.Polynomial.{list_product, derivative_of, value_at};
+ghost use Rattle.poly256.specs.Polynomial.{trimmed_coefficients};
 
-use gf256_core::{Uat, UatTables, field_laws};
+use gf256_core::laws::field_laws;
+use gf256_core::{Uat, UatTables};
 
 // Adds the polynomial `list` to the one in `room`.
 #[inline]

@@ -21,17 +21,17 @@ use Rattle.radar_core.proofs.MarkLemmas.{above_base, near_base, last-of_group}
 use Rattle.radar_core.proofs.RankLemmas.{below_eight, named_by, or_skip}
 use Rattle.radar_core.proofs.ReadBack.{bitmap_record_read}
 
--- lists that agree place by place
-filter_same : (p q : ℕ → Bool) (xs : List ℕ) → ((k : ℕ) → k < length xs → p (get_or xs k 0) ≡ q (get_or xs k 0)) → filter p xs ≡ filter q xs
-filter_same p q [] same = refl
-filter_same p q (x ∷ xs) same =
+-- tests and functions that agree place by place
+filter_same_at : (p q : ℕ → Bool) (xs : List ℕ) → ((k : ℕ) → k < length xs → p (get_or xs k 0) ≡ q (get_or xs k 0)) → filter p xs ≡ filter q xs
+filter_same_at p q [] same = refl
+filter_same_at p q (x ∷ xs) same =
     ap (λ b. cond b (x ∷ filter p xs) (filter p xs)) (same 0 (omega arith))
-    ∙ ap (λ (r : List ℕ). cond (q x) (x ∷ r) r) (filter_same p q xs (λ k below. same (suc k) (omega arith)))
+    ∙ ap (λ (r : List ℕ). cond (q x) (x ∷ r) r) (filter_same_at p q xs (λ k below. same (suc k) (omega arith)))
 
-map_same : {A : Type 0} (f g : ℕ → A) (xs : List ℕ) → ((k : ℕ) → k < length xs → f (get_or xs k 0) ≡ g (get_or xs k 0)) → map f xs ≡ map g xs
-map_same f g [] same = refl
-map_same f g (x ∷ xs) same =
-    ap (λ y. y ∷ map f xs) (same 0 (omega arith)) ∙ ap (λ ys. g x ∷ ys) (map_same f g xs (λ k below. same (suc k) (omega arith)))
+map_same_at : {A : Type 0} (f g : ℕ → A) (xs : List ℕ) → ((k : ℕ) → k < length xs → f (get_or xs k 0) ≡ g (get_or xs k 0)) → map f xs ≡ map g xs
+map_same_at f g [] same = refl
+map_same_at f g (x ∷ xs) same =
+    ap (λ y. y ∷ map f xs) (same 0 (omega arith)) ∙ ap (λ ys. g x ∷ ys) (map_same_at f g xs (λ k below. same (suc k) (omega arith)))
 
 -- whether a number is among some
 abbrev has : List ℕ → ℕ → Bool
@@ -66,7 +66,7 @@ offsets_back base (x ∷ xs) a (suc n) rises least most =
     elim (cases_eq x (base + a)) [
       | inl same ↦
           let later : filter p rest ≡ filter (λ o. has xs (base + o)) rest =
-          filter_same p (λ o. has xs (base + o)) rest
+          filter_same_at p (λ o. has xs (base + o)) rest
           (λ k below.
           let size = length-range_with_len (a + 1) n in
           let value = get_or-range_with_len (a + 1) n k 0 (omega arith) in
@@ -246,7 +246,7 @@ offsets_are base further group =
     let at : (n : ℕ) → 117 ≡ n → map (λ o. base + o) (filter (is_named bitmap) (range_with_len 0 n)) ≡ base ∷ further =
     λ n n_is.
     ap (map (λ o. base + o))
-    (filter_same (is_named bitmap) (λ o. has (base ∷ further) (base + o)) (range_with_len 0 n)
+    (filter_same_at (is_named bitmap) (λ o. has (base ∷ further) (base + o)) (range_with_len 0 n)
     (λ k below. named_is base further (get_or (range_with_len 0 n) k 0) group))
     ∙ offsets_back base (base ∷ further) 0 n group.rises (group_least base further group) (group_most base further n group (sym n_is))
     in
@@ -262,7 +262,7 @@ blocks_are base further group =
     let offsets : List ℕ = named_offsets (bitmap_of base.number further) in
     let all : map (λ o. base.number + o) offsets ≡ base.number ∷ further = offsets_are base.number further group in
     let block : ℕ → Block = λ number. (key_beside base number, blank_cells) in
-    map_same (blank_block base) (λ o. block (base.number + o)) offsets
+    map_same_at (blank_block base) (λ o. block (base.number + o)) offsets
     (λ k below.
     let size : length (map (λ o. base.number + o) offsets) ≡ length (base.number ∷ further) = ap length all in
     let sizes : length (map (λ o. base.number + o) offsets) ≡ length offsets = length-map offsets (λ o. base.number + o) in

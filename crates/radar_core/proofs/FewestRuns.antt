@@ -1,5 +1,5 @@
 -- No fewer runs spell some cells than the longest ones.
-use Rattle.std.proofs.Common.{◌≡◌, ℕ, zero, suc, ◌+◌, ◌-◌, ◌<◌, ◌≤◌, Bool, ◌&&◌, ◌==◌, nat_lt, List, [], ◌∷◌, ◌++◌, length, replicate, sym, ap, ◌∙◌, arith, inl, inr}
+use Rattle.std.proofs.Common.{◌≡◌, ℕ, zero, suc, ◌-◌, ◌<◌, ◌≤◌, Bool, ◌&&◌, ◌==◌, nat_lt, List, [], ◌∷◌, ◌++◌, length, replicate, sym, ap, ◌∙◌, arith, inl, inr}
 use Rattle.std.specs.List.{All, flat_map}
 use Rattle.std.proofs.lemmas.Bool.{cond-true, cond-false, cases_Bool, and_parts, and_cases, eqb-true, eqb-false, ltb-true, ltb-false, cases_lt}
 use Rattle.std.proofs.lemmas.List.Elements.{All-cons, All-head, All-tail}
@@ -8,6 +8,7 @@ use Rattle.radar_core.specs.declared.run.Run.{Run}
 use Rattle.radar_core.specs.Runs.{FitsRun, run_cells, runs_from, longest_runs}
 use Rattle.radar_core.specs.Laws.{AreFewestRuns}
 use Rattle.radar_core.proofs.ReadBack.{longest_runs-cells, replicate-more}
+use Rattle.radar_core.proofs.RunsLemmas.{one_cell, longer}
 
 -- at most so many runs spell some cells
 pub record Spellable (cells : List ℕ) (most : ℕ) : Type 0 where
@@ -82,12 +83,6 @@ rest_of (suc m) (suc n) intensity xs ys within same =
     let less : n - m ≡ suc n - suc m = omega arith in
     rest_of m n intensity xs ys (omega arith) (heads intensity intensity (replicate m intensity ++ xs) (replicate n intensity ++ ys) same).1
     ∙ ap (λ k. replicate k intensity ++ ys) less
-
-abbrev one_cell : ℕ → Run
-one_cell cell = record { length = 1; intensity = cell }
-
-abbrev longer : Run → Run
-longer run = record { length = run.length + 1; intensity = run.intensity }
 
 -- a run has a cell, so no run spells none
 no_cells : (size intensity : ℕ) (cells : List ℕ) → 1 ≤ size → [] ≡ replicate size intensity ++ cells → ⊥

@@ -35,10 +35,6 @@ or_false : (b : Bool) → (b || (false || false)) ≡ b
 or_false true = refl
 or_false false = refl
 
--- one number more
-test_of : ℕ → ℕ → ℕ → Bool
-test_of base k number = number + 3 == base + k
-
 is_marked-more : (base : ℕ) (further : List ℕ) (i k : ℕ) → i < length further
     → is_marked base (take (i + 1) further) k ≡ (is_marked base (take i further) k || ((get_or further i 0 + 3 == base + k) || false))
 is_marked-more base further i k inside =

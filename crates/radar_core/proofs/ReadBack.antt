@@ -15,6 +15,7 @@ use Rattle.radar_core.specs.Cells.{IsCells}
 use Rattle.radar_core.specs.Runs.{FitsRun, run_byte, run_cells, run_in, cells_in, runs_from, longest_runs, run_record}
 use Rattle.radar_core.specs.Radar.{radar_blocks, read_runs, read_bitmap, run_blocks}
 use Rattle.radar_core.proofs.FrontLemmas.{is_run, is_bitmap}
+use Rattle.radar_core.proofs.RunsLemmas.{one_cell, longer}
 
 -- the fields of a front, side by side
 abbrev front_number : ℕ → ℕ → ℕ → ℕ → ℕ
@@ -110,12 +111,6 @@ replicate-more zero cell cells = refl
 replicate-more (suc n) cell cells =
     let e : suc n + 1 ≡ suc (n + 1) = omega arith in
     ap (λ m. replicate m cell ++ cells) e ∙ ap (λ (b : List ℕ). cell ∷ b) (replicate-more n cell cells)
-
-abbrev one_cell : ℕ → Run
-one_cell cell = record { length = 1; intensity = cell }
-
-abbrev longer : Run → Run
-longer run = record { length = run.length + 1; intensity = run.intensity }
 
 runs_from-cells : (run : Run) (cells : List ℕ) → FitsRun run → All (λ cell. cell < 8) cells → SpellCells (runs_from run cells) (run_cells run ++ cells)
 runs_from-cells run [] fits small = record { spell = refl; fit = All-cons FitsRun run [] fits (All-nil FitsRun) }

@@ -6,10 +6,10 @@ use Rattle.radar_core.specs.declared.run.Run.{Run}
 use Rattle.radar_core.specs.Cells.{IsCells}
 use Rattle.radar_core.specs.Runs.{FitsRun, run_byte, runs_from, longest_runs}
 
-abbrev one_cell : ℕ → Run
+abbrev pub one_cell : ℕ → Run
 one_cell cell = record { length = 1; intensity = cell }
 
-abbrev longer : Run → Run
+abbrev pub longer : Run → Run
 longer run = record { length = run.length + 1; intensity = run.intensity }
 
 -- the runs behind a run, where it goes on and where it ends

@@ -37,8 +37,8 @@ runs_from run (cell ∷ cells) = if (cell == run.intensity) && nat_lt run.length
     then runs_from (record { length = run.length + 1; intensity = run.intensity }) cells
     else run ∷ runs_from (record { length = 1; intensity = cell }) cells
 
--- the runs of some cells, each the longest possible up to 32. `Laws` says that they spell the cells,
--- and that no fewer do
+-- the runs of some cells, each the longest possible up to 32. `Laws` says that they spell the
+-- cells, and that no fewer do
 unfoldable pub longest_runs : List ℕ → List Run
 longest_runs [] = []
 longest_runs (cell ∷ cells) = runs_from (record { length = 1; intensity = cell }) cells

@@ -55,7 +55,8 @@ impl Ord for BlockKey {
 impl PartialOrd for BlockKey {
     ghost partial_cmp = { as_partial_cmp block_key_cmp };
 
-    ghost laws = { partial_order_from_own_ties (partial_order_from_total block_keys_total) (Prim.search (comparing, rules)) };
+    ghost laws = { partial_order_from_own_ties
+        (partial_order_from_total block_keys_total) (Prim.search (comparing, rules)) };
 
     fn partial_cmp(&self, other: &BlockKey) -> Option<Ordering> {
         Some(self.cmp(other))

@@ -7,7 +7,7 @@ use Rattle.std.proofs.lemmas.List.{append_assoc, append-nil}
 use Rattle.std.proofs.lemmas.List.Folds.{list_any-append}
 use Rattle.std.proofs.lemmas.List.Sums.{sum_by-append, sum_by-le-sum_by, sum_by_push}
 use Rattle.list_members.specs.Ranges.{all_in, list_all_same, list_any_same, range_has}
-use Rattle.apdu_core.specs.declared.unit.Seg.{Seg}
+use Rattle.apdu_core.specs.declared.apdu.Seg.{Seg}
 use Rattle.uplink_frame.specs.Laws.{StationsAreTold}
 use Rattle.uplink_frame.specs.Station.{same_station}
 use Rattle.segment_core.specs.Arrival.{Arrival, Whole, whole_payloads, completed_after, completes, has_piece, is_piece, joined_payload, other_numbers, same_file, whole_with}

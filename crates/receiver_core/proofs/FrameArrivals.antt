@@ -10,7 +10,7 @@ use Rattle.fisb_time.specs.declared.form.TimeFields.{TimeFields}
 use Rattle.fisb_time.specs.Naming.{named_moment}
 use Rattle.uplink_frame.specs.declared.station.StationId.{StationId}
 use Rattle.uplink_frame.specs.UplinkFrame.{InformationFrame}
-use Rattle.apdu_core.specs.declared.unit.Seg.{Seg}
+use Rattle.apdu_core.specs.declared.apdu.Seg.{Seg}
 use Rattle.apdu_core.specs.declared.fault.ApduFault.{ApduFault}
 use Rattle.apdu_core.specs.Apdu.{Apdu, apdu_of, apdu_of_header, form_in, header_length, is_bad, is_segmented_in, segmentation_in}
 use Rattle.life_table.specs.LifeTable.{LifeTable, longest}

@@ -4,7 +4,7 @@ use Rattle.std.specs.List.{sum_by, range_with_len}
 use Rattle.std.proofs.lemmas.Bool.{cases_Bool, cond-true, cond-false, eqb-true, ne_eqb}
 use Rattle.std.proofs.lemmas.List.Concat.{length-flat_map}
 use Rattle.std.proofs.lemmas.List.Sums.{sum_by-cons}
-use Rattle.apdu_core.specs.declared.unit.Seg.{Seg}
+use Rattle.apdu_core.specs.declared.apdu.Seg.{Seg}
 use Rattle.segment_core.specs.Arrival.{Arrival, bytes_of_piece, first_piece, is_piece, joined_payload, same_file}
 use Rattle.receiver_core.proofs.Weights.{sum_below_two, sum_none}
 

@@ -5,7 +5,7 @@ use Rattle.std.specs.Option.{option_map}
 use Rattle.std.proofs.lemmas.List.Sums.{sum_by-le-sum_by}
 use Rattle.list_members.specs.ListMembers.{length_ones}
 use Rattle.list_members.specs.Ranges.{any_filter, find_filter, list_all_same}
-use Rattle.apdu_core.specs.declared.unit.Seg.{Seg}
+use Rattle.apdu_core.specs.declared.apdu.Seg.{Seg}
 use Rattle.segment_core.specs.Arrival.{Arrival, first_piece, has_piece, is_piece}
 use Rattle.segment_core.specs.Kept.{arrival_named, seg_of_name, kept_of, kept_piece, was_whole}
 use Rattle.segment_core.specs.Store.{StandsFor, Store}

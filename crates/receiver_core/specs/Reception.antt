@@ -7,7 +7,7 @@ use Rattle.fisb_time.specs.Naming.{named_moment}
 use Rattle.uplink_frame.specs.declared.station.StationId.{StationId}
 use Rattle.uplink_frame.specs.Station.{station_of}
 use Rattle.uplink_frame.specs.UplinkFrame.{InformationFrame, information_frames, header_in}
-use Rattle.apdu_core.specs.declared.unit.Seg.{Seg}
+use Rattle.apdu_core.specs.declared.apdu.Seg.{Seg}
 use Rattle.apdu_core.specs.declared.fault.ApduFault.{ApduFault}
 use Rattle.apdu_core.specs.declared.fault.ApduFault.TheVariants as faults
 use Rattle.apdu_core.specs.Apdu.{Apdu, apdu_of}

@@ -6,12 +6,12 @@ ghost use Rattle.receiver_core.specs.Bound.{ReceiversAreBounded};
 ghost use Rattle.receiver_core.specs.Laws.{FramesAreReception, KeepsReception};
 ghost use Rattle.std.specs.Prelude.{◌≡◌, ℕ, List, []};
 
-use apdu_core::apdu_reads_back;
-use fisb_time::named_is_greatest;
-use life_table::longest_is_greatest;
+use apdu_core::laws::apdu_reads_back;
+use fisb_time::laws::named_is_greatest;
+use life_table::laws::longest_is_greatest;
 use picture_core::laws::{life_of_entries, store_is_bounded, store_may_forget, store_of_entries};
 use segment_core::laws::{completed_grows, stores_are_bounded};
-use uplink_frame::stations_are_told;
+use uplink_frame::laws::stations_are_told;
 
 /// The law that nothing is kept of no reception.
 #[inline]

@@ -26,7 +26,8 @@ use segment_core::{Joiner, Longest};
 use std::alloc::Global;
 use std::marker::Model;
 use uplink_frame::read_header;
-use uplink_weave::{functions_of_a_frame, unweave};
+use uplink_weave::laws::functions_of_a_frame;
+use uplink_weave::unweave;
 
 /// A receiver: it joins the segments that it hears by their stations, and keeps of each key the
 /// newest version that has not ended. After each frame it holds no more than the frames of which

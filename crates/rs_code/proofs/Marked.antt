@@ -17,12 +17,6 @@ pub without-none : (word : List ℕ) → without [] word ≡ word
 unfolding without
 without-none word = refl
 
-without-cons :
-    (mark : ℕ) (marks word : List ℕ)
-    → without (mark ∷ marks) word ≡ without marks (weighed_word (element_power 2 (length word - 1 - mark)) word)
-unfolding without
-without-cons mark marks word = refl
-
 -- one more mark, after those before it
 pub without-more :
     (marks word : List ℕ) (i : ℕ) → i < length marks

@@ -18,13 +18,6 @@ pub paired_sum-cons :
 unfolding paired_sum
 paired_sum-cons c cs row = refl
 
-pub paired_sum-same : (cs : List ℕ) (row other : ℕ → ℕ) → ((k : ℕ) → row k ≡ other k) → paired_sum cs row ≡ paired_sum cs other
-unfolding paired_sum
-paired_sum-same [] row other e = refl
-paired_sum-same (c ∷ cs) row other e =
-    ap₂ bit_xor (ap (element_product c) (e 0))
-    (paired_sum-same cs (λ k. row (suc k)) (λ k. other (suc k)) (λ k. e (suc k)))
-
 pub paired_sum-same_below :
     (cs : List ℕ) (row other : ℕ → ℕ) → ((k : ℕ) → k < length cs → row k ≡ other k) → paired_sum cs row ≡ paired_sum cs other
 unfolding paired_sum
@@ -32,6 +25,9 @@ paired_sum-same_below [] row other e = refl
 paired_sum-same_below (c ∷ cs) row other e =
     ap₂ bit_xor (ap (element_product c) (e 0 (omega arith)))
     (paired_sum-same_below cs (λ k. row (suc k)) (λ k. other (suc k)) (λ k h. e (suc k) (omega arith)))
+
+pub paired_sum-same : (cs : List ℕ) (row other : ℕ → ℕ) → ((k : ℕ) → row k ≡ other k) → paired_sum cs row ≡ paired_sum cs other
+paired_sum-same cs row other e = paired_sum-same_below cs row other (λ k h. e k)
 
 pub paired_sum-fits : (F : IsField 391) (cs : List ℕ) (row : ℕ → ℕ) → paired_sum cs row < 256
 unfolding paired_sum

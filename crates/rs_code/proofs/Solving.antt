@@ -150,19 +150,6 @@ Solves points sums solved =
     (values : List ℕ) → length values ≡ length points → ((i : ℕ) → get_or values i 0 < 256)
     → ((n : ℕ) → n < length values → get_or sums n 0 ≡ points_sum points values n) → solved ≡ values
 
-pub others-apart : (points : List ℕ) → 0 < length points → AreDifferent points → AreDifferent (drop 1 points)
-others-apart [] h apart = absurd (omega arith)
-others-apart (x ∷ xs) h apart = record {
-  bytes = λ i h'. apart.bytes (suc i) (omega arith);
-  apart = λ i j h' h''. apart.apart (suc i) (suc j) (omega arith) (omega arith);
-}
-
-pub others-not_first :
-    (points : List ℕ) → 0 < length points → AreDifferent points → (i : ℕ) → i < length (drop 1 points)
-    → get_or (drop 1 points) i 0 ≢ get_or points 0 0
-others-not_first [] h apart i h' e = absurd (omega arith)
-others-not_first (x ∷ xs) h apart i h' e = apart.apart 0 (suc i) (omega arith) (omega arith) (sym e)
-
 -- the weighed sums behind the first are those of the other values, weighed
 others_sums :
     (F : IsField 391) (x y : ℕ) (xs ys sums weighed : List ℕ) (n : ℕ) → n < length ys

@@ -127,7 +127,8 @@ blanked_word (mark ∷ marks) word = blanked_word marks (set word mark 0)
 -- has no mark counts twice
 pub record IsNearWith (count roots first : ℕ) (marks word other : List ℕ) : Type 0 where
   pub code : IsCodeWord count roots first other
-  pub near : 2 * differences (blanked_word marks word) (blanked_word marks other) + length marks ≤ roots
+  pub near :
+      2 * differences (blanked_word marks word) (blanked_word marks other) + length marks ≤ roots
 
 -- whatever code word is near to a word with marked bytes, it is this one
 abbrev pub Mends : ℕ → ℕ → ℕ → List ℕ → List ℕ → List ℕ → Type 0

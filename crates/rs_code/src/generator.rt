@@ -3,8 +3,9 @@ ghost use Rattle.std.specs.Prelude.{◌≡◌, ◌+◌, ◌<◌, ◌≤◌, ℕ,
 ghost use Rattle.poly256.specs.Polynomial.{element_product};
 ghost use Rattle.rs_code.specs.CodeWord.{power_sum};
 
-use gf256_core::{Uat, UatTables, field_laws};
-use poly256::degree_laws;
+use gf256_core::laws::field_laws;
+use gf256_core::{Uat, UatTables};
+use poly256::laws::degree_laws;
 
 // Multiplies a polynomial of this degree by x + root. Its first coefficient is 1 and does not stand in the list, and the
 // place after its last one is 0.

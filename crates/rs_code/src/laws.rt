@@ -1,8 +1,10 @@
 //! Laws of the definitions, for the crates above: each is the contract of a function that does nothing.
-ghost use Rattle.rs_code.specs.Laws.{CountsDifferences, HasCodeWordTest, HasMinimumDistance, HasOneEncoded, HasOneNearest, HaveDistances, IsCorrected};
+ghost use Rattle.rs_code.specs.Laws.{CountsDifferences, HasCodeWordTest, HasMinimumDistance};
+ghost use Rattle.rs_code.specs.Laws.{HasOneEncoded, HasOneNearest, HaveDistances, IsCorrected};
 
-use gf256_core::{UatTables, field_laws};
-use poly256::degree_laws;
+use gf256_core::UatTables;
+use gf256_core::laws::field_laws;
+use poly256::laws::degree_laws;
 
 /// The law that two different code words differ in at least one place more than the code has roots.
 #[inline]

@@ -4,8 +4,9 @@ ghost use Rattle.poly256.specs.Polynomial.{element_product};
 ghost use Rattle.rs_code.specs.Mending.{paired_sum, IsLocator, IsEarlier};
 
 use crate::product::{add_product, times};
-use gf256_core::{Uat, UatTables, field_laws};
-use poly256::degree_laws;
+use gf256_core::laws::field_laws;
+use gf256_core::{Uat, UatTables};
+use poly256::laws::degree_laws;
 
 // The coefficients of a polynomial, each times the sum as far after `from` as its power, added.
 #[inline]

@@ -1,11 +1,13 @@
 //! Marked bytes of a word, which may be wrong in any way: they fall out of the power sums, and their places are roots.
 ghost use Rattle.std.specs.Prelude.{◌≡◌, ◌+◌, ◌<◌, ◌≤◌, ℕ, length, slice_index};
 ghost use Rattle.poly256.specs.Polynomial.{value_at};
-ghost use Rattle.rs_code.specs.Mending.{point_at, HasLead, HasNextAdded, IsTimesRoot, IsZeroAtMarks, LosesMarks};
+ghost use Rattle.rs_code.specs.Mending.{point_at, HasLead, HasNextAdded, IsTimesRoot};
+ghost use Rattle.rs_code.specs.Mending.{IsZeroAtMarks, LosesMarks};
 
 use crate::product::times;
-use gf256_core::{Uat, UatTables, field_laws};
-use poly256::{degree_laws, end_zero_laws, value_laws};
+use gf256_core::laws::field_laws;
+use gf256_core::{Uat, UatTables};
+use poly256::laws::{degree_laws, end_zero_laws, value_laws};
 
 // The point of a byte of a word of `count` bytes.
 #[inline]

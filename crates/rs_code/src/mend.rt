@@ -9,8 +9,9 @@ use crate::product::times;
 use crate::rows::add_to_sums;
 use crate::values::{add_errors, solve};
 use crate::wrong_places::{find_places, write_points};
-use gf256_core::{Uat, UatTables, field_laws};
-use poly256::{degree_laws, end_zero_laws, few_roots, value_laws};
+use gf256_core::laws::field_laws;
+use gf256_core::{Uat, UatTables};
+use poly256::laws::{degree_laws, end_zero_laws, few_roots, value_laws};
 
 // The value of a word at 2 raised to `power`.
 #[inline]

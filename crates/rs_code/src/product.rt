@@ -1,10 +1,12 @@
 //! Products of elements without a branch: by the powers of 2, which come round once, with zeros after them.
 ghost use Rattle.std.specs.Prelude.{◌≡◌, ◌+◌, ◌<◌, ◌≤◌, length, slice_index};
-ghost use Rattle.poly256.specs.Polynomial.{element_product, raised_coefficients, scaled_coefficients, sum_of};
+ghost use Rattle.poly256.specs.Polynomial.{element_product, raised_coefficients};
+ghost use Rattle.poly256.specs.Polynomial.{scaled_coefficients, sum_of};
 ghost use Rattle.rs_code.specs.declared.product.TheConstants.{POWERS, LOGARITHMS};
 
-use gf256_core::{Uat, UatTables, field_laws};
-use poly256::degree_laws;
+use gf256_core::laws::field_laws;
+use gf256_core::{Uat, UatTables};
+use poly256::laws::degree_laws;
 
 // Row i below 510 is 2 raised to i. The rows after are 0.
 const POWERS: [u8; 1021] = [

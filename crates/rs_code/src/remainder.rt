@@ -1,13 +1,15 @@
 //! The remainder of a word, by the generator of its code.
-ghost use Rattle.std.specs.Prelude.{◌≡◌, ◌+◌, ◌-◌, ◌<◌, ◌≤◌, ℕ, ◌∷◌, IsTrue, ◌↔◌, drop, length, slice_index, take};
+ghost use Rattle.std.specs.Prelude.{◌≡◌, ◌+◌, ◌-◌, ◌<◌, ◌≤◌, ℕ, ◌∷◌, IsTrue, ◌↔◌, drop, length};
+ghost use Rattle.std.specs.Prelude.{slice_index, take};
 ghost use Rattle.rs_code.specs.CodeWord.{IsCodeWord, IsInstance, power_sum};
 
 use crate::generator::generator;
 use crate::locator::byte_law;
 use crate::product::add_product;
 use crate::uplink_rows::add_row;
-use gf256_core::{Uat, UatTables, field_laws};
-use poly256::degree_laws;
+use gf256_core::laws::field_laws;
+use gf256_core::{Uat, UatTables};
+use poly256::laws::degree_laws;
 
 // Takes from a word, byte by byte, the multiple of the uplink's generator that begins with the byte. What is left stands in
 // its last 20 bytes, and has the power sums of the word.

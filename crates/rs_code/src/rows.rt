@@ -4,7 +4,8 @@ ghost use Rattle.rs_code.specs.Rows.{HasAdded, HasBitRows, power_times, row_time
 
 use crate::place_powers::place_powers;
 use crate::root_powers::root_powers;
-use gf256_core::{UatTables, field_laws};
+use gf256_core::UatTables;
+use gf256_core::laws::field_laws;
 
 // Adds the row that begins at a place of a table to a list.
 #[inline]

@@ -4,8 +4,9 @@ ghost use Rattle.poly256.specs.Polynomial.{scaled_coefficients, sum_of};
 ghost use Rattle.rs_code.specs.declared.uplink_rows.TheConstants.{UPLINK_ROWS};
 ghost use Rattle.rs_code.specs.UplinkRows.{uplink_generator};
 
-use gf256_core::{UatTables, field_laws};
-use poly256::degree_laws;
+use gf256_core::UatTables;
+use gf256_core::laws::field_laws;
+use poly256::laws::degree_laws;
 
 // The 20 bytes from 20 b on are the generator, highest power first and without its first coefficient, times the element b.
 const UPLINK_ROWS: [u8; 5120] = [

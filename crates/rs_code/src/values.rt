@@ -1,11 +1,13 @@
 //! The values at different points whose sums, each value times its point raised to 0, 1, 2 and so on, are given.
-ghost use Rattle.std.specs.Prelude.{◌≡◌, ◌≢◌, ◌+◌, ◌*◌, ◌<◌, ◌≤◌, ℕ, List, ◌∷◌, length, slice_index, bit_xor};
+ghost use Rattle.std.specs.Prelude.{◌≡◌, ◌≢◌, ◌+◌, ◌*◌, ◌<◌, ◌≤◌, ℕ, List, ◌∷◌, length};
+ghost use Rattle.std.specs.Prelude.{slice_index, bit_xor};
 ghost use Rattle.poly256.specs.Laws.{AreDifferent};
 ghost use Rattle.poly256.specs.Polynomial.{element_power, element_product};
 ghost use Rattle.rs_code.specs.Mending.{points_sum, total_of, with_errors};
 
 use crate::product::times;
-use gf256_core::{Uat, UatTables, field_laws};
+use gf256_core::laws::field_laws;
+use gf256_core::{Uat, UatTables};
 
 // Adds to each sum the one before it times `point`. Behind the first these are the sums of the values, each times its point
 // plus this one.

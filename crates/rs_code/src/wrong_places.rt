@@ -5,8 +5,9 @@ ghost use Rattle.rs_code.specs.Mending.{points_of, zero_places, AreValues, AreZe
 
 use crate::product::times;
 use crate::rows::add_to_values;
-use gf256_core::{Uat, UatTables, field_laws};
-use poly256::value_laws;
+use gf256_core::laws::field_laws;
+use gf256_core::{Uat, UatTables};
+use poly256::laws::value_laws;
 
 // The value of a polynomial at a point, from the last coefficient to the first.
 #[inline]

@@ -162,13 +162,6 @@ module _ (work : Work) (old now : Ends) (input : Input) (size number : ℕ) (fil
       ∙ ap (λ o. table_given o []) is)
       (nothing-written old.written now.written filled.written) filled.writes refl
 
-  -- memory was not found for the actor
-  pub filled-no-memory : input.taken ≤ input_limit → HasRun (task_of work) old now NoMemory
-  filled-no-memory within =
-      let short : length input.ring.items ≤ input_limit = (let t = filled.taken in omega (arith, t, within)) in
-      no-memory-run work old now input.ring.items (record
-      { consumed = filled.consumed; ended = (filled.reads, short) }) filled.written filled.writes
-
 module _ (work : Work) (old now : Ends) (input : Input) (filled : IsFilled old now input) where
   -- the input ended, and has no table
   pub missing-stop : opening_at 0 1 (lines_in true input.ring.items) ≡ None → length input.ring.items < ring_limit

@@ -2,6 +2,7 @@
 use Rattle.std.proofs.Common.{◌≡◌, ℕ, zero, suc, ◌+◌, ◌-◌, ◌≤◌, Bool, true, false, List, [], ◌∷◌, ◌++◌, Option, Some, None, option_map, length, take, drop, refl, sym, ap, subst, ◌∙◌, arith, append-nil, append_assoc, length-append, length-take, length-drop}
 use Rattle.std.proofs.lemmas.List.{drop-append-le, drop-drop, take_all}
 use Rattle.std.proofs.KnownBytes.{Consumes-trans}
+use Rattle.list_members.specs.Places.{take-rest}
 use Rattle.std.specs.Io.KnownBytes.{Consumes}
 use Rattle.run_core.specs.declared.input.Input.{Input}
 use Rattle.run_core.specs.Limits.{ring_limit}
@@ -112,10 +113,6 @@ within-less input after count dropped capacity taken w =
 
 -- ---- the search
 
-pub sought-start : (text : List ℕ) → text ≡ [] → IsSought text 0 1
-sought-start text none = record
-    { opened = λ ended more. refl; part = λ ended more. refl; within = omega arith; count = omega arith }
-
 -- after a read
 pub sought-more : (text piece : List ℕ) (place number : ℕ) → IsSought text place number
     → IsSought (text ++ piece) place number
@@ -211,20 +208,16 @@ sought-none text place number s none = whole-opened false text place number s
     ∙ ap (opening_at place number) (no-line (drop place text) none)
 
 -- the input ended
-last-all : (text : List ℕ) (place : ℕ) → take (length text - place) (drop place text) ≡ drop place text
-last-all text place = take_all (length text - place) (drop place text)
-    (let size = length-drop place text in omega (arith, size))
-
 pub sought-last : (text : List ℕ) (place number : ℕ) → IsSought text place number
     → newline_in (drop place text) ≡ None → is_end_here text place (length text - place) ≡ true → IsLast text place number
 sought-last text place number s none matched =
     let line = take (length text - place) (drop place text) in
     let here = opening-here place number line [] matched in
     let three = here.1 in
-    let same = ap length (last-all text place) in record {
+    let same = ap length (take-rest place text) in record {
       opened = whole-opened true text place number s
           ∙ ap (opening_at place number) (last-line (drop place text) none (omega (arith, three, same))
-          ∙ ap (λ l. l ∷ []) (sym (last-all text place))) ∙ here.0;
+          ∙ ap (λ l. l ∷ []) (sym (take-rest place text))) ∙ here.0;
       within = s.within;
       count = s.count;
     }
@@ -238,7 +231,7 @@ missing-by text place number zero empty s none other = whole-opened true text pl
 missing-by text place number (suc size) some s none other =
     whole-opened true text place number s
     ∙ ap (opening_at place number) (last-line (drop place text) none (omega (arith, some))
-    ∙ ap (λ l. l ∷ []) (sym (last-all text place)))
+    ∙ ap (λ l. l ∷ []) (sym (take-rest place text)))
     ∙ opening-pass place number (take (length text - place) (drop place text)) [] other
 
 pub sought-missing : (text : List ℕ) (place number : ℕ) → IsSought text place number

@@ -11,7 +11,7 @@ use Rattle.run_trials.specs.Whole.{IsWholeRun}
 
 -- a new sink with so much room
 abbrev pub fresh : ℕ → List ℕ → Store
-fresh room fails = record { taken = []; room = room; next = 0; fails = fails; faults = 0 }
+fresh room fails = record { bytes = []; room = room; next = 0; fails = fails; faults = 0 }
 
 fresh-reach : (room : ℕ) (fails : List ℕ) → fails ≡ [] → store_reach (fresh room fails) ≡ Some room
 fresh-reach room fails none = rw none refl
@@ -22,13 +22,13 @@ still rose = omega (arith, rose)
 module _ (task : Task) (input source : List ℕ) (room : ℕ) (fails : List ℕ) (left : Option (List ℕ)) (old new : Store)
     (status : Status) where
   abbrev pub before : Ends
-  before = ends (Some source) (u64_count 0) (Some old.taken) (u64_count old.faults)
+  before = ends (Some source) (u64_count 0) (Some old.bytes) (u64_count old.faults)
 
   abbrev pub after : Ends
-  after = ends left (u64_count 0) (Some new.taken) (u64_count new.faults)
+  after = ends left (u64_count 0) (Some new.bytes) (u64_count new.faults)
 
-  whole-by : old.taken ≡ [] → IsJudged task before after input status
-      → IsWholeRun task (ending_of input) input status new.taken
+  whole-by : old.bytes ≡ [] → IsJudged task before after input status
+      → IsWholeRun task (ending_of input) input status new.bytes
   whole-by empty (inl none) = inl none
   whole-by empty (inr h) = inr (h.0, h.1 ∙ ap (λ xs. xs ++ taken_output task input (ending_of input)) empty)
 
@@ -36,9 +36,9 @@ module _ (task : Task) (input source : List ℕ) (room : ℕ) (fails : List ℕ)
   pub unfailed : source ≡ input → fails ≡ [] → old ≡ fresh room fails
       → IsComplete task (store_reach old) before after status
       → length (taken_output task input (ending_of input)) < room
-      → (status ≢ ReadFault) × (status ≢ WriteFault) × IsWholeRun task (ending_of input) input status new.taken
+      → (status ≢ ReadFault) × (status ≢ WriteFault) × IsWholeRun task (ending_of input) input status new.bytes
   unfailed given none is complete small =
-      let empty : old.taken ≡ [] = ap (λ (s : Store). s.taken) is in
+      let empty : old.bytes ≡ [] = ap (λ (s : Store). s.bytes) is in
       let all = complete input [] room (ap Some given) (ap Some empty)
       (ap store_reach is ∙ fresh-reach room fails none) still small in
       (all.0, all.1, whole-by empty all.2)

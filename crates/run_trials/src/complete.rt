@@ -20,11 +20,11 @@ pub fn run_in_memory<A: Actor>(
         → IfOk result (λ ran. (ran.0 ≢ Status.ReadFault) × (ran.0 ≢ Status.WriteFault)) }
     ensures whole { length (taken_output (task_of A.work) input (ending_of input)) < room
         → IfOk result
-        (λ ran. IsWholeRun (task_of A.work) (ending_of input) input ran.0 ran.1.taken) }
+        (λ ran. IsWholeRun (task_of A.work) (ending_of input) input ran.0 ran.1.bytes) }
     ensures done { length input ≤ input_limit → taken_fault (task_of A.work) input at_end ≡ None
         → length (taken_output (task_of A.work) input at_end) < room
         → IfOk result (λ ran. ran.0 ≢ Status.NoMemory → (ran.0 ≡ Status.Done)
-        × (ran.1.taken ≡ taken_output (task_of A.work) input at_end)) }
+        × (ran.1.bytes ≡ taken_output (task_of A.work) input at_end)) }
 {
     let none = Numbers::of(Vec::new(alloc));
     let mut source = FaithfulSource::new(input);

@@ -55,7 +55,7 @@ fn in_pieces(
 fn run_over<S: Source>(alloc: Global, source: &mut S) -> Result<(Status, Vec<u8>), AllocError> {
     let mut sink = MemorySink::new(alloc, 1024, numbers(alloc, &[])?)?;
     let status = run::<Echo, S, MemorySink>(alloc, source, &mut sink);
-    Ok((status, Vec::from_slice(alloc, sink.taken())?))
+    Ok((status, Vec::from_slice(alloc, sink.bytes())?))
 }
 
 fn status_of(alloc: Global, input: Bytes) -> Result<Status, AllocError> {
@@ -98,7 +98,7 @@ fn a_failed_write_ends_the_run(rt: HostRuntime) -> Result<(), Fail> {
         let mut sink = MemorySink::new(rt.alloc(), 99, numbers(rt.alloc(), &[k as u32])?)?;
         let ran = run::<Echo, FaithfulSource, MemorySink>(rt.alloc(), &mut source, &mut sink);
         assert_eq!(rt; ran, *status);
-        assert_eq!(rt; sink.taken(), *output);
+        assert_eq!(rt; sink.bytes(), *output);
     }
     Ok(())
 }
@@ -292,7 +292,7 @@ fn a_sink_may_be_full_in_the_middle_of_a_line(rt: HostRuntime) -> Result<(), Fai
     let mut sink = MemorySink::new(rt.alloc(), 8, numbers(rt.alloc(), &[])?)?;
     let ran = run::<Echo, FaithfulSource, MemorySink>(rt.alloc(), &mut source, &mut sink);
     assert_eq!(rt; ran, Status::WriteFault);
-    assert_eq!(rt; sink.taken(), b"+one\n+tw".as_slice());
+    assert_eq!(rt; sink.bytes(), b"+one\n+tw".as_slice());
     Ok(())
 }
 
@@ -381,6 +381,6 @@ fn a_run_in_memory_is_done(rt: HostRuntime) -> Result<(), Fail> {
     let input = bytes(rt.alloc(), SCRIPT)?;
     let (status, sink) = run_in_memory::<Echo>(rt.alloc(), input, 100)?;
     assert_eq!(rt; status, Status::Done);
-    assert_eq!(rt; sink.taken(), OUTPUT);
+    assert_eq!(rt; sink.bytes(), OUTPUT);
     Ok(())
 }

@@ -9,7 +9,8 @@ use crate::hearing::{read_hear, read_rx};
 use crate::kinds::{read_show, read_station, read_turn};
 use crate::radar::{read_blank, read_radar};
 use crate::script_line::{Line, LineFault};
-use dlac_text::{shown_texts, unplain};
+use dlac_text::laws::shown_texts;
+use dlac_text::unplain;
 use std::alloc::Global;
 
 /// The line that some bytes without a newline are.

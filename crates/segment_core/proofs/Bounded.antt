@@ -1,6 +1,7 @@
 -- What a store holds is at most what arrived, and its answers are those of the definitions.
 use Rattle.std.proofs.Common.{◌≡◌, ℕ, ◌≤◌, Bool, true, false, cond, List, [], ◌∷◌, length}
 use Rattle.std.proofs.Common.{Option, Some, None, is_some, refl, sym, ap, subst, ◌∙◌, inl, inr, arith}
+use Rattle.std.specs.Cmp.{both_ways}
 use Rattle.std.specs.List.{list_all, sum_by, AllByRecursion}
 use Rattle.std.specs.List.Sorted.{IsStrictlySortedBy}
 use Rattle.std.specs.Map.{keys_of, values_of, lookup, remove_entry}
@@ -14,7 +15,7 @@ use Rattle.std.proofs.lemmas.Map.Keys.{sorted_head, sorted_tail}
 use Rattle.list_members.specs.ListMembers.{length_ones}
 use Rattle.list_members.specs.Ranges.{find_filter}
 use Rattle.list_members.specs.Tests.{some_past_test}
-use Rattle.apdu_core.specs.declared.unit.Seg.{Seg}
+use Rattle.apdu_core.specs.declared.apdu.Seg.{Seg}
 use Rattle.uplink_frame.specs.Laws.{StationsAreTold}
 use Rattle.segment_core.specs.Arrival.{Arrival, is_piece, has_piece, other_numbers, whole_with, completes}
 use Rattle.segment_core.specs.Kept.{KeptPieces, kept_under, kept_piece, was_whole, piece_name, arrival_named}
@@ -24,7 +25,7 @@ use Rattle.segment_core.specs.Bound.{AreNamedOnce, IsPurged, IsBounded, piece_si
 use Rattle.segment_core.specs.declared.piece_name.PieceName.{PieceName}
 use Rattle.segment_core.specs.declared.arrived.Longest.{Longest}
 use Rattle.segment_core.specs.contracts.piece_name.PieceNameOrd.TheImpl as order
-use Rattle.segment_core.proofs.PieceNames.{agrees, bool_same, same-is, same-self}
+use Rattle.segment_core.proofs.PieceNames.{agrees, same-is, same-self}
 use Rattle.segment_core.proofs.Stands.{first, is, is-named}
 
 -- names in their order stand once
@@ -43,7 +44,7 @@ once-sorted (e ∷ es) sorted = (
 
 module _ (told : StationsAreTold) where
   pub same-turned : (a b : PieceName) → same_piece a b ≡ same_piece b a
-  same-turned a b = bool_same (same_piece a b) (same_piece b a)
+  same-turned a b = both_ways (same_piece a b) (same_piece b a)
       (λ (e : same_piece a b ≡ true). subst (λ (x : PieceName). same_piece x a ≡ true) (same-is told a b e) (same-self told a))
       (λ (e : same_piece b a ≡ true). subst (λ (x : PieceName). same_piece x b ≡ true) (same-is told b a e) (same-self told b))
 

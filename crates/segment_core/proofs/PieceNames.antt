@@ -2,7 +2,7 @@
 use Rattle.std.proofs.Common.{◌≡◌, ℕ, ◌+◌, Bool, true, false, ◌&&◌, ◌==◌, cond, List, []}
 use Rattle.std.proofs.Common.{◌∷◌, map, ◌++◌, Option, Some, None, is_some, refl, sym, ap, ◌∙◌, inl, inr, arith}
 use Rattle.std.specs.BTreeMap.{insert_entry, is_at}
-use Rattle.std.specs.Cmp.{both_tied}
+use Rattle.std.specs.Cmp.{both_tied, both_ways}
 use Rattle.std.specs.List.{list_any, range_with_len}
 use Rattle.std.specs.Map.{lookup}
 use Rattle.std.specs.Ordering.{is_eq}
@@ -24,11 +24,6 @@ use Rattle.segment_core.specs.HeldPieces.{is_number_of, others_held, held_with}
 use Rattle.segment_core.specs.declared.piece_name.PieceName.{PieceName}
 use Rattle.segment_core.specs.contracts.piece_name.PieceNameOrd.TheImpl as order
 use Rattle.list_members.specs.Ranges.{in_range, range_has}
-
-pub bool_same : (a b : Bool) → (a ≡ true → b ≡ true) → (b ≡ true → a ≡ true) → a ≡ b
-bool_same true b f g = sym (f refl)
-bool_same false true f g = g refl
-bool_same false false f g = refl
 
 regroup : (a b c d e f g h i : Bool) → (a && b && c && d && e && f && g && h && i)
     ≡ (a && (b && (c && d)) && (e && (f && (g && (h && i)))))
@@ -135,7 +130,7 @@ module _ (told : StationsAreTold) where
 
   any_number : (name q : PieceName)
       → list_any (λ (n : ℕ). same_piece q (with_number name n)) (range_with_len 1 name.count) ≡ is_number_of name q
-  any_number name q = bool_same _ _
+  any_number name q = both_ways _ _
       (λ (any : list_any (λ (n : ℕ). same_piece q (with_number name n)) (range_with_len 1 name.count) ≡ true).
       let some = any_in (λ (n : ℕ). same_piece q (with_number name n)) (range_with_len 1 name.count) any in
       let same : q ≡ with_number name some.0 = same-is q (with_number name some.0) some.2 in

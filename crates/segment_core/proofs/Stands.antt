@@ -2,6 +2,7 @@
 use Rattle.std.proofs.Common.{◌≡◌, ℕ, ◌≤◌, Bool, true, false, cond, ◌&&◌, ◌||◌, ◌==◌, ◌⊎◌, List, []}
 use Rattle.std.proofs.Common.{◌∷◌, ◌++◌, find, Option, Some, None, is_some, refl, sym, ap, ◌∙◌}
 use Rattle.std.proofs.Common.{inl, inr, arith}
+use Rattle.std.specs.Cmp.{both_ways}
 use Rattle.std.specs.List.{list_any, list_all, range_with_len}
 use Rattle.std.specs.Option.{option_map, option_or}
 use Rattle.std.proofs.lemmas.Bool.{cases_Bool, cond-true, cond-false, and_from, or_left}
@@ -9,7 +10,7 @@ use Rattle.std.proofs.lemmas.Bool.{or_right, or_from, eqb-true, eqb-false, eq-eq
 use Rattle.std.proofs.lemmas.List.Folds.{find-append, list_any-append}
 use Rattle.std.proofs.Math.Bool.{or-false}
 use Rattle.list_members.specs.Membership.{IsIn}
-use Rattle.apdu_core.specs.declared.unit.Seg.{Seg}
+use Rattle.apdu_core.specs.declared.apdu.Seg.{Seg}
 use Rattle.uplink_frame.specs.Station.{same_station}
 use Rattle.uplink_frame.specs.Laws.{StationsAreTold}
 use Rattle.segment_core.specs.Arrival.{Arrival, is_piece, first_piece, has_piece, bytes_of_piece, joined_payload, other_numbers}
@@ -23,7 +24,7 @@ use Rattle.segment_core.specs.declared.arrived.Taken.TheVariants.{Whole}
 use Rattle.list_members.specs.Ranges.{in_range, range_has, all_in, in_all, not_all, not_all_in, list_all_same, flat_map_same}
 use Rattle.list_members.specs.Tests.{none_from, mapped_some, or_none}
 use Rattle.segment_core.proofs.Completed.{in-others, others-in}
-use Rattle.segment_core.proofs.PieceNames.{bool_same, same-is, same-self}
+use Rattle.segment_core.proofs.PieceNames.{same-is, same-self}
 
 found_some : {A : Type 0} (p : A → Bool) (xs : List A) → is_some (find p xs) ≡ list_any p xs
 found_some p [] = refl
@@ -58,7 +59,7 @@ first-with : (xs : List Arrival) (a : Arrival) (q : PieceName) (n : ℕ) → fir
 first-with xs a q n = find-append (is q n) xs (a ∷ [])
 
 same_number : (x y : ℕ) → (x == y) ≡ (y == x)
-same_number x y = bool_same (x == y) (y == x)
+same_number x y = both_ways (x == y) (y == x)
     (λ (e : (x == y) ≡ true). eq-eqb y x (sym (eqb-true x y e))) (λ (e : (y == x) ≡ true). eq-eqb x y (sym (eqb-true y x e)))
 
 abbrev same_file_as : PieceName → Arrival → Seg → Bool
@@ -108,7 +109,7 @@ module _ (told : StationsAreTold) (pieces : KeptPieces) (taken : List Arrival) (
       let other = in-others s n there in held-has n other.0 other.1)
 
   is-own : (n : ℕ) → is (piece_name a s) n a ≡ (n == s.number)
-  is-own n = bool_same (is (piece_name a s) n a) (n == s.number)
+  is-own n = both_ways (is (piece_name a s) n a) (n == s.number)
       (λ (e : is (piece_name a s) n a ≡ true).
       let same = same-is told (with_number (piece_name a s) n) (piece_name a s)
       (sym (is-named (piece_name a s) n a s known.segmentation_is) ∙ e) in

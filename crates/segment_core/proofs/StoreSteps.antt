@@ -4,7 +4,7 @@ use Rattle.std.proofs.Common.{◌++◌, Option, Some, None, is_some, refl, sym, 
 use Rattle.std.proofs.lemmas.Bool.{cases_Bool, cond-true, cond-false, and_parts, and_left, leb-true, ltb-true, lt-ltb}
 use Rattle.std.proofs.lemmas.Bool.{false_from_ne_true}
 use Rattle.std.proofs.lemmas.Map.Entries.{lookup-filter-keys}
-use Rattle.apdu_core.specs.declared.unit.Seg.{Seg}
+use Rattle.apdu_core.specs.declared.apdu.Seg.{Seg}
 use Rattle.uplink_frame.specs.Laws.{StationsAreTold}
 use Rattle.segment_core.specs.Arrival.{Arrival, is_piece}
 use Rattle.segment_core.specs.Kept.{KeptPieces, IsNumbered, kept_under, kept_of, with_number, piece_name, arrival_named, seg_of_name}
@@ -17,9 +17,6 @@ use Rattle.segment_core.specs.declared.arrived.Longest.{Longest}
 use Rattle.segment_core.specs.declared.arrived.Taken.TheVariants.{Stale}
 use Rattle.segment_core.proofs.PieceNames.{same-is, same-self}
 use Rattle.segment_core.proofs.Stands.{IsKnown, answers, keeps_file, is-named, kept_other}
-
-pub stands-new : (longest : Longest) → StandsFor (record { longest = longest; clock = None; pieces = [] }) []
-stands-new longest = record { keeps = λ name number live. refl; numbered = λ name some. absurd (cc) }
 
 -- what is live later was live before
 earlier-live : (longest : Longest) (clock : Option ℕ) (moment : ℕ) (name : PieceName) → IsNotBefore clock moment

@@ -3,7 +3,7 @@ use Rattle.std.specs.Prelude.{ℕ, Bool, false, not, ◌&&◌, ◌==◌, if◌th
 use Rattle.std.specs.Prelude.{filter, find}
 use Rattle.std.specs.Prelude.{flat_map, filter_map, Option, Some, None}
 use Rattle.std.specs.List.{list_any, list_all, range_with_len}
-use Rattle.apdu_core.specs.declared.unit.Seg.{Seg}
+use Rattle.apdu_core.specs.declared.apdu.Seg.{Seg}
 use Rattle.uplink_frame.specs.declared.station.StationId.{StationId}
 use Rattle.uplink_frame.specs.Station.{same_station}
 

@@ -2,7 +2,7 @@
 use Rattle.std.specs.Prelude.{ℕ, Bool, ◌&&◌, ◌==◌, nat_le, if◌then◌else◌, List, [], flat_map}
 use Rattle.std.specs.Prelude.{Option, Some, None, is_some}
 use Rattle.std.specs.List.{list_all, range_with_len}
-use Rattle.apdu_core.specs.declared.unit.Seg.{Seg}
+use Rattle.apdu_core.specs.declared.apdu.Seg.{Seg}
 use Rattle.segment_core.specs.Arrival.{Arrival, other_numbers}
 use Rattle.segment_core.specs.Kept.{KeptPieces, kept_under, with_number, piece_name, seg_of_name}
 use Rattle.segment_core.specs.Kept.{same_piece}

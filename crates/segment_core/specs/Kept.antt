@@ -4,7 +4,7 @@ use Rattle.std.specs.Prelude.{ℕ, ◌≤◌, Bool, ◌&&◌, ◌==◌, if◌the
 use Rattle.std.specs.List.{list_all, range_with_len}
 use Rattle.std.specs.Map.{lookup}
 use Rattle.std.specs.Option.{option_map}
-use Rattle.apdu_core.specs.declared.unit.Seg.{Seg}
+use Rattle.apdu_core.specs.declared.apdu.Seg.{Seg}
 use Rattle.uplink_frame.specs.Station.{same_station}
 use Rattle.segment_core.specs.Arrival.{Arrival, first_piece, has_piece}
 use Rattle.segment_core.specs.declared.piece_name.PieceName.{PieceName}

@@ -3,7 +3,7 @@ use Rattle.std.specs.Prelude.{◌≡◌, ℕ, ◌+◌, ◌≤◌, Bool, true, �
 use Rattle.std.specs.Prelude.{◌∷◌, ◌++◌}
 use Rattle.std.specs.Prelude.{filter, Option, Some, None, is_some}
 use Rattle.std.specs.List.{list_all}
-use Rattle.apdu_core.specs.declared.unit.Seg.{Seg}
+use Rattle.apdu_core.specs.declared.apdu.Seg.{Seg}
 use Rattle.life_table.specs.Products.{regional_radar, conus_radar}
 use Rattle.segment_core.specs.File.{most_segments}
 use Rattle.segment_core.specs.Arrival.{Arrival, has_piece, other_numbers, joined_payload}

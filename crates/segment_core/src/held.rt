@@ -24,7 +24,7 @@ use life_table::{CONUS_RADAR, REGIONAL_RADAR};
 use std::alloc::{AllocError, Global};
 use undo_map::laws::{none_is_over, others_have_places};
 use undo_map::{EndQueue, UndoMap};
-use uplink_frame::stations_are_told;
+use uplink_frame::laws::stations_are_told;
 
 /// Takes an arrival that is not stale: what it brings, and what is held then.
 pub(crate) fn take_live(

@@ -1,5 +1,6 @@
 //! Joins segments as they arrive, and forgets what is stale.
-ghost use Rattle.std.specs.Prelude.{◌≡◌, ◌≤◌, length, IfOk, IsSome, List, None, OnErr, OnOk, Some, []};
+ghost use Rattle.std.specs.Prelude.{◌≡◌, ◌≤◌, length, IfOk, IsSome, List, None, OnErr, OnOk, Some};
+ghost use Rattle.std.specs.Prelude.{[]};
 ghost use Rattle.std.specs.Prelude.{true, false};
 ghost use Rattle.segment_core.specs.Arrival.{Arrival};
 ghost use Rattle.segment_core.specs.Bound.{IsPurged};
@@ -18,7 +19,7 @@ use std::alloc::{AllocError, Global};
 use std::marker::Model;
 use undo_map::laws::queues_stay;
 use undo_map::{EndQueue, UndoMap};
-use uplink_frame::stations_are_told;
+use uplink_frame::laws::stations_are_told;
 
 /// Joins the segments of files as they arrive. Of each file that is not stale it keeps the first
 /// piece of each number, and the numbers alone once the file was whole.

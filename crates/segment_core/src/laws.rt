@@ -6,7 +6,7 @@ ghost use Rattle.segment_core.specs.Cutting.{TextsHaveFewParts};
 ghost use Rattle.segment_core.specs.Joining.{CompletedGrows, FilesComplete, OnlyFilesComplete};
 ghost use Rattle.segment_core.specs.Joining.{WholeFilesComplete};
 
-use uplink_frame::stations_are_told;
+use uplink_frame::laws::stations_are_told;
 
 /// The law that the parts of a payload are the payload when they are joined in order, and that
 /// there is one at least.

@@ -27,13 +27,6 @@ cut_behind_blanks text zero utf8 within h = IsCharBoundary-start text utf8
 cut_behind_blanks text (suc n) utf8 within h =
     rw (← add-one n) (IsCharBoundary-after_ascii text n utf8 (omega arith) (blank_is_ascii (get_or text n 0) (h n (omega arith))))
 
-pub cut_before_blank : (text : List ℕ) (n : ℕ) → n ≤ length text → (n < length text → is_blank (get_or text n 0) ≡ true) → IsCharBoundary text n
-cut_before_blank text n within h =
-    elim (cases_lt n (length text)) [
-      | inl below ↦ IsCharBoundary-before_ascii text n below (blank_is_ascii (get_or text n 0) (h below))
-      | inr end ↦ let e : length text ≡ n = omega arith in rw (← e) (IsCharBoundary-end text)
-    ]
-
 abbrev words_with_letters : List (List ℕ) → List (List ℕ)
 words_with_letters parts = filter (λ word. nat_lt 0 (length word)) parts
 

@@ -10,8 +10,8 @@ use Rattle.std.proofs.lemmas.Cmp.{nat_list_cmp_total}
 use Rattle.std.specs.declared.cmp.Ordering.TheVariants.{Less, Equal, Greater}
 use Rattle.text_reports.specs.Front.{front_number}
 
-abbrev pub AreBytes : List ℕ → Type 0
-AreBytes word = (k : ℕ) → get_or word k 0 < 256
+abbrev pub IsBytes : List ℕ → Type 0
+IsBytes word = (k : ℕ) → get_or word k 0 < 256
 
 add_digit : (a b x f digit : ℕ) → a ≡ x * 256 → b ≡ f * 256 + digit → a + b ≡ (x + f) * 256 + digit
 add_digit a b x f digit e g = omega arith
@@ -41,7 +41,7 @@ led_below p x y f g small below =
     let second = mul_comm p y in
     omega (arith, times, one_more, first, second)
 
-pub front_fits : (n : ℕ) (word : List ℕ) → AreBytes word → front_number n word < 256 ^ n
+pub front_fits : (n : ℕ) (word : List ℕ) → IsBytes word → front_number n word < 256 ^ n
 front_fits zero word h = omega arith
 front_fits (suc n) [] h = some_power (suc n)
 front_fits (suc n) (byte ∷ more) h =
@@ -76,7 +76,7 @@ longer m n =
     ]
 
 -- words are in the order of their fronts, where these differ
-front_below : (n : ℕ) (a b : List ℕ) → AreBytes a → AreBytes b → front_number n a < front_number n b → slice_cmp nat_cmp a b ≡ Less
+front_below : (n : ℕ) (a b : List ℕ) → IsBytes a → IsBytes b → front_number n a < front_number n b → slice_cmp nat_cmp a b ≡ Less
 front_below zero a b h k below = absurd (omega arith)
 front_below (suc n) [] [] h k below = absurd (omega arith)
 front_below (suc n) [] (y ∷ ys) h k below = refl
@@ -94,11 +94,11 @@ front_below (suc n) (x ∷ xs) (y ∷ ys) h k below =
           ]
     ]
 
-front_above : (n : ℕ) (a b : List ℕ) → AreBytes a → AreBytes b → front_number n b < front_number n a → slice_cmp nat_cmp a b ≡ Greater
+front_above : (n : ℕ) (a b : List ℕ) → IsBytes a → IsBytes b → front_number n b < front_number n a → slice_cmp nat_cmp a b ≡ Greater
 front_above n a b h k above = nat_list_cmp_total.antisymm a b ∙ ap ordering_reverse (front_below n b a k h above)
 
 -- the order of two fronts that differ is that of their words
-pub front_told : (n : ℕ) (a b : List ℕ) (o : Ordering) → AreBytes a → AreBytes b → front_number n a ≢ front_number n b → o ≡ nat_cmp (front_number n a) (front_number n b) → o ≡ slice_cmp nat_cmp a b
+pub front_told : (n : ℕ) (a b : List ℕ) (o : Ordering) → IsBytes a → IsBytes b → front_number n a ≢ front_number n b → o ≡ nat_cmp (front_number n a) (front_number n b) → o ≡ slice_cmp nat_cmp a b
 front_told n a b o h k other told =
     elim (cases_lt (front_number n a) (front_number n b)) [
       | inl less ↦ told ∙ sym (nat_cmp_is _ _ Less less) ∙ sym (front_below n a b h k less)
@@ -106,7 +106,7 @@ front_told n a b o h k other told =
     ]
 
 -- words of equal fronts that are no longer than these are in the order of their lengths
-pub front_same : (n : ℕ) (a b : List ℕ) → AreBytes a → AreBytes b → length a ≤ n → length b ≤ n → front_number n a ≡ front_number n b → slice_cmp nat_cmp a b ≡ nat_cmp (length a) (length b)
+pub front_same : (n : ℕ) (a b : List ℕ) → IsBytes a → IsBytes b → length a ≤ n → length b ≤ n → front_number n a ≡ front_number n b → slice_cmp nat_cmp a b ≡ nat_cmp (length a) (length b)
 front_same n [] [] h k short small same = nat_cmp_is 0 0 Equal refl
 front_same n [] (y ∷ ys) h k short small same = nat_cmp_is 0 (suc (length ys)) Less (omega arith)
 front_same n (x ∷ xs) [] h k short small same = nat_cmp_is (suc (length xs)) 0 Greater (omega arith)

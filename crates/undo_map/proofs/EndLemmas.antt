@@ -1,7 +1,7 @@
 -- Queues of places, and the entries that have a place.
 use Rattle.std.proofs.Common.{◌≡◌, ℕ, ◌+◌, length, ◌≤◌, ◌&&◌, ◌++◌, true, false, Bool, List, [], ◌∷◌, refl, sym, ap, ◌∙◌}
 use Rattle.std.proofs.Common.{Result, Ok, Err, OnOk, OnErr, nat_le, nat_lt, cond, arith, inl, inr, IsPermutation, subst}
-use Rattle.std.specs.Prelude.{Option, Some, None, is_some}
+use Rattle.std.specs.Prelude.{Some, None, is_some}
 use Rattle.std.specs.BTreeMap.{insert_entry, is_at}
 use Rattle.std.specs.Cmp.{IsTotalOrder}
 use Rattle.std.specs.List.{AllByRecursion, list_any}
@@ -29,10 +29,6 @@ pub either : {A B P Q Z : Type 0} (r : Result A B) → OnOk r P → OnErr r Q �
 either (Ok x) p q f g = f p
 either (Err e) p q f g = g q
 
-pub on-ok : {A B : Type 0} (P : Type 0) (r : Result A B) → P → OnOk r P
-on-ok P (Ok x) p = p
-on-ok P (Err e) p = tt
-
 pub on-both : {A B : Type 0} (P Q : Type 0) (r : Result A B) → OnOk r P → OnOk r Q → OnOk r (P × Q)
 on-both P Q (Ok x) p q = (p, q)
 on-both P Q (Err e) p q = tt
@@ -40,10 +36,6 @@ on-both P Q (Err e) p q = tt
 pub on-err-both : {A B : Type 0} (P Q : Type 0) (r : Result A B) → OnErr r P → OnErr r Q → OnErr r (P × Q)
 on-err-both P Q (Ok x) p q = tt
 on-err-both P Q (Err e) p q = (p, q)
-
-pub map-err : {A B : Type 0} (P Q : Type 0) (r : Result A B) → (P → Q) → OnErr r P → OnErr r Q
-map-err P Q (Ok x) f p = tt
-map-err P Q (Err e) f p = f p
 
 module _ {K : Type 0} where
   -- a place that is added

@@ -1,19 +1,16 @@
 -- Places of a key that are brought forward, and places of a queue in two parts.
-use Rattle.std.proofs.Common.{◌≡◌, ℕ, ◌<◌, ◌≤◌, ◌&&◌, ◌||◌, ◌⊎◌, true, false, Bool, List, [], ◌∷◌, ◌++◌, length, map, filter, not}
+use Rattle.std.proofs.Common.{◌≡◌, ℕ, ◌<◌, ◌≤◌, ◌&&◌, ◌||◌, ◌⊎◌, true, false, Bool, List, [], ◌∷◌, length, map, filter, not}
 use Rattle.std.proofs.Common.{refl, sym, ap, subst, ◌∙◌, nat_le, arith, inl, inr, IsPermutation}
 use Rattle.std.specs.Cmp.{IsTotalOrder, Equal-is}
-use Rattle.std.specs.List.{list_any}
 use Rattle.std.specs.Ordering.{is_eq}
 use Rattle.std.specs.declared.cmp.Ordering.{Ordering}
-use Rattle.std.specs.declared.cmp.Ordering.TheVariants.{Less, Equal, Greater}
 use Rattle.std.proofs.lemmas.Bool.{cases_Bool, or_cases, or_left, or_right, and_parts, leb-true}
 use Rattle.std.proofs.lemmas.Bool.Decides.{nat_tests}
 use Rattle.std.proofs.lemmas.Cmp.{tied_itself}
-use Rattle.std.proofs.lemmas.List.Folds.{list_any-append}
 use Rattle.std.proofs.lemmas.List.Sorted.{IsPermutation-cons, IsPermutation-map, IsPermutation-trans, length_permutation, list_any-IsPermutation}
 use Rattle.list_members.specs.ListMembers.{filter_shorter}
 use Rattle.undo_map.specs.Ends.{HasPlaceSooner, KeepsPlacesBy, has_place_by}
-use Rattle.undo_map.specs.declared.ends.Place.{Place}
+use Rattle.undo_map.specs.declared.end_queue.Place.{Place}
 use Rattle.undo_map.proofs.EndLemmas.{has-added, has-later}
 use Rattle.undo_map.proofs.PlaceLemmas.{keeps-added}
 
@@ -161,26 +158,3 @@ module _ {K : Type 0} where
         sym (list_any-IsPermutation (λ (place : ℕ × K). is_eq (R place.1 q) && nat_le place.0 by) _ new moves) ∙ kept
     | inr own ↦ has-later R new q second by own.1 (none-sooner R total second key old new moves all q by own.0 some)
   ]
-
-  -- what holds of both parts of a queue holds of all its places
-  pub keeps-by-both :
-      (R : K → K → Ordering) (xs xs' ys ys' : List (ℕ × K)) → KeepsPlacesBy R xs xs' → KeepsPlacesBy R ys ys'
-      → KeepsPlacesBy R (xs ++ ys) (xs' ++ ys')
-  keeps-by-both R xs xs' ys ys' one other q by some =
-      let test : ℕ × K → Bool = λ place. is_eq (R place.1 q) && nat_le place.0 by in
-      list_any-append test xs' ys'
-      ∙ elim (or_cases (list_any test xs) (list_any test ys) (sym (list_any-append test xs ys) ∙ some)) [
-        | inl here ↦ or_left (list_any test xs') (list_any test ys') (one q by here)
-        | inr there ↦ or_right (list_any test xs') (list_any test ys') (other q by there)
-      ]
-
-  pub sooner-both :
-      (R : K → K → Ordering) (key : K) (second : ℕ) (xs xs' ys ys' : List (ℕ × K)) → HasPlaceSooner R key second xs xs'
-      → HasPlaceSooner R key second ys ys' → HasPlaceSooner R key second (xs ++ ys) (xs' ++ ys')
-  sooner-both R key second xs xs' ys ys' one other q by same some =
-      let test : ℕ → ℕ × K → Bool = λ n place. is_eq (R place.1 q) && nat_le place.0 n in
-      list_any-append (test second) xs' ys'
-      ∙ elim (or_cases (list_any (test by) xs) (list_any (test by) ys) (sym (list_any-append (test by) xs ys) ∙ some)) [
-        | inl here ↦ or_left (list_any (test second) xs') (list_any (test second) ys') (one q by same here)
-        | inr there ↦ or_right (list_any (test second) xs') (list_any (test second) ys') (other q by same there)
-      ]

@@ -6,7 +6,7 @@ use Rattle.std.proofs.lemmas.Bool.Decides.{nat_tests}
 use Rattle.std.proofs.lemmas.List.Folds.{list_any-append}
 use Rattle.std.proofs.lemmas.List.Sorted.{list_any-IsPermutation, sum_by_popped, sum_by_pushed}
 use Rattle.std.specs.Prelude.{IsSomeAnd, slice_get, slice_index_or}
-use Rattle.undo_map.specs.declared.ends.Place.{Place}
+use Rattle.undo_map.specs.declared.end_queue.Place.{Place}
 use Rattle.std.specs.Ordering.{is_eq}
 use Rattle.std.specs.declared.cmp.Ordering.{Ordering}
 use Rattle.undo_map.specs.Ends.{HasAdded, HasLeft, KeepsPlaces, KeepsPlacesBy, due_places}

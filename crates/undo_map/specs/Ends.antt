@@ -1,5 +1,5 @@
--- Keys in a queue by the second at which they are to be looked at, and the entries that have a place
--- in it.
+-- Keys in a queue by the second at which they are to be looked at, and the entries that have a
+-- place in it.
 use Rattle.std.specs.Prelude.{◌≡◌, ℕ, ◌+◌, ◌<◌, ◌≤◌, Bool, true, false, ◌&&◌, nat_le, nat_lt}
 use Rattle.std.specs.Prelude.{List, [], ◌++◌, All, length, filter, Option, Some, None}
 use Rattle.std.specs.Prelude.{if◌then◌else◌}

@@ -1,18 +1,21 @@
 //! Values that last to a second, the newest of each key.
-ghost use Rattle.std.specs.Prelude.{◌≡◌, ℕ, ◌+◌, ◌<◌, ◌≤◌, ◌&&◌, ◌++◌, ◌∷◌, [], List, None, Some, IsSome};
-ghost use Rattle.std.specs.Prelude.{OnErr, OnOk, filter, if◌then◌else◌, length, nat_le, nat_lt, not, true};
+ghost use Rattle.std.specs.Prelude.{◌≡◌, ℕ, ◌+◌, ◌<◌, ◌≤◌, ◌&&◌, ◌++◌, ◌∷◌, [], List, None, Some};
+ghost use Rattle.std.specs.Prelude.{IsSome};
+ghost use Rattle.std.specs.Prelude.{OnErr, OnOk, filter, if◌then◌else◌, length, nat_le, nat_lt};
+ghost use Rattle.std.specs.Prelude.{not, true};
 ghost use Rattle.std.specs.BTreeMap.{IsOrdered, insert_entry, is_at};
 ghost use Rattle.std.specs.List.Sorted.{IsStrictlySortedBy};
 ghost use Rattle.std.specs.Map.{keys_of, lookup};
 ghost use Rattle.std.specs.Map.Iter.{ShowsInOrder, deref_pair};
 ghost use Rattle.std.specs.Option.{option_map};
 ghost use Rattle.std.specs.Ordering.{is_eq};
-ghost use Rattle.undo_map.specs.Ends.{HavePlaces, HasPlaceSooner, KeepsPlacesBy, all_places, due_places, has_place, has_place_by};
+ghost use Rattle.undo_map.specs.Ends.{HavePlaces, HasPlaceSooner, KeepsPlacesBy, all_places};
+ghost use Rattle.undo_map.specs.Ends.{due_places, has_place, has_place_by};
 ghost use Rattle.undo_map.specs.Ends.{place_count, with_newer};
 ghost use Rattle.undo_map.specs.Steps.{before_all};
 
 use crate::duplicate::Duplicate;
-use crate::ends::EndQueue;
+use crate::end_queue::EndQueue;
 use crate::laws::{none_is_over, queues_stay};
 use crate::map::UndoMap;
 use crate::step::{Step, write_step};

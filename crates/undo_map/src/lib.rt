@@ -2,13 +2,13 @@
 #![tactic(auto)]
 
 mod duplicate;
-mod ends;
+mod end_queue;
 mod lasting;
 pub mod laws;
 mod map;
 mod step;
 
 pub use duplicate::Duplicate;
-pub use ends::EndQueue;
+pub use end_queue::EndQueue;
 pub use lasting::{Lasting, LastingMap};
 pub use map::UndoMap;

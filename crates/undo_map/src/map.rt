@@ -1,5 +1,6 @@
 //! The map and its calls.
-ghost use Rattle.std.specs.Prelude.{◌≡◌, ◌+◌, ◌≤◌, IsSome, IfOk, OnOk, OnErr, Some, None, length, [], is_some, true};
+ghost use Rattle.std.specs.Prelude.{◌≡◌, ◌+◌, ◌≤◌, IsSome, IfOk, OnOk, OnErr, Some, None, length};
+ghost use Rattle.std.specs.Prelude.{[], is_some, true};
 ghost use Rattle.std.specs.BTreeMap.{insert_entry, is_at};
 ghost use Rattle.std.specs.List.Sorted.{IsStrictlySortedBy};
 ghost use Rattle.std.specs.Map.{keys_of, lookup, remove_entry};
@@ -9,7 +10,7 @@ ghost use Rattle.undo_map.specs.Ends.{IsQueueOfEnds, with_newer};
 ghost use Rattle.undo_map.specs.Marked.{with_all};
 
 use crate::duplicate::Duplicate;
-use crate::ends::EndQueue;
+use crate::end_queue::EndQueue;
 use crate::lasting::{Lasting, put_step};
 use crate::step::{Step, take_all_back, write_all_steps, write_step};
 use std::alloc::{AllocError, Global};

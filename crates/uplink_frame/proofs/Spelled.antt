@@ -5,6 +5,7 @@ use Rattle.std.proofs.lemmas.Bool.{cases_Bool, ltb-true, ltb-false, eqb-true, an
 use Rattle.std.proofs.lemmas.List.{length-append, length-drop, take_at, drop_at, take-append-drop}
 use Rattle.std.proofs.lemmas.List.Elements.{All-head, All-tail, All-drop}
 use Rattle.bit_fields.specs.Bits.{AreBytes}
+use Rattle.bit_fields.specs.BytesAsNumbers.{IsByte}
 use Rattle.uplink_frame.specs.UplinkFrame.{InformationFrame, frame_front, length_at_front, kind_at_front, ends_here, frame_at_front, behind_frame, frames_at_front, frames_in, information_frames, spelled_frames, FitsFrame}
 use Rattle.uplink_frame.specs.Spelling.{BeginsWith, IsEnd, few_left, zeros, too_long, SpellsFrame, SpellsFrames}
 use Rattle.uplink_frame.proofs.FrameList.{ap2, ends-few, ends-zeros, ends-cut, goes_on, goes_on-parts, length-body, at_end, one_more, length-behind_frame, frames_in-end, frames_in-more, information_frames-frames_in}
@@ -23,7 +24,6 @@ begins :
 begins [] are_bytes enough = absurd (omega arith)
 begins (high ∷ []) are_bytes enough = absurd (omega arith)
 begins (high ∷ low ∷ behind) are_bytes enough =
-    let IsByte : ℕ → Type 0 = λ byte. byte < 256 in
     let high_is = All-head IsByte high (low ∷ behind) are_bytes in
     let low_is = All-head IsByte low behind (All-tail IsByte high (low ∷ behind) are_bytes) in
     let size = length_at_front (high ∷ low ∷ behind) in
@@ -136,7 +136,6 @@ spelled-frames_at_front (suc most) bytes are_bytes few =
       | inl ends ↦ rw (at_end (suc most) bytes ends) (ends-list bytes are_bytes ends)
       | inr on ↦
           let shorter = length-behind_frame bytes in
-          let IsByte : ℕ → Type 0 = λ byte. byte < 256 in
           let left = All-drop IsByte (length_at_front bytes) (drop 2 bytes) (All-drop IsByte 2 bytes are_bytes) in
           rw (one_more most bytes on)
           (behind_frame bytes, spells_front bytes are_bytes on, spelled-frames_at_front most (behind_frame bytes) left (omega arith))
@@ -145,7 +144,6 @@ spelled-frames_at_front (suc most) bytes are_bytes few =
 spelled-payload : (payload : List ℕ) → AreBytes payload → length payload ≡ 432 → SpellsFrames (information_frames payload) (drop 8 payload)
 unfolding information_frames
 spelled-payload payload are_bytes size =
-    let IsByte : ℕ → Type 0 = λ byte. byte < 256 in
     spelled-frames_at_front 212 (drop 8 payload) (All-drop IsByte 8 payload are_bytes) (omega (arith, length-drop 8 payload))
 
 -- the information frames of a payload are those that it spells

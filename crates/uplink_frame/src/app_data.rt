@@ -6,11 +6,8 @@ ghost use Rattle.uplink_frame.specs.UplinkFrame.{FitsFrame, frame_room, header_b
 ghost use Rattle.uplink_frame.specs.UplinkFrame.{information_frames, spelled_frames};
 ghost use Rattle.uplink_frame.specs.UplinkFrame.{application_data, payload_of};
 
-use crate::walk::HEADER_LENGTH;
+use crate::lengths::{FRAME_ROOM, HEADER_LENGTH, PAYLOAD_LENGTH};
 use std::marker::Model;
-
-/// The bytes of application data in a payload.
-const ROOM: usize = 424;
 
 /// The information frame has more bytes than are left of the application data.
 #[derive(Clone, Copy, Debug, PartialEq, Eq)]
@@ -20,7 +17,7 @@ pub struct NoRoom;
 /// list of the frames.
 #[derive(Debug, Drop)]
 pub struct AppData {
-    bytes: [u8; 424],
+    bytes: [u8; FRAME_ROOM],
     used: usize,
 }
 
@@ -73,7 +70,7 @@ impl AppData {
         ensures err { OnErr result (self.new ≡ self.old) }
     {
         let length = body.len();
-        if ROOM - self.used < 2 + length {
+        if FRAME_ROOM - self.used < 2 + length {
             return Err(NoRoom);
         }
         let front = [(length / 2) as u8, (length % 2 * 128) as u8 + kind];
@@ -85,7 +82,7 @@ impl AppData {
 
     /// Writes the information frames into a payload from byte 8 on, and zeros after them. The header
     /// stays.
-    pub fn finish(&self, payload: &mut [u8; 432])
+    pub fn finish(&self, payload: &mut [u8; PAYLOAD_LENGTH])
         ensures bytes { payload.new ≡ take 8 payload.old ++ application_data self.now }
         ensures reads_back { information_frames payload.new ≡ self.now }
         ensures frames { All FitsFrame self.now }
@@ -97,10 +94,10 @@ impl AppData {
 }
 
 /// Bytes without a frame.
-fn zeros() -> [u8; 424]
+fn zeros() -> [u8; FRAME_ROOM]
     ensures { result ≡ replicate frame_room 0 }
 {
-    [0; 424]
+    [0; FRAME_ROOM]
 }
 
 /// Writes some bytes over those from a place on.

@@ -3,6 +3,7 @@ ghost use Rattle.std.specs.Prelude.{◌≡◌, ◌+◌, ◌*◌, ◌/◌, ◌%�
 ghost use Rattle.uplink_frame.specs.UplinkFrame.{FitsHeader, header_bytes, header_in};
 ghost use Rattle.uplink_frame.specs.Station.{station_of};
 
+use crate::lengths::PAYLOAD_LENGTH;
 use crate::station::StationId;
 
 /// The header of a payload: where the ground station is, and how the message was sent.
@@ -39,7 +40,7 @@ impl UplinkHeader {
 }
 
 /// The header of a payload. Reserved bits are not looked at.
-pub fn read_header(payload: &[u8; 432]) -> UplinkHeader
+pub fn read_header(payload: &[u8; PAYLOAD_LENGTH]) -> UplinkHeader
     ensures { result ≡ header_in payload.now }
 {
     let [a, b, c, d, e, f, g, h, ..] = *payload;
@@ -57,7 +58,7 @@ pub fn read_header(payload: &[u8; 432]) -> UplinkHeader
 
 /// Writes the header into the first 8 bytes of a payload, the reserved bits as 0, and leaves the
 /// others.
-pub fn write_header(header: &UplinkHeader, payload: &mut [u8; 432])
+pub fn write_header(header: &UplinkHeader, payload: &mut [u8; PAYLOAD_LENGTH])
     requires { FitsHeader header.now }
     ensures bytes { take 8 payload.new ≡ header_bytes header.now }
     ensures rest { drop 8 payload.new ≡ drop 8 payload.old }

@@ -4,12 +4,13 @@
 
 mod app_data;
 mod header;
-mod laws;
+pub mod laws;
+mod lengths;
 mod station;
 mod walk;
 
 pub use app_data::{AppData, NoRoom};
 pub use header::{UplinkHeader, read_header, write_header};
-pub use laws::{bodies_read_back, frames_are_spelled, payload_reads_back, stations_are_told};
+pub use lengths::{FRAME_ROOM, PAYLOAD_LENGTH};
 pub use station::StationId;
 pub use walk::{FrameWalk, InfoFrame, frames};

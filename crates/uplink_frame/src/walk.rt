@@ -3,10 +3,8 @@ ghost use Rattle.std.specs.Prelude.{◌≡◌, [], ◌∷◌, MatchOption};
 ghost use Rattle.uplink_frame.specs.UplinkFrame.{frames_in, information_frames};
 ghost use Rattle.uplink_frame.specs.Views.{frame_view};
 
+use crate::lengths::{HEADER_LENGTH, PAYLOAD_LENGTH};
 use std::marker::Model;
-
-/// Where the information frames of a payload begin.
-pub(crate) const HEADER_LENGTH: usize = 8;
 
 /// An information frame.
 #[derive(Clone, Copy, Debug, PartialEq, Eq)]
@@ -36,7 +34,7 @@ impl<'a> Model for FrameWalk<'a> {
 ///
 /// They end where fewer than two bytes are left, where a length and a type are both 0, and where a length is more than
 /// the bytes that are left. What stands from there on is not read.
-pub fn frames<'a>(payload: &'a [u8; 432]) -> FrameWalk<'a>
+pub fn frames<'a>(payload: &'a [u8; PAYLOAD_LENGTH]) -> FrameWalk<'a>
     ensures { result ≡ information_frames payload.now }
 {
     let (_, left) = payload.split_at(HEADER_LENGTH);

@@ -1,8 +1,9 @@
-use uplink_weave::{
-    Lost, burst_gives_payload, burst_is_spread, frame_gives_payload, functions_of_a_frame,
-    near_frame_gives_payload, near_gives_payload, unique_payload, unweave, weave,
-    woven_gives_payload, woven_is_the_frame,
+use uplink_weave::laws::{
+    burst_gives_payload, burst_is_spread, frame_gives_payload, functions_of_a_frame,
+    near_frame_gives_payload, near_gives_payload, unique_payload, woven_gives_payload,
+    woven_is_the_frame,
 };
+use uplink_weave::{Lost, unweave, weave};
 
 // A header without a position and one information frame, and zeros after them.
 fn one_report() -> [u8; 432] {

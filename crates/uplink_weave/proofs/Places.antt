@@ -1,4 +1,4 @@
--- The blocks of a frame by their places, and lists that are written place by place.
+-- The blocks of a frame by their places.
 use Rattle.std.proofs.Common.{◌≡◌, ◌≢◌, ℕ, ◌+◌, ◌*◌, ◌/◌, ◌%◌, ◌<◌, ◌≤◌, List, length, get_or, set, take, sym, ◌∙◌, ap, subst, arith, inl, inr}
 use Rattle.std.proofs.lemmas.Bool.{cases_eq}
 use Rattle.std.proofs.lemmas.List.{ext_get_or, get_or-set_same, get_or-set_other, get_or-take, length-take-le}
@@ -45,43 +45,9 @@ same_frame air other long long' blocks =
     ∙ get_or-block (i % 6) other (i / 6) low
     ∙ ap (λ (j : ℕ). get_or other j 0) place)
 
--- one more byte is written, at the place that is its own
-pub set_grows :
-    (place value : ℕ → ℕ) (xs : List ℕ) (n v : ℕ) → place n < length xs → v ≡ value n
-    → ((i : ℕ) → i < n → place i ≢ place n) → ((i : ℕ) → i < n → get_or xs (place i) 0 ≡ value i) → (i : ℕ) → i < n + 1
-    → get_or (set xs (place n) v) (place i) 0 ≡ value i
-set_grows place value xs n v room e apart before i h = elim (cases_eq i n) [
-  | inl same ↦
-      ap (λ (k : ℕ). get_or (set xs (place n) v) (place k) 0) same
-      ∙ get_or-set_same xs (place n) v 0 room
-      ∙ e
-      ∙ ap value (sym same)
-  | inr other ↦
-      let lower : i < n = omega arith in
-      get_or-set_other xs (place n) (place i) v 0 (apart i lower) ∙ before i lower
-]
-
 -- what holds of all numbers below and of one more
 pub one_more : (P : ℕ → Type 0) (n : ℕ) → ((r : ℕ) → r < n → P r) → P n → (r : ℕ) → r < n + 1 → P r
 one_more P n before last r h = elim (cases_eq r n) [
   | inl same ↦ subst P (sym same) last
   | inr other ↦ before r (omega arith)
 ]
-
--- words with one front have the same bytes there
-pub same_in_front :
-    (n : ℕ) (xs ys : List ℕ) → take n xs ≡ take n ys → (k : ℕ) → k < n → get_or xs k 0 ≡ get_or ys k 0
-same_in_front n xs ys same k h =
-    sym (get_or-take n xs k 0 h) ∙ ap (λ (zs : List ℕ). get_or zs k 0) same ∙ get_or-take n ys k 0 h
-
--- words with the same bytes in front have one front
-pub same_front :
-    (n : ℕ) (xs ys : List ℕ) → n ≤ length xs → n ≤ length ys
-    → ((k : ℕ) → k < n → get_or xs k 0 ≡ get_or ys k 0) → take n xs ≡ take n ys
-same_front n xs ys long long' bytes =
-    let l : length (take n xs) ≡ n = length-take-le n xs long in
-    let l' : length (take n ys) ≡ n = length-take-le n ys long' in
-    ext_get_or 0 (take n xs) (take n ys) (l ∙ sym l')
-    (λ k h.
-    let inside : k < n = omega arith in
-    get_or-take n xs k 0 inside ∙ bytes k inside ∙ sym (get_or-take n ys k 0 inside))

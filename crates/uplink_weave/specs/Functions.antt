@@ -15,7 +15,8 @@ part r payload = take 72 (drop (72 * r) payload)
 unfoldable pub woven_frame : List ℕ → List ℕ
 woven_frame payload =
     map (λ place.
-    slice_index (encoded_word block_bytes block_roots first_root (part (place % 6) payload)) (place / 6))
+    slice_index (encoded_word block_bytes block_roots first_root (part (place % 6) payload))
+    (place / 6))
     (range_with_len 0 frame_bytes)
 
 -- the code word near a block, where there is one

@@ -41,7 +41,8 @@ pub record IsTheFrame : Type 0 where
   pub only : (payload air : List ℕ) → IsWoven payload air → air ≡ woven_frame payload
   pub made :
       (payload : List ℕ) → length payload ≡ payload_length → ((i : ℕ) → slice_index payload i < 256)
-      → IsWoven payload (woven_frame payload) × ((i : ℕ) → slice_index (woven_frame payload) i < 256)
+      → IsWoven payload (woven_frame payload)
+      × ((i : ℕ) → slice_index (woven_frame payload) i < 256)
   pub long : (payload : List ℕ) → length (woven_frame payload) ≡ frame_bytes
 
 -- the functions of a frame give its payload, its counts and its first lost block, and give none
@@ -58,15 +59,18 @@ pub record GivesPayload : Type 0 where
 abbrev pub FrameGivesPayload : Type 0
 FrameGivesPayload =
     (payload : List ℕ) → length payload ≡ payload_length → ((i : ℕ) → slice_index payload i < 256)
-    → (payload_in (woven_frame payload) ≡ Some payload) × (counts_in (woven_frame payload) ≡ replicate 6 0)
+    → (payload_in (woven_frame payload) ≡ Some payload)
+    × (counts_in (woven_frame payload) ≡ replicate 6 0)
     × (lost_block_in (woven_frame payload) ≡ None)
 
 -- a frame whose blocks are near those of the frame of a payload has that payload, and each count is
 -- the number of places in which its block differs
 abbrev pub NearFrameGivesPayload : Type 0
 NearFrameGivesPayload =
-    (payload air : List ℕ) → length payload ≡ payload_length → ((i : ℕ) → slice_index payload i < 256)
-    → ((r : ℕ) → r < 6 → IsTrue (are_near block_roots (block r air) (block r (woven_frame payload))))
+    (payload air : List ℕ) → length payload ≡ payload_length
+    → ((i : ℕ) → slice_index payload i < 256)
+    → ((r : ℕ) → r < 6
+    → IsTrue (are_near block_roots (block r air) (block r (woven_frame payload))))
     → (payload_in air ≡ Some payload)
     × (counts_in air
     ≡ map (λ r. differences (block r air) (block r (woven_frame payload))) (range_with_len 0 6))

@@ -2,9 +2,12 @@
 ghost use Rattle.std.specs.Prelude.{◌≡◌, ◌*◌, ◌<◌, ℕ, length, slice_index};
 ghost use Rattle.uplink_weave.specs.Woven.{block, BeginsWithPart};
 
+use crate::frame::FRAME_BYTES;
+use uplink_frame::PAYLOAD_LENGTH;
+
 // Puts a block of a frame in the place of a word.
 #[inline]
-pub(crate) fn read_block(air: &[u8; 552], number: usize, word: &mut [u8; 92])
+pub(crate) fn read_block(air: &[u8; FRAME_BYTES], number: usize, word: &mut [u8; 92])
     requires { number < 6 }
     ensures { word.new ≡ block number air.now }
 {
@@ -15,7 +18,7 @@ pub(crate) fn read_block(air: &[u8; 552], number: usize, word: &mut [u8; 92])
 
 // Puts a word in the place of a block of a frame.
 #[inline]
-pub(crate) fn write_block(word: &[u8; 92], number: usize, air: &mut [u8; 552])
+pub(crate) fn write_block(word: &[u8; 92], number: usize, air: &mut [u8; FRAME_BYTES])
     requires { number < 6 }
     ensures block { block number air.new ≡ word.now }
     ensures before { (lower : ℕ) → lower < number → block lower air.new ≡ block lower air.old }
@@ -27,7 +30,7 @@ pub(crate) fn write_block(word: &[u8; 92], number: usize, air: &mut [u8; 552])
 
 // A word that begins with the part of a payload that one block carries.
 #[inline]
-pub(crate) fn read_part(payload: &[u8; 432], number: usize) -> [u8; 92]
+pub(crate) fn read_part(payload: &[u8; PAYLOAD_LENGTH], number: usize) -> [u8; 92]
     requires { number < 6 }
     ensures { BeginsWithPart number payload.now result }
 {
@@ -40,7 +43,7 @@ pub(crate) fn read_part(payload: &[u8; 432], number: usize) -> [u8; 92]
 
 // Puts the beginning of a word in the place of a part of a payload.
 #[inline]
-pub(crate) fn write_part(word: &[u8; 92], number: usize, payload: &mut [u8; 432])
+pub(crate) fn write_part(word: &[u8; 92], number: usize, payload: &mut [u8; PAYLOAD_LENGTH])
     requires { number < 6 }
     ensures part { BeginsWithPart number payload.new word.now }
     ensures before { (place : ℕ) → place < 72 * number →

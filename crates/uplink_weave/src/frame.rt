@@ -1,11 +1,17 @@
 //! Frames on the air, and their payloads.
-ghost use Rattle.std.specs.Prelude.{◌≡◌, ◌↔◌, ℕ, List, Some, None, is_ok, IsTrue, IfOk, IfErr, OnOk, OnErr};
+ghost use Rattle.std.specs.Prelude.{◌≡◌, ◌↔◌, ℕ, List, Some, None, is_ok, IsTrue, IfOk, IfErr};
+ghost use Rattle.std.specs.Prelude.{OnOk, OnErr};
 ghost use Rattle.uplink_weave.specs.Functions.{woven_frame, payload_in, counts_in, lost_block_in};
-ghost use Rattle.uplink_weave.specs.Woven.{AllCorrectable, AreCorrected, HasCounts, HasPayload, IsLostBlock, IsWoven};
+ghost use Rattle.uplink_weave.specs.Woven.{AllCorrectable, AreCorrected, HasCounts, HasPayload};
+ghost use Rattle.uplink_weave.specs.Woven.{IsLostBlock, IsWoven};
 
 use crate::blocks::{read_block, read_part, write_block, write_part};
 use crate::laws::{functions_of_a_frame, woven_is_the_frame};
 use rs_code::UplinkCode;
+use uplink_frame::PAYLOAD_LENGTH;
+
+/// The bytes of a frame on the air.
+pub const FRAME_BYTES: usize = 552;
 
 /// No code word is near the block of this number, which is from 0 to 5.
 #[derive(Clone, Copy, Debug, PartialEq, Eq)]
@@ -14,7 +20,7 @@ pub struct Lost {
 }
 
 /// Writes the frame that is woven of a payload.
-pub fn weave(payload: &[u8; 432], air: &mut [u8; 552])
+pub fn weave(payload: &[u8; PAYLOAD_LENGTH], air: &mut [u8; FRAME_BYTES])
     ensures woven { IsWoven payload.now air.new }
     ensures only { (other : List ℕ) → IsWoven payload.now other → other ≡ air.new }
     ensures function { air.new ≡ woven_frame payload.now }
@@ -29,7 +35,7 @@ pub fn weave(payload: &[u8; 432], air: &mut [u8; 552])
 }
 
 // Corrects the words of the six blocks of a frame, and gives the number of bytes that were corrected in each.
-fn correct_blocks(air: &[u8; 552], words: &mut [[u8; 92]; 6]) -> Result<[u8; 6], Lost>
+fn correct_blocks(air: &[u8; FRAME_BYTES], words: &mut [[u8; 92]; 6]) -> Result<[u8; 6], Lost>
     ensures exactly { IsTrue (is_ok result) ↔ AllCorrectable air.now }
     ensures words { OnOk result (AreCorrected air.now words.new) }
     ensures counts { IfOk result (λ counts. HasCounts air.now counts) }
@@ -52,7 +58,7 @@ fn correct_blocks(air: &[u8; 552], words: &mut [[u8; 92]; 6]) -> Result<[u8; 6],
 
 /// Writes the payload of a frame, and gives the number of bytes that were corrected in each of its six blocks. Where a
 /// block is lost, the answer names the first such block and the payload stays as it is.
-pub fn unweave(air: &[u8; 552], payload: &mut [u8; 432]) -> Result<[u8; 6], Lost>
+pub fn unweave(air: &[u8; FRAME_BYTES], payload: &mut [u8; PAYLOAD_LENGTH]) -> Result<[u8; 6], Lost>
     ensures exactly { IsTrue (is_ok result) ↔ AllCorrectable air.now }
     ensures payload { OnOk result (HasPayload air.now payload.new) }
     ensures counts { IfOk result (λ counts. HasCounts air.now counts) }

@@ -1,8 +1,10 @@
 //! Laws of the definitions, for the crates above: each is the contract of a function that does nothing.
-ghost use Rattle.uplink_weave.specs.Laws.{BurstGivesPayload, BurstIsSpread, FrameGivesPayload, GivesPayload, IsTheFrame};
-ghost use Rattle.uplink_weave.specs.Laws.{IsUnique, NearFrameGivesPayload, NearGivesPayload, WovenGivesPayload};
+ghost use Rattle.uplink_weave.specs.Laws.{BurstGivesPayload, BurstIsSpread, FrameGivesPayload};
+ghost use Rattle.uplink_weave.specs.Laws.{GivesPayload, IsTheFrame};
+ghost use Rattle.uplink_weave.specs.Laws.{IsUnique, NearFrameGivesPayload, NearGivesPayload};
+ghost use Rattle.uplink_weave.specs.Laws.{WovenGivesPayload};
 
-use rs_code::{corrected_is_nearest, differences_laws, one_encoded, one_nearest};
+use rs_code::laws::{corrected_is_nearest, differences_laws, one_encoded, one_nearest};
 
 /// The law that a woven frame has the payload that it is woven of, with no byte to be changed.
 #[inline]

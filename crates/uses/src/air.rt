@@ -2,7 +2,8 @@
 ghost use Rattle.std.specs.Prelude.{◌≡◌, ◌<◌, Ok};
 ghost use Rattle.uplink_weave.specs.Woven.{frame_bytes};
 
-use uplink_weave::{Lost, burst_gives_payload, unweave, weave};
+use uplink_weave::laws::burst_gives_payload;
+use uplink_weave::{Lost, unweave, weave};
 
 /// Sends a payload as a frame in which one byte is heard wrong, and gives what is received. It is
 /// the payload: no block is lost.

@@ -80,7 +80,7 @@ fn a_memory_sink_fills_its_room_and_then_fails(rt: HostRuntime) -> Result<(), Fa
     for (piece, answer) in answers {
         assert_eq!(rt; write(&mut sink, piece), answer);
     }
-    assert_eq!(rt; sink.taken(), b"abc".as_slice());
+    assert_eq!(rt; sink.bytes(), b"abc".as_slice());
     Ok(())
 }
 
@@ -96,7 +96,7 @@ fn a_memory_sink_fails_at_the_listed_calls(rt: HostRuntime) -> Result<(), Fail> 
     for (piece, answer) in answers {
         assert_eq!(rt; write(&mut sink, piece), answer);
     }
-    assert_eq!(rt; sink.taken(), b"abcd".as_slice());
+    assert_eq!(rt; sink.bytes(), b"abcd".as_slice());
     Ok(())
 }
 

@@ -3,7 +3,8 @@ ghost use Rattle.std.specs.Prelude.{◌≡◌, ◌≤◌, length};
 ghost use Rattle.apdu_core.specs.Spelling.{FitsApdu, FitsTime};
 ghost use Rattle.apdu_core.specs.Views.{apdu_view};
 
-use apdu_core::{Apdu, ApduFault, Seg, apdu_reads_back, product_of, read_apdu, write_apdu};
+use apdu_core::laws::apdu_reads_back;
+use apdu_core::{Apdu, ApduFault, Seg, product_of, read_apdu, write_apdu};
 use fisb_time::{Moment, TimeFields, TimeForm};
 
 /// Hours and minutes, and nothing else.

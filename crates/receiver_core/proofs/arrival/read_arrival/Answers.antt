@@ -1,6 +1,6 @@
 use Rattle.std.proofs.Common.{◌≡◌, false, Option, Some, None, refl, sym, arith, ◌∙◌}
 use Rattle.std.proofs.lemmas.Bool.Decides.{nat_tests}
-use Rattle.apdu_core.specs.declared.unit.Seg.{Seg}
+use Rattle.apdu_core.specs.declared.apdu.Seg.{Seg}
 use Rattle.apdu_core.specs.Spelling.{FitsSegmentation}
 use Rattle.apdu_core.specs.Views.{apdu_view}
 use Rattle.segment_core.specs.Store.{FitsFile}

@@ -1,7 +1,8 @@
 use Rattle.std.proofs.Common.{◌≡◌, ◌≤◌, ◌-◌, ℕ, suc, get_or, arith, ap, ap₂, ◌∙◌}
 use Rattle.std.specs.Int.Bits.{bit_xor}
 use Rattle.poly256.specs.Polynomial.{element_product}
-use Rattle.rs_code.proofs.Places.{set_grows, set_keeps}
+use Rattle.list_members.specs.Places.{set_next}
+use Rattle.rs_code.proofs.Places.{set_keeps}
 use Rattle.rs_code.proofs.marks.add_next.Goals as goal
 
 pub loop-k-preserved : goal.loop-k-preserved
@@ -11,7 +12,7 @@ loop-k-preserved c =
     let next : c.loop-k.k ≡ suc (c.loop-k.k - 1) = omega arith in
     record {
       written = λ i h.
-          set_grows (λ (k : ℕ). bit_xor (get_or c.args.sums.now (suc k) 0) (element_product c.args.point (get_or c.args.sums.now k 0)))
+          set_next (λ (k : ℕ). bit_xor (get_or c.args.sums.now (suc k) 0) (element_product c.args.point (get_or c.args.sums.now k 0)))
           c.loop-k.sums (c.loop-k.k - 1) _ (omega arith)
           (c.byte.ensures ∙ c.add.ensures.value
           ∙ ap₂ bit_xor

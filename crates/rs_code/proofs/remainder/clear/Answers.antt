@@ -1,7 +1,7 @@
 use Rattle.std.proofs.Common.{arith, ◌∙◌, length-set, inl, inr}
 use Rattle.std.proofs.lemmas.Bool.{cases_eq, cases_lt}
 use Rattle.std.proofs.lemmas.List.{get_or-set_same, get_or-set_other, get_or_past}
-use Rattle.rs_code.proofs.Places.{same_front}
+use Rattle.list_members.specs.Places.{same_front}
 use Rattle.rs_code.proofs.remainder.clear.Goals as goal
 
 pub loop-i-preserved : goal.loop-i-preserved
@@ -21,7 +21,7 @@ loop-i-preserved c =
 pub returns-clause-front : goal.returns-clause-front
 returns-clause-front c =
     same_front c.args.place c.loop-i.word c.args.word.now (let l = c.loop-i.invariant.long in let r = c.requires in omega arith)
-    c.loop-i.invariant.long c.loop-i.invariant.front
+    (let r = c.requires in omega arith) c.loop-i.invariant.front
 
 pub returns-clause-zeros : goal.returns-clause-zeros
 returns-clause-zeros c = λ k h. elim (cases_lt k c.loop-i.i) [

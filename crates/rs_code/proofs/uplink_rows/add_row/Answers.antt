@@ -4,7 +4,8 @@ use Rattle.std.proofs.lemmas.Bool.{cases_lt}
 use Rattle.std.proofs.lemmas.List.{ext_get_or, get_or_past}
 use Rattle.poly256.specs.Polynomial.{element_product, sum_of, scaled_coefficients}
 use Rattle.rs_code.specs.UplinkRows.{uplink_generator}
-use Rattle.rs_code.proofs.Places.{set_grows, set_keeps}
+use Rattle.list_members.specs.Places.{set_next}
+use Rattle.rs_code.proofs.Places.{set_keeps}
 use Rattle.rs_code.proofs.UplinkTable.{uplink_multiple, length-uplink_generator}
 use Rattle.rs_code.proofs.uplink_rows.add_row.Goals as goal
 
@@ -19,7 +20,7 @@ loop-i-preserved c =
     (let e : (20 * c.args.byte + c.loop-i.i) % 20 ≡ c.loop-i.i = omega arith in e) in
     record {
       long = length-set _ _ _ ∙ c.loop-i.invariant.long;
-      written = set_grows (λ (k : ℕ). bit_xor (get_or c.args.list.now k 0) (element_product c.args.byte (get_or uplink_generator k 0)))
+      written = set_next (λ (k : ℕ). bit_xor (get_or c.args.list.now k 0) (element_product c.args.byte (get_or uplink_generator k 0)))
           c.loop-i.list c.loop-i.i _ (let l = c.loop-i.invariant.long in let r = c.requires in omega arith)
           (ap₂ bit_xor (c.loop-i.invariant.left c.loop-i.i (omega arith)) row)
           c.loop-i.invariant.written;

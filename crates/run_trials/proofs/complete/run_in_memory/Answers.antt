@@ -21,7 +21,7 @@ returns-clause-whole g c = λ small.
 
 pub returns-clause-done : goal.returns-clause-done
 returns-clause-done g c = λ fits clean small.
-    done (task_of g.A.Actor.work) c.args.input c.run-status.new.sink.taken c.run-status.result c.args.room fits clean small
+    done (task_of g.A.Actor.work) c.args.input c.run-status.new.sink.bytes c.run-status.result c.args.room fits clean small
     (λ within. (unfailed (task_of g.A.Actor.work) c.args.input c.new-source.result c.args.room c.of-none.result
     (Some c.run-status.new.source) c.in_ok-sink.sink c.run-status.new.sink c.run-status.result
     c.new-source.ensures (c.of-none.ensures ∙ c.new.ensures.items) c.in_ok-sink.ensures

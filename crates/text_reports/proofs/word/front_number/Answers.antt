@@ -1,9 +1,9 @@
 use Rattle.std.proofs.Common.{◌≡◌, ℕ, ◌+◌, ◌*◌, ◌^◌, ◌<◌, sym, arith, subst, add-one, List}
 use Rattle.text_reports.specs.Front.{front_number}
-use Rattle.text_reports.proofs.Fronts.{AreBytes, front_fits, front_more, digits_fit}
+use Rattle.text_reports.proofs.Fronts.{IsBytes, front_fits, front_more, digits_fit}
 use Rattle.text_reports.proofs.word.front_number.Goals as goal
 
-room : (word : List ℕ) (number place byte : ℕ) → AreBytes word → number ≡ front_number place word → place < 8 → byte < 256 → number * 256 + byte < 2 ^ 64
+room : (word : List ℕ) (number place byte : ℕ) → IsBytes word → number ≡ front_number place word → place < 8 → byte < 256 → number * 256 + byte < 2 ^ 64
 room word number place byte bytes e below small = digits_fit place number byte below (subst (λ n. n < 256 ^ place) (sym e) (front_fits place word bytes)) small
 
 pub overflow_mul-number : goal.overflow_mul-number

@@ -3,10 +3,10 @@ use Rattle.std.specs.Cmp.Lexicographic.{slice_cmp}
 use Rattle.std.specs.Ordering.{nat_cmp}
 use Rattle.std.specs.declared.cmp.Ordering.{Ordering}
 use Rattle.text_reports.specs.Front.{front_number}
-use Rattle.text_reports.proofs.Fronts.{AreBytes, front_told, front_same}
+use Rattle.text_reports.proofs.Fronts.{IsBytes, front_told, front_same}
 use Rattle.text_reports.proofs.word.order_by_fronts.Goals as goal
 
-by_fronts : (a b : List ℕ) (f g : ℕ) (o : Ordering) → AreBytes a → AreBytes b → f ≡ front_number 8 a → g ≡ front_number 8 b → f ≢ g → o ≡ nat_cmp f g → o ≡ slice_cmp nat_cmp a b
+by_fronts : (a b : List ℕ) (f g : ℕ) (o : Ordering) → IsBytes a → IsBytes b → f ≡ front_number 8 a → g ≡ front_number 8 b → f ≢ g → o ≡ nat_cmp f g → o ≡ slice_cmp nat_cmp a b
 by_fronts a b f g o h k e e' differ told = front_told 8 a b o h k (λ same. differ (e ∙ same ∙ sym e')) (told ∙ ap (λ n. nat_cmp n g) e ∙ ap (nat_cmp (front_number 8 a)) e')
 
 pub returns-then-front-other_front : goal.returns-then-front-other_front

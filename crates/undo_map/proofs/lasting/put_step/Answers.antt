@@ -5,12 +5,12 @@ use Rattle.std.specs.BTreeMap.{insert_entry, is_at}
 use Rattle.std.specs.Map.{lookup, set_value}
 use Rattle.std.specs.Option.{option_copied_mut}
 use Rattle.std.proofs.lemmas.Map.Steps.{set_value_same}
-use Rattle.list_members.specs.Tests.{on_ok}
-use Rattle.undo_map.specs.Ends.{HavePlaces, all_places, has_place, place_count, with_newer}
+use Rattle.std.proofs.lemmas.Result.{on_ok_weaker, on_err_weaker}
+use Rattle.undo_map.specs.Ends.{HavePlaces, all_places, has_place, place_count}
 use Rattle.undo_map.specs.Steps.{before_all}
 use Rattle.std.specs.Ordering.{is_eq}
 use Rattle.std.specs.Prelude.{true, false}
-use Rattle.undo_map.proofs.EndLemmas.{either, map-err, length-insert, newer-back, on-both, on-err-both, places-insert, places-kept}
+use Rattle.undo_map.proofs.EndLemmas.{either, length-insert, newer-back, on-both, on-err-both, places-insert, places-kept}
 use Rattle.undo_map.proofs.EndLemmas.{places-set, set-newer}
 use Rattle.undo_map.proofs.lasting.put_step.Goals as goal
 
@@ -21,9 +21,7 @@ returns-in-Some-clause-written g c =
     let old = c.in-Some.older.now in
     let new = c.replace_step.new.older in
     let found : lookup (is_at (R c.args.key)) es ≡ Some old = sym c.get_mut.ensures.value ∙ ap option_copied_mut c.in-Some.is in
-    on_ok c.replace_step.result
-    (new ≡ cond (nat_lt (g.V.Lasting.version old) (g.V.Lasting.version c.args.value)) c.args.value old)
-    ((c.get_mut.follows.lender new).entries ≡ with_newer R g.V.Lasting.version es c.args.key c.args.value)
+    on_ok_weaker c.replace_step.result
     (λ is. (c.get_mut.follows.holds new).0
     ∙ set-newer R g.met.K.Ord.total g.V.Lasting.version c.args.key old c.args.value new es c.requires found is)
     c.replace_step.ensures.written
@@ -55,7 +53,7 @@ returns-in-Some-clause-err g c =
     let old = c.in-Some.older.now in
     let new = c.replace_step.new.older in
     let found : lookup test es ≡ Some old = sym c.get_mut.ensures.value ∙ ap option_copied_mut c.in-Some.is in
-    map-err (new ≡ old) ((c.get_mut.follows.lender new).entries ≡ es) c.replace_step.result
+    on_err_weaker c.replace_step.result
     (λ is. (c.get_mut.follows.holds new).0 ∙ ap (set_value test es) is ∙ set_value_same test es old found)
     c.replace_step.ensures.err
 

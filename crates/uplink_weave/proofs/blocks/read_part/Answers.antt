@@ -1,12 +1,12 @@
 use Rattle.std.proofs.Common.{◌+◌, ◌*◌, ℕ, get_or, arith, ◌∙◌, refl, length-set}
-use Rattle.uplink_weave.proofs.Places.{set_grows}
+use Rattle.list_members.specs.Places.{set_next}
 use Rattle.uplink_weave.proofs.blocks.read_part.Goals as goal
 
 pub loop-k-preserved : goal.loop-k-preserved
 loop-k-preserved c = record {
   long = length-set _ _ _ ∙ c.loop-k.invariant.long;
-  bytes = set_grows (λ (i : ℕ). i) (λ (i : ℕ). get_or c.args.payload.now (72 * c.args.number + i) 0) c.loop-k.word c.loop-k.k _
-      (let l = c.loop-k.invariant.long in omega arith) refl (λ i h e. absurd (omega arith)) c.loop-k.invariant.bytes;
+  bytes = set_next (λ (i : ℕ). get_or c.args.payload.now (72 * c.args.number + i) 0) c.loop-k.word c.loop-k.k _
+      (let l = c.loop-k.invariant.long in omega arith) refl c.loop-k.invariant.bytes;
 }
 
 pub returns : goal.returns

@@ -1,6 +1,6 @@
 use Rattle.std.proofs.Common.{◌+◌, ◌*◌, ℕ, get_or, arith, sym, ◌∙◌, refl, length-set}
 use Rattle.std.proofs.lemmas.List.{get_or-set_other}
-use Rattle.uplink_weave.proofs.Places.{set_grows}
+use Rattle.list_members.specs.Places.{set_grows}
 use Rattle.uplink_weave.proofs.blocks.write_part.Goals as goal
 
 pub loop-k-preserved : goal.loop-k-preserved

@@ -1,7 +1,8 @@
 use Rattle.std.proofs.Common.{◌≡◌, ℕ, List, arith, rules, sym, ◌∙◌, subst}
 use Rattle.rs_code.specs.CodeWord.{IsCodeWord}
 use Rattle.uplink_weave.specs.Woven.{block, BeginsWithPart, IsWoven}
-use Rattle.uplink_weave.proofs.Places.{one_more, same_in_front, same_front, same_frame}
+use Rattle.list_members.specs.Places.{same_in_front, same_front}
+use Rattle.uplink_weave.proofs.Places.{one_more, same_frame}
 use Rattle.uplink_weave.proofs.frame.weave.Goals as goal
 
 pub loop-number-preserved : goal.loop-number-preserved

@@ -1,5 +1,5 @@
 use Rattle.std.proofs.Common.{ap, sym, ◌∙◌, ◌<◌, ◌+◌, ◌*◌, ◌/◌, ◌%◌, arith}
-use Rattle.list_members.specs.Tests.{on_ok}
+use Rattle.std.proofs.lemmas.Result.{on_ok_weaker}
 use Rattle.dlac_text.proofs.CharacterRows.{four_in_alphabet}
 use Rattle.dlac_text.proofs.ReadingSteps.{four_read}
 use Rattle.dlac_text.proofs.reader.Reader.take_three.Goals as goal
@@ -18,6 +18,6 @@ pub returns-then-are_characters : goal.returns-then-are_characters
 returns-then-are_characters c =
     let no_tab = ap (λ r. r.is_tab) (sym c.self.view_is) ∙ c.if-not-self.true in
     let some = c.are_characters.ensures c.if-are_characters.true in
-    on_ok c.push_four.result _ _
+    on_ok_weaker c.push_four.result
     (λ pushed. four_read c.args.self.now _ _ _ _ _
     (λ e. some.0 (c.character_or_zero-a.ensures ∙ e), λ e. some.1 (c.character_or_zero-b.ensures ∙ e), λ e. some.2 (c.character_or_zero-c.ensures ∙ e), λ e. some.3 (c.character_or_zero-d.ensures ∙ e)) no_tab (rw (← c.character_or_zero-a.ensures, ← c.character_or_zero-b.ensures, ← c.character_or_zero-c.ensures, ← c.character_or_zero-d.ensures) pushed)) c.push_four.ensures

@@ -3,8 +3,8 @@ use Rattle.std.proofs.Common.{◌≡◌, ◌+◌, ◌≤◌, List, OnOk, length,
 use Rattle.std.specs.Prelude.{None, is_some}
 use Rattle.std.specs.BTreeMap.{is_at}
 use Rattle.std.specs.Map.{lookup}
-use Rattle.undo_map.specs.Marked.{Marked, with_all}
-use Rattle.list_members.specs.Tests.{on_ok}
+use Rattle.undo_map.specs.Marked.{Marked}
+use Rattle.std.proofs.lemmas.Result.{on_ok_weaker}
 use Rattle.undo_map.proofs.EndLemmas.{all-more}
 use Rattle.undo_map.proofs.map.UndoMap.write_all.Goals as goal
 
@@ -17,7 +17,7 @@ returns-then-self-clause-more g c =
     (key : g.row.K.Denot) → lookup (is_at (R key)) old ≡ None → is_some (lookup (is_at (R key)) later) ≡ true
     → length old + 1 ≤ length later in
     subst (λ (m : Marked g.row.K.Denot g.row.V.Denot). OnOk c.write_all_steps.result (More m.entries new)) c.self.view_is
-    (on_ok c.write_all_steps.result (new ≡ with_all R es c.args.pairs.items) (More es new)
+    (on_ok_weaker c.write_all_steps.result
     (λ is. subst (More es) (sym is) (λ key absent some. all-more R key c.args.pairs.items es absent some))
     c.write_all_steps.ensures.written)
 
@@ -30,6 +30,6 @@ returns-clause-more g c =
     (key : g.row.K.Denot) → lookup (is_at (R key)) old ≡ None → is_some (lookup (is_at (R key)) later) ≡ true
     → length old + 1 ≤ length later in
     subst (λ (m : Marked g.row.K.Denot g.row.V.Denot). OnOk c.write_all_steps-2.result (More m.entries new)) c.self.view_is
-    (on_ok c.write_all_steps-2.result (new ≡ with_all R es c.args.pairs.items) (More es new)
+    (on_ok_weaker c.write_all_steps-2.result
     (λ is. subst (More es) (sym is) (λ key absent some. all-more R key c.args.pairs.items es absent some))
     c.write_all_steps-2.ensures.written)
