@@ -1,7 +1,7 @@
 -- A frame with its changes is the one that is heard where the changed bytes are told.
-use Rattle.std.proofs.Common.{◌≡◌, ◌⊎◌, ℕ, Bool, ◌==◌, true, false, if◌then◌else◌, List, [], ◌∷◌, length, refl, sym, ap, ◌∙◌, arith, slice_index, slice_set, bit_xor, inl, inr}
+use Rattle.std.proofs.Common.{◌≡◌, ◌⊎◌, ℕ, ◌==◌, true, false, if◌then◌else◌, List, [], ◌∷◌, length, refl, sym, ap, ◌∙◌, arith, slice_index, slice_set, bit_xor, inl, inr}
 use Rattle.std.specs.List.{range_with_len}
-use Rattle.std.proofs.lemmas.Bool.{cases_Bool}
+use Rattle.std.proofs.lemmas.Bool.{cases_Bool, cond-true, cond-false}
 use Rattle.std.proofs.lemmas.Bool.Decides.{nat_tests}
 use Rattle.std.proofs.lemmas.List.{get_or-set_other, length-set}
 use Rattle.std.proofs.lemmas.Simd.{pick_l_whole}
@@ -10,14 +10,6 @@ use Rattle.workload.specs.Hearings.{frame_with_changes as changed_frame}
 use Rattle.fisb_app.specs.Past.{byte_heard, air_heard}
 use Rattle.fisb_app.specs.Make.{wrong_bytes}
 
-picked-first : (test : Bool) (a b : ℕ) → test ≡ true → (if test then a else b) ≡ a
-picked-first true a b e = refl
-picked-first false a b e = cc
-
-picked-other : (test : Bool) (a b : ℕ) → test ≡ false → (if test then a else b) ≡ b
-picked-other true a b e = cc
-picked-other false a b e = refl
-
 -- the byte that is heard at a place stays, whichever places are told further
 byte-stays : (changes : List (ℕ × ℕ)) (heard : List ℕ) (place byte : ℕ) → byte ≡ slice_index heard place
     → byte_heard (wrong_bytes changes heard) place byte ≡ slice_index heard place
@@ -25,8 +17,8 @@ byte-stays [] heard place byte is = is
 byte-stays (change ∷ more) heard place byte is = byte-stays more heard place _ (either (cases_Bool (change.0 == place)))
   where
     either : ((change.0 == place) ≡ true) ⊎ ((change.0 == place) ≡ false) → (if change.0 == place then slice_index heard change.0 else byte) ≡ slice_index heard place
-    either (inl same) = let at : change.0 ≡ place = grind (arith, nat_tests) in picked-first (change.0 == place) _ byte same ∙ ap (slice_index heard) at
-    either (inr other) = picked-other (change.0 == place) _ byte other ∙ is
+    either (inl same) = let at : change.0 ≡ place = grind (arith, nat_tests) in cond-true (change.0 == place) _ byte same ∙ ap (slice_index heard) at
+    either (inr other) = cond-false (change.0 == place) _ byte other ∙ is
 
 byte-changed : (changes : List (ℕ × ℕ)) (frame : List ℕ) (place : ℕ)
     → byte_heard (wrong_bytes changes (changed_frame changes frame)) place (slice_index frame place) ≡ slice_index (changed_frame changes frame) place
@@ -43,10 +35,10 @@ byte-changed (change ∷ more) frame place = either (byte-changed more (slice_se
     either : byte_heard (wrong_bytes more heard) place (slice_index next place) ≡ slice_index heard place → ((change.0 == place) ≡ true) ⊎ ((change.0 == place) ≡ false)
         → byte_heard (wrong_bytes more heard) place (if change.0 == place then slice_index heard change.0 else slice_index frame place) ≡ slice_index heard place
     either rest (inl same) = let at : change.0 ≡ place = grind (arith, nat_tests) in
-        byte-stays more heard place _ (picked-first (change.0 == place) _ (slice_index frame place) same ∙ ap (slice_index heard) at)
+        byte-stays more heard place _ (cond-true (change.0 == place) _ (slice_index frame place) same ∙ ap (slice_index heard) at)
     either rest (inr other) =
         let kept : slice_index frame place ≡ slice_index next place = sym (get_or-set_other frame change.0 place _ 0 (λ e. absurd (grind (arith, nat_tests)))) in
-        ap (byte_heard (wrong_bytes more heard) place) (picked-other (change.0 == place) _ (slice_index frame place) other ∙ kept) ∙ rest
+        ap (byte_heard (wrong_bytes more heard) place) (cond-false (change.0 == place) _ (slice_index frame place) other ∙ kept) ∙ rest
 
 pub length-changed : (changes : List (ℕ × ℕ)) (frame : List ℕ) → length (changed_frame changes frame) ≡ length frame
 unfolding changed_frame

@@ -16,11 +16,11 @@ use Rattle.fisb_app.specs.declared.party.Party.{Party}
 use Rattle.fisb_app.specs.Past.{sent_frames, receptions}
 use Rattle.fisb_app.specs.Reading.{is_update, reason_of_update}
 use Rattle.fisb_app.specs.Output.{Shows, given_text}
-use Rattle.fisb_app.specs.Stands.{Sends, HasGiven, HasAnswered, HasTried}
+use Rattle.fisb_app.specs.Stands.{Sends, HasGiven, HasAnsweredUpdate, HasTried}
 
 -- what is answered to an update that was given
 pub update-answered : {G A B : Type 0} (sends : Sends G) (table : LifeTable) (station : StationId) (history : List Event) (old new : G) (moment : ℕ) (update : Update)
-    (given : Result A GiveFault) (result : Result B Stop) (Done : Type 0) → HasGiven sends old new moment update given → HasAnswered given result → sends table station history old
+    (given : Result A GiveFault) (result : Result B Stop) (Done : Type 0) → HasGiven sends old new moment update given → HasAnsweredUpdate given result → sends table station history old
     → (sends table station (accepted moment update ∷ history) new → Done)
     → HasTried (option_or (option_map Clock (last_above (history_clock history) moment)) (option_map reason_of_update (give_refusal table (items table station history) moment update)))
     (λ done. Done) result
@@ -37,7 +37,7 @@ update-answered sends table station history old new moment update (Err fault) (E
 
 -- an update that is refused leaves the history
 pub update-same : {G A B : Type 0} (sends : Sends G) (table : LifeTable) (station : StationId) (history : List Event) (old new : G) (moment : ℕ) (update : Update)
-    (given : Result A GiveFault) (result : Result B Stop) (Same : Type 0) → HasGiven sends old new moment update given → HasAnswered given result → sends table station history old
+    (given : Result A GiveFault) (result : Result B Stop) (Same : Type 0) → HasGiven sends old new moment update given → HasAnsweredUpdate given result → sends table station history old
     → (sends table station history new → Same) → OnErr result Same
 update-same sends table station history old new moment update (Ok given) (Ok done) Same h a s more = tt
 update-same sends table station history old new moment update (Ok given) (Err stop) Same h a s more = absurd a

@@ -24,7 +24,7 @@ use Rattle.refusal_core.specs.declared.reason.Reason.TheVariants.{Station}
 use Rattle.run_core.specs.declared.stop.Stop.{Stop}
 use Rattle.run_core.specs.declared.stop.Stop.TheVariants.{NoMemory}
 use Rattle.fisb_app.specs.declared.sending.Sending.{Sending}
-use Rattle.fisb_app.specs.Past.{at_station, broadcast, events, is_among, station_after, stations}
+use Rattle.fisb_app.specs.Past.{at_station, broadcast, events, is_one_of, station_after, stations}
 use Rattle.fisb_app.specs.Reading.{station_refusal}
 use Rattle.fisb_app.specs.Stands.{Sends, HasTried, Holds, IsGroundOf, IsChangedTo, IsSameSending, TellsRefusal, ground_at, ground_or}
 
@@ -63,9 +63,9 @@ same-back told a b other = elim (cases_Bool (same_station b a)) [
 ]
 
 -- a station whose ground is there is among the stations
-pub named-among : StationsAreTold → (acted : List Line) → is_among (station_after acted) (stations acted) ≡ true
+pub named-among : StationsAreTold → (acted : List Line) → is_one_of (station_after acted) (stations acted) ≡ true
 named-among told [] = refl
-named-among told (station named ∷ past) = elim (cases_Bool (is_among named (stations past))) [
+named-among told (station named ∷ past) = elim (cases_Bool (is_one_of named (stations past))) [
   | inl there ↦ rw there there
   | inr new ↦ rw (new, (told named named).1 refl) refl
 ]
@@ -101,9 +101,9 @@ turn-event moment slot = record { broadcast_is = λ acted. refl; station_is = λ
 other-ground : {G : Type 0} (sends : Sends G) (table : LifeTable) (acted after : List Line) (place : StationId) (found : Option G)
     → stations after ≡ stations acted → history_of place (broadcast after) ≡ history_of place (broadcast acted)
     → IsGroundOf sends table acted place found → IsGroundOf sends table after place found
-other-ground sends table acted after place None same past is = (ap (is_among place) same ∙ is.0, past ∙ is.1)
+other-ground sends table acted after place None same past is = (ap (is_one_of place) same ∙ is.0, past ∙ is.1)
 other-ground sends table acted after place (Some ground) same past is =
-    (ap (is_among place) same ∙ is.0, subst (λ h. sends table place h ground) (sym past) is.1)
+    (ap (is_one_of place) same ∙ is.0, subst (λ h. sends table place h ground) (sym past) is.1)
 
 pub event-holds : HistoriesGrow → {G : Type 0} (sends : Sends G) (bytes : List ℕ) (acted : List Line) (line : Line) (event : Event) (old new : Sending G)
     → IsEventLine line event → Holds sends bytes acted old → new.table ≡ old.table → new.station ≡ old.station → new.others ≡ old.others
@@ -166,7 +166,7 @@ pub again-holds : StationsAreTold → {G : Type 0} (sends : Sends G) (bytes : Li
     → named ≡ s.station → Holds sends bytes acted s → Holds sends bytes (station named ∷ acted) s
 again-holds told sends bytes acted named s is h =
     let same : named ≡ station_after acted = is ∙ h.station_is in
-    let there : is_among named (stations acted) ≡ true = ap (λ p. is_among p (stations acted)) same ∙ named-among told acted in
+    let there : is_one_of named (stations acted) ≡ true = ap (λ p. is_one_of p (stations acted)) same ∙ named-among told acted in
     let all : stations (station named ∷ acted) ≡ stations acted = ap (λ b. if b then stations acted else named ∷ stations acted) there in record {
       opened = h.opened;
       station_is = sym is;
@@ -181,7 +181,7 @@ again-holds told sends bytes acted named s is h =
 pub again-free : StationsAreTold → {G : Type 0} (sends : Sends G) (bytes : List ℕ) (acted : List Line) (named : StationId) (s : Sending G)
     → named ≡ s.station → Holds sends bytes acted s → station_refusal (stations acted) named ≡ None
 again-free told sends bytes acted named s is h =
-    let there : is_among named (stations acted) ≡ true = ap (λ p. is_among p (stations acted)) (is ∙ h.station_is) ∙ named-among told acted in
+    let there : is_one_of named (stations acted) ≡ true = ap (λ p. is_one_of p (stations acted)) (is ∙ h.station_is) ∙ named-among told acted in
     ap (λ b. if b || nat_le (length (stations acted)) 16 then None else Some Station) there
 
 -- a station that is named first, and one that was named before: whether it may be named
@@ -239,11 +239,11 @@ changed-holds told {G = G} sends bytes acted named old new first other h s c =
     now = station_after acted
 
     -- the others are those of before
-    among : (p : StationId) → same_station named p ≡ false → is_among p (stations (station named ∷ acted)) ≡ is_among p (stations acted)
-    among p apart = elim (cases_Bool (is_among named (stations acted))) [
-      | inl there ↦ ap (λ b. is_among p (if b then stations acted else named ∷ stations acted)) there
-      | inr new ↦ ap (λ b. is_among p (if b then stations acted else named ∷ stations acted)) new
-          ∙ ap (λ b. b || is_among p (stations acted)) (same-back told named p apart)
+    among : (p : StationId) → same_station named p ≡ false → is_one_of p (stations (station named ∷ acted)) ≡ is_one_of p (stations acted)
+    among p apart = elim (cases_Bool (is_one_of named (stations acted))) [
+      | inl there ↦ ap (λ b. is_one_of p (if b then stations acted else named ∷ stations acted)) there
+      | inr new ↦ ap (λ b. is_one_of p (if b then stations acted else named ∷ stations acted)) new
+          ∙ ap (λ b. b || is_one_of p (stations acted)) (same-back told named p apart)
     ]
 
     kept : (p : StationId) (found : Option G) → same_station named p ≡ false → IsGroundOf sends old.table acted p found → IsGroundOf sends old.table (station named ∷ acted) p found

@@ -8,7 +8,7 @@ use Rattle.script_core.specs.Fields.{line_of}
 use Rattle.refusal_core.specs.declared.reason.Reason.{Reason}
 use Rattle.fisb_app.specs.declared.party.Party.{Party}
 use Rattle.fisb_app.specs.Past.{lines_of, receiver_moment, receiver_clock}
-use Rattle.fisb_app.specs.Reading.{front_refusal, party_refusal, clock_refusal, own_refusal}
+use Rattle.fisb_app.specs.Reading.{front_refusal, party_refusal, earlier_refusal, own_refusal}
 use Rattle.fisb_app.specs.Output.{Shows, given_text}
 use Rattle.fisb_app.specs.Work.{answer, answer_under, formed_answer, line_answer, text_unless, opening_table}
 
@@ -46,7 +46,7 @@ or-none (Some x) b e = cc
 -- a line against which nothing of the front stands
 pub record IsClear (party : Party) (acted : List Line) (line : Line) : Type 0 where
   pub here : party_refusal party line ≡ None
-  pub clock : clock_refusal (receiver_moment line) (receiver_clock acted) ≡ None
+  pub clock : earlier_refusal (receiver_moment line) (receiver_clock acted) ≡ None
 
 pub clear : (party : Party) (acted : List Line) (line : Line) → front_refusal party (receiver_clock acted) line ≡ None → IsClear party acted line
 clear party acted line e =

@@ -19,9 +19,11 @@ use Rattle.fisb_app.specs.Reading.{receiver_refusal}
 use Rattle.fisb_app.specs.Output.{heard_text, heard_by, heard_payload}
 use Rattle.fisb_app.specs.Stands.{HasTried, HasUnheard}
 
-pub no-clock : (last : Option ℕ) (rest : Option HearRefusal) → option_or (option_map clock last) rest ≡ None → option_map Clock last ≡ None
-no-clock None rest e = refl
-no-clock (Some kept) rest e = cc
+-- where the first reason is another than the clock, or there is none, the moment is in time
+pub no-clock : (last : Option ℕ) (rest found : Option HearRefusal) → ((kept : ℕ) → found ≡ Some (clock kept) → ⊥)
+    → option_or (option_map clock last) rest ≡ found → option_map Clock last ≡ None
+no-clock None rest found other e = refl
+no-clock (Some kept) rest found other e = absurd (other kept (sym e))
 
 -- nothing stands against a frame that is heard; this is its text, and it is one reception more
 abbrev pub HasReceived : (List Reception → Type 0) → LifeTable → List Reception → ℕ → List ℕ → List ℕ → Type 0
@@ -49,7 +51,7 @@ pub received-heard : (stands : List Reception → Type 0) (table : LifeTable) (p
     → text ≡ heard_lines moment answer.header answer.corrected (map unread_view answer.unread)
     → HasTried (receiver_refusal past moment) (HasReceived stands table past moment air) (Ok text)
 received-heard stands table past moment air text answer h written = (
-  no-clock (last_above (clock_of past) moment) _ h.accepted,
+  no-clock (last_above (clock_of past) moment) _ None (λ kept e. cc) h.accepted,
   taken stands table past moment air text answer (payload_in air) refl h.accepted h.taken written,
 )
 

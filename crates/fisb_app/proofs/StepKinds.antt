@@ -33,11 +33,11 @@ use Rattle.fisb_app.specs.Past.{at_station, broadcast, events, station_after, se
 use Rattle.fisb_app.specs.Reading.{station_clock_refusal, turn_refusal, frame_refusal, receiver_refusal, frame_limit}
 use Rattle.fisb_app.specs.Stands.{Sends, Hears}
 use Rattle.fisb_app.specs.Make.{acted_unless, after_step, total, corrected_by, corrected_bytes, corrected_in, entries_by, last_frame, last_number, wrong_in}
-use Rattle.fisb_app.specs.Makes.{Makes, aired_one}
+use Rattle.fisb_app.specs.MakingHolds.{MakingHolds, aired_one}
 use Rattle.fisb_app.proofs.Turning.{frames-more, aired-alike}
 use Rattle.fisb_app.proofs.Receiving.{no-clock}
 use Rattle.fisb_app.proofs.Changing.{changes-heard}
-use Rattle.fisb_app.proofs.Stepping.{IsNext, same-counts, acted-step, refused-step}
+use Rattle.fisb_app.proofs.Stepping.{IsNextStep, same-counts, acted-step, refused-step}
 
 -- the last one of a list
 pub last-more : (xs : List Frame) (x : Frame) → last_frame (xs ++ x ∷ []) ≡ Some x
@@ -52,13 +52,13 @@ unfolding after_step
 turn-step table acted moment slot = refl
 
 pub hear-step : (table : LifeTable) (acted : List Line) (moment : ℕ) (changes : List (ℕ × ℕ))
-    → IsNext table acted (steps.Hear moment changes) moment (hear moment (last_number (sent_frames table acted)) (wrong_in changes (last_frame (sent_frames table acted))))
+    → IsNextStep table acted (steps.Hear moment changes) moment (hear moment (last_number (sent_frames table acted)) (wrong_in changes (last_frame (sent_frames table acted))))
     (option_or (frame_refusal table.late moment (last_frame (sent_frames table acted))) (receiver_refusal (receptions table acted) moment))
 unfolding after_step
 hear-step table acted moment changes = record { after = refl; moment_is = refl }
 
 pub show-step : (table : LifeTable) (acted : List Line) (moment : ℕ)
-    → IsNext table acted (steps.Show moment) moment (show moment) (receiver_refusal (receptions table acted) moment)
+    → IsNextStep table acted (steps.Show moment) moment (show moment) (receiver_refusal (receptions table acted) moment)
 unfolding after_step
 show-step table acted moment = record { after = refl; moment_is = refl }
 
@@ -79,9 +79,9 @@ room-turn count acted moment last room is =
     ap (λ b. option_or (station_clock_refusal acted moment) (if b then None else Some Frames)) test ∙ or_none (station_clock_refusal acted moment) ∙ ap (option_map Clock) is
 
 pub turn-made : HistoriesGrow → {G E : Type 0} (sends : Sends G) (hears : Hears E) (table : LifeTable) (acted : List Line) (moment slot : ℕ) (old : Making G E) (ground : G) (frame : AirFrame)
-    → Makes sends hears table acted old → sends table (station_after acted) (fill moment slot ∷ events acted) ground
+    → MakingHolds sends hears table acted old → sends table (station_after acted) (fill moment slot ∷ events acted) ground
     → IsOnAir (frame_after table (station_after acted) (events acted) moment slot) frame
-    → Makes sends hears table (turn moment slot ∷ acted) (record old {
+    → MakingHolds sends hears table (turn moment slot ∷ acted) (record old {
       ground = ground;
       last = Some (record { moment = frame.moment; air = frame.air });
       counts = record old.counts { turns = old.counts.turns + 1 };
@@ -104,8 +104,8 @@ turn-made grow sends hears table acted moment slot old ground frame h s on =
 
 -- a picture more
 pub show-made : {G E : Type 0} (sends : Sends G) (hears : Hears E) (table : LifeTable) (acted : List Line) (moment : ℕ) (old : Making G E) (entries : List ShownEntry) (sum : ℕ)
-    → Makes sends hears table acted old → IsPictureOf table (receptions table acted) moment entries → sum ≡ old.counts.entries + length entries
-    → Makes sends hears table (show moment ∷ acted) (record old { counts = record old.counts { entries = sum }; clock = Some moment })
+    → MakingHolds sends hears table acted old → IsPictureOf table (receptions table acted) moment entries → sum ≡ old.counts.entries + length entries
+    → MakingHolds sends hears table (show moment ∷ acted) (record old { counts = record old.counts { entries = sum }; clock = Some moment })
 show-made sends hears table acted moment old entries sum h shown is =
     let past = receptions table acted in
     let many : length entries ≡ length (received_picture table past moment) = sym (length-map entries entry_view) ∙ ap length shown ∙ length-map (received_picture table past moment) shown_value in record {
@@ -134,10 +134,10 @@ heard-air : (changes : List (ℕ × ℕ)) (found : Option Frame) (frame : Frame)
 heard-air changes found frame is long = ap (λ one. air_heard (wrong_in changes one) (air_of frame)) is ∙ changes-heard changes (air_of frame) long
 
 pub heard-made : {G E : Type 0} (sends : Sends G) (hears : Hears E) (table : LifeTable) (acted : List Line) (moment : ℕ) (changes : List (ℕ × ℕ)) (old : Making G E) (ear : E) (frame : Frame) (air : List ℕ) (one : Option Reception) (count sum : ℕ)
-    → Makes sends hears table acted old → last_frame (sent_frames table acted) ≡ Some frame → length (air_of frame) ≡ 552 → air ≡ changed_frame changes (air_of frame)
+    → MakingHolds sends hears table acted old → last_frame (sent_frames table acted) ≡ Some frame → length (air_of frame) ≡ 552 → air ≡ changed_frame changes (air_of frame)
     → reception_from (receptions table acted) moment air ≡ one → hears table (cons_option one (receptions table acted)) ear
     → count ≡ length (cons_option one (receptions table acted)) → sum ≡ old.counts.corrected + corrected_bytes one air
-    → Makes sends hears table (hear moment (last_number (sent_frames table acted)) (wrong_in changes (last_frame (sent_frames table acted))) ∷ acted) (record old {
+    → MakingHolds sends hears table (hear moment (last_number (sent_frames table acted)) (wrong_in changes (last_frame (sent_frames table acted))) ∷ acted) (record old {
       ear = ear;
       counts = record old.counts {
         heard = count;
@@ -188,7 +188,7 @@ received-payload stands table past moment air answer (Some payload) is none free
 pub received : (stands : List Reception → Type 0) (table : LifeTable) (past : List Reception) (moment : ℕ) (air : List ℕ) (answer : Heard)
     → HasHeard stands table past (refusal_of_air past moment air) moment (payload_in air) (counts_in air) (Ok answer) → IsReceived stands past moment air answer.corrected
 received stands table past moment air answer h =
-    received-payload stands table past moment air answer (payload_in air) refl h.accepted (no-clock (last_above (heard.clock_of past) moment) _ h.accepted) h.taken
+    received-payload stands table past moment air answer (payload_in air) refl h.accepted (no-clock (last_above (heard.clock_of past) moment) _ None (λ kept e. cc) h.accepted) h.taken
 
 -- no frame is heard: none was sent, or it is late
 pub unheard-refused : (late moment : ℕ) (sent : Option Frame) (rest : Option Reason) → frame_refusal late moment sent ≢ None → (why : Reason) × (option_or (frame_refusal late moment sent) rest ≡ Some why)
@@ -204,8 +204,8 @@ pub unreceived-made : {G E : Type 0} (sends : Sends G) (hears : Hears E) (table 
     (hear moment (last_number (sent_frames table acted)) (wrong_in changes (last_frame (sent_frames table acted)))) acted
     → frame_refusal table.late moment (last_frame (sent_frames table acted)) ≡ None → receiver_refusal (receptions table acted) moment ≡ None
     → reception_from (receptions table acted) moment air ≡ None → hears table (receptions table acted) ear
-    → Makes sends hears table acted old → last_frame (sent_frames table acted) ≡ Some frame → air ≡ changed_frame changes (air_of frame)
-    → Makes sends hears table after (record old { ear = ear; clock = Some moment })
+    → MakingHolds sends hears table acted old → last_frame (sent_frames table acted) ≡ Some frame → air ≡ changed_frame changes (air_of frame)
+    → MakingHolds sends hears table after (record old { ear = ear; clock = Some moment })
 unreceived-made sends hears table acted after moment changes old ear frame air is free early none s h found put =
     acted-step sends hears table acted after _ _ _ is (ap (λ r. option_or r (receiver_refusal (receptions table acted) moment)) free ∙ early)
     (heard-made sends hears table acted moment changes old ear frame air None old.counts.heard old.counts.corrected h found (length-aired frame) put none s
@@ -216,8 +216,8 @@ pub early-made : {G E : Type 0} (sends : Sends G) (hears : Hears E) (table : Lif
     → after ≡ acted_unless (option_or (frame_refusal table.late moment (last_frame (sent_frames table acted))) (receiver_refusal (receptions table acted) moment))
     (hear moment (last_number (sent_frames table acted)) (wrong_in changes (last_frame (sent_frames table acted)))) acted
     → frame_refusal table.late moment (last_frame (sent_frames table acted)) ≡ None → receiver_refusal (receptions table acted) moment ≡ Some (Clock kept)
-    → hears table (receptions table acted) ear → Makes sends hears table acted old
-    → Makes sends hears table after (record old { ear = ear })
+    → hears table (receptions table acted) ear → MakingHolds sends hears table acted old
+    → MakingHolds sends hears table after (record old { ear = ear })
 early-made sends hears table acted after moment changes kept old ear is free early s h =
     refused-step sends hears table acted after _ _ (Clock kept) (record old { ear = ear }) is
     (ap (λ r. option_or r (receiver_refusal (receptions table acted) moment)) free ∙ early)

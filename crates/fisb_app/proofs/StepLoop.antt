@@ -8,25 +8,25 @@ use Rattle.fisb_app.specs.Stands.{Sends, Hears}
 use Rattle.fisb_app.specs.declared.counts.Counts.{Counts}
 use Rattle.workload.specs.Workload.{workload}
 use Rattle.fisb_app.specs.Make.{after_step, after_steps, counts_of, summary, summary_text}
-use Rattle.fisb_app.specs.Makes.{Makes}
+use Rattle.fisb_app.specs.MakingHolds.{MakingHolds}
 
 -- some lines were acted on, and the steps that are still to come make of them the whole
 pub record IsUnderWay {G E : Type 0} (sends : Sends G) (hears : Hears E) (table : LifeTable) (all rest : List Step) (making : Making G E) : Type 0 where
   pub acted : List Line
-  pub makes : Makes sends hears table acted making
+  pub holds : MakingHolds sends hears table acted making
   pub whole : after_steps table acted rest ≡ after_steps table [] all
 
-pub at-first : {G E : Type 0} (sends : Sends G) (hears : Hears E) (table : LifeTable) (all rest : List Step) (making : Making G E) → rest ≡ all → Makes sends hears table [] making
+pub at-first : {G E : Type 0} (sends : Sends G) (hears : Hears E) (table : LifeTable) (all rest : List Step) (making : Making G E) → rest ≡ all → MakingHolds sends hears table [] making
     → IsUnderWay sends hears table all rest making
-at-first sends hears table all rest making is h = record { acted = []; makes = h; whole = ap (after_steps table []) is }
+at-first sends hears table all rest making is h = record { acted = []; holds = h; whole = ap (after_steps table []) is }
 
 pub one-further : {G E : Type 0} (sends : Sends G) (hears : Hears E) (table : LifeTable) (all steps rest : List Step) (step : Step) (old new : Making G E) → steps ≡ step ∷ rest
-    → (w : IsUnderWay sends hears table all steps old) → Makes sends hears table (after_step table w.acted step) new
+    → (w : IsUnderWay sends hears table all steps old) → MakingHolds sends hears table (after_step table w.acted step) new
     → IsUnderWay sends hears table all rest new
 unfolding after_steps
 one-further sends hears table all steps rest step old new is w h = record {
   acted = after_step table w.acted step;
-  makes = h;
+  holds = h;
   whole = ap (after_steps table w.acted) (sym is) ∙ w.whole;
 }
 

@@ -18,9 +18,9 @@ use Rattle.fisb_app.specs.declared.making.Making.{Making}
 use Rattle.fisb_app.specs.declared.counts.Counts.{Counts}
 use Rattle.fisb_app.specs.Past.{broadcast, events, station_after, sent_frames, receptions, receiver_clock, receiver_moment}
 use Rattle.fisb_app.specs.Reading.{update_refusal, earlier_than}
-use Rattle.fisb_app.specs.Stands.{Sends, Hears, HasGiven, HasAnswered, HasTried}
+use Rattle.fisb_app.specs.Stands.{Sends, Hears, HasGiven, HasAnsweredUpdate, HasTried}
 use Rattle.fisb_app.specs.Make.{acted_unless, after_step, block_named, total, updates_by, corrected_by, entries_by, last_frame}
-use Rattle.fisb_app.specs.Makes.{Makes, IsCounted, with_update, aired_one}
+use Rattle.fisb_app.specs.MakingHolds.{MakingHolds, IsCounted, with_update, aired_one}
 use Rattle.fisb_app.proofs.Giving.{update-answered}
 
 -- what stands against a line of a moment: the clock, and then its own reason
@@ -42,33 +42,33 @@ pub free-acted : (own : Option Reason) (line : Line) (acted : List Line) → own
 free-acted own line acted e = ap (λ r. acted_unless r line acted) e
 
 -- the line of a step of the receiver is the next one, unless a reason stands against it
-pub record IsNext (table : LifeTable) (acted : List Line) (step : Step) (moment : ℕ) (line : Line) (own : Option Reason) : Type 0 where
+pub record IsNextStep (table : LifeTable) (acted : List Line) (step : Step) (moment : ℕ) (line : Line) (own : Option Reason) : Type 0 where
   pub after : after_step table acted step ≡ acted_unless (against (earlier_than (Some moment) (receiver_clock acted)) own) line acted
   pub moment_is : receiver_moment line ≡ Some moment
 
 pub early-step : {G E : Type 0} (sends : Sends G) (hears : Hears E) (table : LifeTable) (acted : List Line) (step : Step) (moment : ℕ) (line : Line) (own : Option Reason) (making : Making G E)
-    → IsNext table acted step moment line own → Makes sends hears table acted making → is_some (earlier_than (Some moment) making.clock) ≡ true
-    → Makes sends hears table (after_step table acted step) making
+    → IsNextStep table acted step moment line own → MakingHolds sends hears table acted making → is_some (earlier_than (Some moment) making.clock) ≡ true
+    → MakingHolds sends hears table (after_step table acted step) making
 early-step sends hears table acted step moment line own making next h early =
-    subst (λ lines. Makes sends hears table lines making)
+    subst (λ lines. MakingHolds sends hears table lines making)
     (sym (next.after ∙ early-kept (earlier_than (Some moment) (receiver_clock acted)) own line acted (ap (λ c. is_some (earlier_than (Some moment) c)) (sym h.clock) ∙ early))) h
 
 -- a step in time
 pub timely-step : {G E : Type 0} (sends : Sends G) (hears : Hears E) (table : LifeTable) (acted : List Line) (step : Step) (moment : ℕ) (line : Line) (own : Option Reason) (making : Making G E)
-    → IsNext table acted step moment line own → Makes sends hears table acted making → is_some (earlier_than (Some moment) making.clock) ≡ false
+    → IsNextStep table acted step moment line own → MakingHolds sends hears table acted making → is_some (earlier_than (Some moment) making.clock) ≡ false
     → after_step table acted step ≡ acted_unless own line acted
 timely-step sends hears table acted step moment line own making next h early =
     next.after ∙ timely (earlier_than (Some moment) (receiver_clock acted)) own line acted (ap (λ c. is_some (earlier_than (Some moment) c)) (sym h.clock) ∙ early)
 
 pub refused-step : {G E : Type 0} (sends : Sends G) (hears : Hears E) (table : LifeTable) (acted after : List Line) (line : Line) (own : Option Reason) (why : Reason) (making : Making G E)
-    → after ≡ acted_unless own line acted → own ≡ Some why → Makes sends hears table acted making → Makes sends hears table after making
+    → after ≡ acted_unless own line acted → own ≡ Some why → MakingHolds sends hears table acted making → MakingHolds sends hears table after making
 refused-step sends hears table acted after line own why making is so h =
-    subst (λ lines. Makes sends hears table lines making) (sym (is ∙ refused-kept own why line acted so)) h
+    subst (λ lines. MakingHolds sends hears table lines making) (sym (is ∙ refused-kept own why line acted so)) h
 
 pub acted-step : {G E : Type 0} (sends : Sends G) (hears : Hears E) (table : LifeTable) (acted after : List Line) (line : Line) (own : Option Reason) (making : Making G E)
-    → after ≡ acted_unless own line acted → own ≡ None → Makes sends hears table (line ∷ acted) making → Makes sends hears table after making
+    → after ≡ acted_unless own line acted → own ≡ None → MakingHolds sends hears table (line ∷ acted) making → MakingHolds sends hears table after making
 acted-step sends hears table acted after line own making is so h =
-    subst (λ lines. Makes sends hears table lines making) (sym (is ∙ free-acted own line acted so)) h
+    subst (λ lines. MakingHolds sends hears table lines making) (sym (is ∙ free-acted own line acted so)) h
 
 pub same-counts : (a b : Counts) → a.updates ≡ b.updates → a.turns ≡ b.turns → a.heard ≡ b.heard → a.corrected ≡ b.corrected → a.entries ≡ b.entries → a ≡ b
 same-counts a b u t h c e =
@@ -137,8 +137,8 @@ blanks-step grow table acted moment numbers = record {
 
 -- what was made with an update more
 update-made : {G E : Type 0} (sends : Sends G) (hears : Hears E) (table : LifeTable) (acted : List Line) (step : Step) (moment : ℕ) (line : Line) (update : Update) (old : Making G E) (ground : G)
-    → IsUpdateStep table acted step moment line update → Makes sends hears table acted old → sends table (station_after acted) (accepted moment update ∷ events acted) ground
-    → Makes sends hears table (line ∷ acted) (with_update (record old { ground = ground }))
+    → IsUpdateStep table acted step moment line update → MakingHolds sends hears table acted old → sends table (station_after acted) (accepted moment update ∷ events acted) ground
+    → MakingHolds sends hears table (line ∷ acted) (with_update (record old { ground = ground }))
 update-made sends hears table acted step moment line update old ground is h s = record {
   ground = subst (λ place. sends table place (events (line ∷ acted)) ground) (sym is.station) (subst (λ past. sends table (station_after acted) past ground) (sym is.events_are) s);
   ear = subst (λ past. hears table past old.ear) (sym is.receptions_are) h.ear;
@@ -158,20 +158,20 @@ update-made sends hears table acted step moment line update old ground is h s = 
 
 update-tried : {G E A B C : Type 0} (sends : Sends G) (hears : Hears E) (table : LifeTable) (acted : List Line) (step : Step) (moment : ℕ) (line : Line) (update : Update) (old new : Making G E) (ground : G)
     (given : Result A GiveFault) (tried : Result B Stop) (result : Result (Unit {0}) C)
-    → IsUpdateStep table acted step moment line update → after_step table acted step ≡ acted_unless (update_refusal table acted moment update) line acted → Makes sends hears table acted old
-    → HasGiven sends old.ground ground moment update given → HasAnswered given tried
+    → IsUpdateStep table acted step moment line update → after_step table acted step ≡ acted_unless (update_refusal table acted moment update) line acted → MakingHolds sends hears table acted old
+    → HasGiven sends old.ground ground moment update given → HasAnsweredUpdate given tried
     → HasTried (update_refusal table acted moment update) (λ done. sends table (station_after acted) (accepted moment update ∷ events acted) ground) tried
     → IsCounted (record old { ground = ground }) new tried result
-    → OnOk result (Makes sends hears table (after_step table acted step) new)
+    → OnOk result (MakingHolds sends hears table (after_step table acted step) new)
 update-tried sends hears table acted step moment line update old new ground given tried (Err fault) is after h g a t counted = tt
 update-tried sends hears table acted step moment line update old new ground (Ok done) (Ok b) (Ok u) is after h g a t counted =
-    subst (Makes sends hears table (after_step table acted step)) (sym counted)
+    subst (MakingHolds sends hears table (after_step table acted step)) (sym counted)
     (acted-step sends hears table acted _ line _ _ after t.0 (update-made sends hears table acted step moment line update old ground is h t.1))
 update-tried sends hears table acted step moment line update old new ground (Ok done) (Err stop) (Ok u) is after h g a t counted = absurd a
 update-tried sends hears table acted step moment line update old new ground (Err fault) (Ok b) (Ok u) is after h g a t counted = absurd a
 update-tried sends hears table acted step moment line update old new ground (Err fault) (Err NoMemory) (Ok u) is after h g a t counted = absurd counted
 update-tried sends hears table acted step moment line update old new ground (Err fault) (Err (Refused why)) (Ok u) is after h g a t counted =
-    subst (Makes sends hears table (after_step table acted step)) (sym counted)
+    subst (MakingHolds sends hears table (after_step table acted step)) (sym counted)
     (refused-step sends hears table acted _ line _ why (record old { ground = ground }) after t
     (record { ground = g.same table (station_after acted) (events acted) h.ground; ear = h.ear; late = h.late; clock = h.clock; last = h.last; counts = h.counts }))
 
@@ -179,10 +179,10 @@ update-tried sends hears table acted step moment line update old new ground (Err
 pub update-taken : {G E A B C : Type 0} (sends : Sends G) (hears : Hears E) (table : LifeTable) (acted : List Line) (step : Step) (moment : ℕ) (line : Line) (update : Update) (old new : Making G E) (ground : G)
     (given : Result A GiveFault) (tried : Result B Stop) (result : Result (Unit {0}) C)
     → IsUpdateStep table acted step moment line update
-    → HasGiven sends old.ground ground moment update given → HasAnswered given tried
+    → HasGiven sends old.ground ground moment update given → HasAnsweredUpdate given tried
     → IsCounted (record old { ground = ground }) new tried result
-    → Makes sends hears table acted old
-    → OnOk result (Makes sends hears table (after_step table acted step) new)
+    → MakingHolds sends hears table acted old
+    → OnOk result (MakingHolds sends hears table (after_step table acted step) new)
 update-taken sends hears table acted step moment line update old new ground given tried result is g a counted h =
     update-tried sends hears table acted step moment line update old new ground given tried result is is.after h g a
     (update-answered sends table (station_after acted) (events acted) old.ground ground moment update given tried

@@ -1,5 +1,5 @@
 -- One line more: what the parts of an actor leave.
-use Rattle.std.proofs.Common.{◌≡◌, ℕ, Bool, true, false, if◌then◌else◌, List, ◌∷◌, Option, Some, None, option_map, Result, Ok, Err, refl, sym, ap, subst, ◌∙◌}
+use Rattle.std.proofs.Common.{◌≡◌, ℕ, Bool, true, false, if◌then◌else◌, List, ◌∷◌, Option, Some, None, option_map, Result, Ok, Err, sym, ap, subst, ◌∙◌}
 use Rattle.std.specs.Option.{option_or, option_and_then}
 use Rattle.uplink_weave.specs.Functions.{payload_in, lost_block_in}
 use Rattle.life_table.specs.LifeTable.{LifeTable}
@@ -8,7 +8,7 @@ use Rattle.ground_core.specs.Refusal.{GiveRefusal}
 use Rattle.ground_core.specs.Told.{IsToldAt, IsToldOfText}
 use Rattle.ground_core.specs.declared.fault.GiveFault.TheVariants.{BadText}
 use Rattle.receiver_core.specs.Reception.{Reception}
-use Rattle.receiver_core.specs.Hearing.{HearRefusal, clock, lost, no_application, clock_of, refusal_of_air, payload_refusal, is_valid}
+use Rattle.receiver_core.specs.Hearing.{clock, lost, no_application, clock_of, refusal_of_air, payload_refusal, is_valid}
 use Rattle.segment_core.specs.Store.{last_above}
 use Rattle.script_core.specs.Script.{Line}
 use Rattle.script_core.specs.Fields.{line_of}
@@ -24,6 +24,7 @@ use Rattle.fisb_app.specs.Output.{heard_by}
 use Rattle.fisb_app.specs.Work.{text_unless}
 use Rattle.fisb_app.specs.Stands.{IsInOrder, HasUnheard, TellsRefusal}
 use Rattle.fisb_app.proofs.Judging.{lines-more}
+use Rattle.fisb_app.proofs.Receiving.{no-clock}
 
 -- a text's fault at a moment that is not too early
 pub told-text : (last : Option ℕ) (refusal : Option GiveRefusal) (text : TextFault) (stop : Stop)
@@ -49,15 +50,6 @@ in-order-more holds bytes past raw line old new made is s h inner clocked =
       clock = clocked ∙ ap (option_or (receiver_moment line)) s.clock ∙ ap receiver_clock (sym more);
     }
 
--- a frame that is not heard for its bytes is in time
-no-clock-lost : (last : Option ℕ) (rest : Option HearRefusal) (block : ℕ) → option_or (option_map clock last) rest ≡ Some (lost block) → option_map Clock last ≡ None
-no-clock-lost None rest block e = refl
-no-clock-lost (Some kept) rest block e = cc
-
-no-clock-invalid : (last : Option ℕ) (rest : Option HearRefusal) → option_or (option_map clock last) rest ≡ Some no_application → option_map Clock last ≡ None
-no-clock-invalid None rest e = refl
-no-clock-invalid (Some kept) rest e = cc
-
 valid-clock : (valid : Bool) (kept : ℕ) → (if valid then None else Some no_application) ≡ Some (clock kept) → ⊥
 valid-clock true kept e = cc
 valid-clock false kept e = cc
@@ -78,13 +70,13 @@ unheard-clock past moment kept air e = only-clock (last_above (clock_of past) mo
 pub unheard-lost : (table : LifeTable) (past : List Reception) (moment block : ℕ) (air text : List ℕ) → refusal_of_air past moment air ≡ Some (lost block)
     → text ≡ heard_by table past moment air (Some (lost block)) → HasUnheard table past moment air (Ok text)
 unheard-lost table past moment block air text e is = (
-  no-clock-lost (last_above (clock_of past) moment) _ block e,
+  no-clock (last_above (clock_of past) moment) _ (Some (lost block)) (λ kept f. cc) e,
   (is ∙ ap (heard_by table past moment air) (sym e), ap (λ r. reception_by r moment (payload_in air)) e),
 )
 
 pub unheard-invalid : (table : LifeTable) (past : List Reception) (moment : ℕ) (air text : List ℕ) → refusal_of_air past moment air ≡ Some no_application
     → text ≡ heard_by table past moment air (Some no_application) → HasUnheard table past moment air (Ok text)
 unheard-invalid table past moment air text e is = (
-  no-clock-invalid (last_above (clock_of past) moment) _ e,
+  no-clock (last_above (clock_of past) moment) _ (Some no_application) (λ kept f. cc) e,
   (is ∙ ap (heard_by table past moment air) (sym e), ap (λ r. reception_by r moment (payload_in air)) e),
 )

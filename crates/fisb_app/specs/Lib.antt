@@ -8,5 +8,5 @@ pub mod Origin
 pub mod Work
 pub mod Stands
 pub mod Make
-pub mod Makes
+pub mod MakingHolds
 pub mod Command

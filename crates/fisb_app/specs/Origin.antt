@@ -5,7 +5,8 @@ use Rattle.std.specs.Prelude.{Option, Some, None, slice_get, slice_index}
 use Rattle.life_table.specs.LifeTable.{LifeTable}
 use Rattle.ground_core.specs.Airing.{Frame}
 use Rattle.ground_core.specs.Broadcast.{StationEvent, IsBroadcast, frames}
-use Rattle.fisb_link.specs.LinkPicture.{Hearing, link_picture}
+use Rattle.fisb_link.specs.Hearing.{Hearing}
+use Rattle.fisb_link.specs.LinkPicture.{link_picture}
 use Rattle.script_core.specs.Script.{Line, rx}
 use Rattle.fisb_app.specs.Past.{air_of}
 use Rattle.fisb_app.specs.Damage.{has_near_blocks}

@@ -15,7 +15,7 @@ use Rattle.ground_core.specs.Airing.{Frame, frame_payload}
 use Rattle.ground_core.specs.Broadcast.{StationEvent, history_of, frames}
 use Rattle.receiver_core.specs.Reception.{Reception}
 use Rattle.receiver_core.specs.Hearing.{HearRefusal, refusal_of_air}
-use Rattle.fisb_link.specs.LinkPicture.{Hearing}
+use Rattle.fisb_link.specs.Hearing.{Hearing}
 use Rattle.script_core.specs.Script.{Line, station, text, radar, blank, turn, hear, rx, show}
 use Rattle.script_core.specs.Fields.{line_of}
 
@@ -33,11 +33,11 @@ station_after [] = no_station
 station_after (line ∷ past) = station_named line (station_after past)
 
 -- the stations that have a ground: the unnamed one, and each that was named
-abbrev pub is_among : StationId → List StationId → Bool
-is_among place those = list_any (same_station place) those
+abbrev pub is_one_of : StationId → List StationId → Bool
+is_one_of place those = list_any (same_station place) those
 
 abbrev pub with_station : Line → List StationId → List StationId
-with_station (station named) before = if is_among named before then before else named ∷ before
+with_station (station named) before = if is_one_of named before then before else named ∷ before
 with_station line before = before
 
 abbrev pub stations : List Line → List StationId

@@ -19,12 +19,13 @@ use Rattle.script_core.specs.Script.{Line, empty, station, text, radar, blank, t
 use Rattle.refusal_core.specs.declared.reason.Reason.{Reason}
 use Rattle.refusal_core.specs.declared.reason.Reason.TheVariants.{NotHere, Station, Clock, NoFrame}
 use Rattle.refusal_core.specs.declared.reason.Reason.TheVariants.{Early, Late, Frames, BadCharacter}
-use Rattle.refusal_core.specs.declared.reason.Reason.TheVariants.{TextLong, FewWords, Unlisted, BadBlock}
+use Rattle.refusal_core.specs.declared.reason.Reason.TheVariants.{TextLong, FewWords, Unlisted}
+use Rattle.refusal_core.specs.declared.reason.Reason.TheVariants.{BadBlock}
 use Rattle.refusal_core.specs.declared.reason.Reason.TheVariants.{Coarse, Ahead, Expired, NotNewer}
 use Rattle.refusal_core.specs.declared.reason.Reason.TheVariants.{NoFile}
 use Rattle.fisb_app.specs.declared.party.Party.{Party}
 use Rattle.fisb_app.specs.declared.party.Party.TheVariants.{Link, Ground, Receive, Gdl}
-use Rattle.fisb_app.specs.Past.{events, is_among, receiver_clock, receiver_moment, receptions}
+use Rattle.fisb_app.specs.Past.{events, is_one_of, receiver_clock, receiver_moment, receptions}
 use Rattle.fisb_app.specs.Past.{sent_frames, station_after, stations}
 
 -- the most frames of a run
@@ -63,20 +64,20 @@ earlier_than None last = None
 earlier_than (Some moment) None = None
 earlier_than (Some moment) (Some last) = if nat_lt moment last then Some last else None
 
-abbrev pub clock_refusal : Option ℕ → Option ℕ → Option Reason
-clock_refusal own last = option_map Clock (earlier_than own last)
+abbrev pub earlier_refusal : Option ℕ → Option ℕ → Option Reason
+earlier_refusal own last = option_map Clock (earlier_than own last)
 
 -- the reasons that look at no content of a line, nor at what a station was given
 abbrev pub front_refusal : Party → Option ℕ → Line → Option Reason
 front_refusal party last line =
-    option_or (party_refusal party line) (clock_refusal (receiver_moment line) last)
+    option_or (party_refusal party line) (earlier_refusal (receiver_moment line) last)
 
 -- the most stations that are named, beside the unnamed one
 abbrev pub station_limit : ℕ
 station_limit = 16
 
 abbrev pub station_refusal : List StationId → StationId → Option Reason
-station_refusal before named = if is_among named before || nat_le (length before) station_limit
+station_refusal before named = if is_one_of named before || nat_le (length before) station_limit
     then None else Some Station
 
 -- the reason of a refused update

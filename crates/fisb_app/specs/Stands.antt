@@ -29,8 +29,8 @@ use Rattle.fisb_app.specs.declared.link.Link.{Link}
 use Rattle.fisb_app.specs.declared.ground_alone.GroundAlone.{GroundAlone}
 use Rattle.fisb_app.specs.declared.receiver_alone.ReceiverAlone.{ReceiverAlone}
 use Rattle.fisb_app.specs.declared.relay.Relay.{Relay}
-use Rattle.fisb_app.specs.declared.sent.SentFrame.{SentFrame}
-use Rattle.fisb_app.specs.Past.{lines_of, station_after, is_among, stations, broadcast, events}
+use Rattle.fisb_app.specs.declared.sent_frame.SentFrame.{SentFrame}
+use Rattle.fisb_app.specs.Past.{lines_of, station_after, is_one_of, stations, broadcast, events}
 use Rattle.fisb_app.specs.Past.{sent_frames, air_of, reception_from, receptions, receiver_clock}
 use Rattle.fisb_app.specs.Reading.{frame_refusal, receiver_refusal, reason_of_update}
 use Rattle.fisb_app.specs.Output.{heard_text}
@@ -71,8 +71,8 @@ ground_at grounds place = get station_order.ghosts.cmp grounds place
 abbrev pub IsGroundOf : {G : Type 0} → Sends G → LifeTable → List Line → StationId → Option G
     → Type 0
 IsGroundOf sends table acted place None =
-    (is_among place (stations acted) ≡ false) × (history_of place (broadcast acted) ≡ [])
-IsGroundOf sends table acted place (Some ground) = (is_among place (stations acted) ≡ true)
+    (is_one_of place (stations acted) ≡ false) × (history_of place (broadcast acted) ≡ [])
+IsGroundOf sends table acted place (Some ground) = (is_one_of place (stations acted) ≡ true)
     × sends table place (history_of place (broadcast acted)) ground
 
 -- The table was read of these bytes. The ground stands for what the lines gave to the station that
@@ -168,11 +168,11 @@ TellsFault fault stop = (last : Option ℕ) (refusal : Option GiveRefusal)
     → TellsRefusal (option_or (option_map Clock last) (option_map reason_of_update refusal)) stop
 
 -- what is answered to an update
-abbrev pub HasAnswered : {A B : Type 0} → Result A GiveFault → Result B Stop → Type 0
-HasAnswered (Ok given) (Ok done) = Unit {0}
-HasAnswered (Ok given) (Err stop) = ⊥
-HasAnswered (Err fault) (Ok done) = ⊥
-HasAnswered (Err fault) (Err stop) = TellsFault fault stop
+abbrev pub HasAnsweredUpdate : {A B : Type 0} → Result A GiveFault → Result B Stop → Type 0
+HasAnsweredUpdate (Ok given) (Ok done) = Unit {0}
+HasAnsweredUpdate (Ok given) (Err stop) = ⊥
+HasAnsweredUpdate (Err fault) (Ok done) = ⊥
+HasAnsweredUpdate (Err fault) (Err stop) = TellsFault fault stop
 
 -- something was done of which this holds, and there is no reason against it; or a stop tells the
 -- reason

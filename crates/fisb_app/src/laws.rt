@@ -4,10 +4,10 @@ ghost use Rattle.fisb_app.specs.Work.{link_work, origin_work, promised_work, rec
 ghost use Rattle.run_core.specs.Laws.{Agrees};
 ghost use Rattle.run_core.specs.Run.{task_of};
 
-use fisb_link::{hearings_stay, pictures_agree};
-use ground_core::frames_read_back;
+use fisb_link::laws::{hearings_stay, pictures_agree};
+use ground_core::laws::frames_read_back;
 use life_table::laws::tables_keep_rules;
-use script_core::ranges_of_lines;
+use script_core::laws::ranges_of_lines;
 use uplink_weave::laws::near_frame_gives_payload;
 
 /// What a link promises is what it does, whatever bytes it reads. The pictures by the bytes that

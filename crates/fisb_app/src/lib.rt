@@ -19,7 +19,7 @@ mod receiver_alone;
 mod relay;
 mod sender;
 mod sending;
-mod sent;
+mod sent_frame;
 mod stopping;
 mod top;
 mod unheard;

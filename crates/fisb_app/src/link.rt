@@ -23,7 +23,7 @@ use crate::outcome::{Event, Outcome};
 use crate::party::Party;
 use crate::sender::Sender;
 use crate::sending::Sending;
-use crate::sent::SentFrame;
+use crate::sent_frame::SentFrame;
 use fisb_time::Moment;
 use ground_core::AirFrame;
 use run_core::Stop;

@@ -88,6 +88,7 @@ fn summary_line(alloc: Global, count: u32, seed: u64, counts: Counts) -> Result<
     let corrected = counts.corrected;
     let entries = counts.entries;
     format!(in alloc;
-        "make {count} {seed} updates {updates} turns {turns} heard {heard} lost {lost} corrected {corrected} entries {entries}\n"
+        "make {count} {seed} updates {updates} turns {turns} heard {heard} lost {lost} \
+        corrected {corrected} entries {entries}\n"
     )
 }

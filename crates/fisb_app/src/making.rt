@@ -1,21 +1,24 @@
 //! What the steps of a workload make: a ground, a receiver, and the frame between them.
-ghost use Rattle.std.specs.Prelude.{◌≡◌, ◌+◌, ◌<◌, Option, Some, [], IfOk, All, fold, is_some, length};
+ghost use Rattle.std.specs.Prelude.{◌≡◌, ◌+◌, ◌<◌, Option, Some, [], IfOk, All, fold, is_some};
+ghost use Rattle.std.specs.Prelude.{length};
 ghost use Rattle.life_table.specs.LifeTable.{default_table};
 ghost use Rattle.uplink_weave.specs.Woven.{frame_bytes};
 ghost use Rattle.ground_core.specs.Airing.{Frame};
 ghost use Rattle.workload.specs.Step.{FitsStep};
-ghost use Rattle.workload.specs.declared.step.Step.TheVariants.{Text, Block, Blanks, Turn, Hear, Show};
+ghost use Rattle.workload.specs.declared.step.Step.TheVariants.{Text, Block, Blanks, Turn, Hear};
+ghost use Rattle.workload.specs.declared.step.Step.TheVariants.{Show};
 ghost use Rattle.fisb_app.specs.Reading.{earlier_than};
-ghost use Rattle.fisb_app.specs.Makes.{HasTaken, IsCounted, IsInAir, Makes, aired_one, sent_one};
+ghost use Rattle.fisb_app.specs.MakingHolds.{HasStepped, IsCounted, IsInAir, MakingHolds};
+ghost use Rattle.fisb_app.specs.MakingHolds.{aired_one, sent_one};
 
 use crate::counts::Counts;
 use crate::ear::Ear;
 use crate::sender::Sender;
 use crate::sending;
-use crate::sent::SentFrame;
+use crate::sent_frame::SentFrame;
 use crate::stopping::answer;
 use fisb_time::Moment;
-use ground_core::histories_grow;
+use ground_core::laws::histories_grow;
 use life_table::{LifeTable, REGIONAL_RADAR};
 use radar_core::{BlockKey, Cells};
 use receiver_core::{HearFault, ShowFault};
@@ -44,7 +47,7 @@ pub(crate) struct Making<G: Sender, E: Ear> {
 impl<G: Sender, E: Ear> Making<G, E> {
     /// Before any step, under the default table.
     pub(crate) fn new(alloc: Global) -> Result<Making<G, E>, AllocError>
-        ensures { IfOk result (Makes G.stands E.stands default_table []) }
+        ensures { IfOk result (MakingHolds G.stands E.stands default_table []) }
     {
         let station = StationId {
             lat: 0,
@@ -73,7 +76,7 @@ impl<G: Sender, E: Ear> Making<G, E> {
     /// Acts on a step, unless a reason stands against it.
     pub(crate) fn take(&mut self, alloc: Global, step: &Step) -> Result<(), AllocError>
         requires { FitsStep step.now }
-        ensures { HasTaken G.stands E.stands self.old self.new step.now result }
+        ensures { HasStepped G.stands E.stands self.old self.new step.now result }
     {
         match step {
             Step::Text { moment, text } => self.give_text(*moment, text.all()),
@@ -91,7 +94,7 @@ impl<G: Sender, E: Ear> Making<G, E> {
 
     fn give_text(&mut self, moment: Moment, text: &str) -> Result<(), AllocError>
         requires { length text.now < 1000 }
-        ensures { HasTaken G.stands E.stands self.old self.new (Text moment text.now) result }
+        ensures { HasStepped G.stands E.stands self.old self.new (Text moment text.now) result }
     {
         histories_grow();
         let given = answer(self.ground.give_text(moment, moment, text));
@@ -99,7 +102,7 @@ impl<G: Sender, E: Ear> Making<G, E> {
     }
 
     fn give_block(&mut self, moment: Moment, number: u32, cells: &Cells) -> Result<(), AllocError>
-        ensures { HasTaken G.stands E.stands self.old self.new (Block moment number cells.now)
+        ensures { HasStepped G.stands E.stands self.old self.new (Block moment number cells.now)
             result }
     {
         histories_grow();
@@ -114,7 +117,8 @@ impl<G: Sender, E: Ear> Making<G, E> {
     }
 
     fn give_blanks(&mut self, moment: Moment, numbers: &[u32]) -> Result<(), AllocError>
-        ensures { HasTaken G.stands E.stands self.old self.new (Blanks moment numbers.now) result }
+        ensures { HasStepped G.stands E.stands self.old self.new (Blanks moment numbers.now)
+            result }
     {
         histories_grow();
         let given = answer(
@@ -141,7 +145,7 @@ impl<G: Sender, E: Ear> Making<G, E> {
     /// Fills a frame, and keeps it.
     fn turn(&mut self, moment: Moment, slot: u8) -> Result<(), AllocError>
         requires { slot < 32 }
-        ensures { HasTaken G.stands E.stands self.old self.new (Turn moment slot) result }
+        ensures { HasStepped G.stands E.stands self.old self.new (Turn moment slot) result }
     {
         histories_grow();
         if self.counts.turns >= FRAME_LIMIT {
@@ -162,7 +166,7 @@ impl<G: Sender, E: Ear> Making<G, E> {
     /// Hears the frame that was sent last, with its changes in it.
     fn hear(&mut self, moment: Moment, changes: &Changes) -> Result<(), AllocError>
         requires { All (λ change. change.0 < frame_bytes) changes.now }
-        ensures { HasTaken G.stands E.stands self.old self.new (Hear moment changes.now) result }
+        ensures { HasStepped G.stands E.stands self.old self.new (Hear moment changes.now) result }
     {
         if self.is_early(moment) {
             return Ok(());
@@ -193,7 +197,7 @@ impl<G: Sender, E: Ear> Making<G, E> {
 
     /// Takes a picture, and counts its entries.
     fn show(&mut self, alloc: Global, moment: Moment) -> Result<(), AllocError>
-        ensures { HasTaken G.stands E.stands self.old self.new (Show moment) result }
+        ensures { HasStepped G.stands E.stands self.old self.new (Show moment) result }
     {
         if self.is_early(moment) {
             return Ok(());

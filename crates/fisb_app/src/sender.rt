@@ -1,11 +1,13 @@
 //! What gives a command its frames.
-ghost use Rattle.std.specs.Prelude.{◌≡◌, ℕ, ◌<◌, ◌^◌, ◌∷◌, [], List, None, Some, IfErr, IfOk, OnErr, OnOk, length};
+ghost use Rattle.std.specs.Prelude.{◌≡◌, ℕ, ◌<◌, ◌^◌, ◌∷◌, [], List, None, Some, IfErr, IfOk};
+ghost use Rattle.std.specs.Prelude.{OnErr, OnOk, length};
 ghost use Rattle.life_table.specs.LifeTable.{LifeTable as Table};
 ghost use Rattle.uplink_frame.specs.declared.station.StationId.{StationId as Place};
 ghost use Rattle.uplink_frame.specs.Station.{FitsStation};
 ghost use Rattle.ground_core.specs.History.{Event, fill};
 ghost use Rattle.ground_core.specs.Airing.{frame_after};
-ghost use Rattle.ground_core.specs.Update.{text as text_update, block as block_update, blanks as blanks_update};
+ghost use Rattle.ground_core.specs.Update.{text as text_update, block as block_update};
+ghost use Rattle.ground_core.specs.Update.{blanks as blanks_update};
 ghost use Rattle.ground_core.specs.Told.{kept_told};
 ghost use Rattle.segment_core.specs.Store.{last_above};
 ghost use Rattle.ground_core.specs.OnAir.{IsOnAir, history_clock};

@@ -1,6 +1,7 @@
 //! What both commands do: naming a station, giving updates and filling frames.
 ghost use Rattle.std.specs.Prelude.{◌≡◌, ℕ, ◌<◌, ◌≤◌, ◌+◌, ◌∷◌, List, [], None, Some, true};
-ghost use Rattle.std.specs.Prelude.{IfErr, IfOk, OnErr, OnOk, ◌||◌, if◌then◌else◌, is_some, length, nat_lt};
+ghost use Rattle.std.specs.Prelude.{IfErr, IfOk, OnErr, OnOk, ◌||◌, if◌then◌else◌, is_some, length};
+ghost use Rattle.std.specs.Prelude.{nat_lt};
 ghost use Rattle.uplink_frame.specs.declared.station.StationId.{StationId as Place};
 ghost use Rattle.uplink_frame.specs.Station.{FitsStation, same_station};
 ghost use Rattle.ground_core.specs.Airing.{frame_after};
@@ -18,7 +19,8 @@ ghost use Rattle.fisb_app.specs.Work.{opened_with, opening_table};
 use crate::sender::Sender;
 use crate::stopping::{answer, kept_of};
 use fisb_time::Moment;
-use ground_core::{AirFrame, histories_grow};
+use ground_core::AirFrame;
+use ground_core::laws::histories_grow;
 use life_table::{LifeTable, TableFault};
 use run_core::Stop;
 use script_core::{Line, Reason};

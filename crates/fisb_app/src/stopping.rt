@@ -3,7 +3,7 @@ ghost use Rattle.std.specs.Prelude.{◌≡◌, Option, option_map};
 ghost use Rattle.ground_core.specs.Refusal.{GiveRefusal};
 ghost use Rattle.ground_core.specs.Told.{IsToldOfText, kept_told};
 ghost use Rattle.fisb_app.specs.Reading.{reason_of_update};
-ghost use Rattle.fisb_app.specs.Stands.{HasAnswered, TellsFault, TellsRefusal};
+ghost use Rattle.fisb_app.specs.Stands.{HasAnsweredUpdate, TellsFault, TellsRefusal};
 
 use dlac_text::TextFault;
 use fisb_time::Moment;
@@ -21,7 +21,7 @@ pub(crate) fn kept_of(fault: FillFault) -> Moment
 
 /// What is answered to an update.
 pub(crate) fn answer(given: Result<(), GiveFault>) -> Result<(), Stop>
-    ensures { HasAnswered given result }
+    ensures { HasAnsweredUpdate given result }
 {
     match given {
         Ok(()) => Ok(()),

@@ -6,7 +6,8 @@ ghost use Rattle.fisb_app.specs.Command.{command_named};
 ghost use Rattle.fisb_app.specs.declared.command.Command.{Command};
 ghost use Rattle.fisb_app.specs.Make.{HasMade, IsMadeWhole};
 ghost use Rattle.fisb_app.specs.Origin.{IsOrigin, Origin};
-ghost use Rattle.fisb_app.specs.Work.{gdl_work, ground_work, link_work, origin_work, promised_work, receive_work};
+ghost use Rattle.fisb_app.specs.Work.{gdl_work, ground_work, link_work, origin_work, promised_work};
+ghost use Rattle.fisb_app.specs.Work.{receive_work};
 
 use crate::command::{Command, command_of};
 use crate::ear::Ear;

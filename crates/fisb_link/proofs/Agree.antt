@@ -16,8 +16,8 @@ use Rattle.ground_core.specs.Item.{Item, end_of}
 use Rattle.ground_core.specs.Airing.{Frame, has_key}
 use Rattle.ground_core.specs.Broadcast.{frames, all_items}
 use Rattle.receiver_core.specs.Reception.{contents}
-use Rattle.fisb_link.specs.LinkPicture.{Hearing, is_whole, becomes_whole, link_entries}
-use Rattle.fisb_link.specs.Hearing.{IsAfterHearings, AreHeard, receptions_of}
+use Rattle.fisb_link.specs.LinkPicture.{is_whole, becomes_whole, link_entries}
+use Rattle.fisb_link.specs.Hearing.{Hearing, IsAfterHearings, AreHeard, receptions_of}
 use Rattle.fisb_link.specs.PicturesAgree.{PicturesAgree}
 use Rattle.fisb_link.proofs.Layers.{Layers, PictureLayers, AreAll, Setting}
 use Rattle.fisb_link.proofs.StationItems.{setting-of}

@@ -19,8 +19,8 @@ use Rattle.ground_core.specs.Item.{Item, Segment, segment_of, file_of, end_of}
 use Rattle.ground_core.specs.Airing.{Frame}
 use Rattle.ground_core.specs.Sent.{IsAired}
 use Rattle.receiver_core.specs.Reception.{whole_entries, contents}
-use Rattle.fisb_link.specs.LinkPicture.{Hearing, segments_in, was_heard, is_whole, becomes_whole}
-use Rattle.fisb_link.specs.Hearing.{IsAfterHearings, AreHeard, receptions_of}
+use Rattle.fisb_link.specs.LinkPicture.{segments_in, was_heard, is_whole, becomes_whole}
+use Rattle.fisb_link.specs.Hearing.{Hearing, IsAfterHearings, AreHeard, receptions_of}
 use Rattle.fisb_link.proofs.Layers.{FileLayers, AreAll, Setting}
 use Rattle.fisb_link.proofs.ReadSegments.{joint, is_fresh, number-within}
 use Rattle.fisb_link.proofs.HeardSegments.{fresh, fresh_now, files_now, files_heard, arrivals-are, arrivals-grow, aired-now}

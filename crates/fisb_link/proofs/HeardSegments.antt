@@ -20,8 +20,8 @@ use Rattle.ground_core.specs.Item.{Item, Segment, body_of, end_of}
 use Rattle.ground_core.specs.Airing.{Frame, frame_payload}
 use Rattle.ground_core.specs.Sent.{IsAired, IsFrame}
 use Rattle.receiver_core.specs.Reception.{arrival_in, arrivals_in, arrivals}
-use Rattle.fisb_link.specs.LinkPicture.{Hearing, segments_in, heard_segments}
-use Rattle.fisb_link.specs.Hearing.{IsInTime, IsAfterHearings, AreHeard, payload_sent, reception_of, receptions_of}
+use Rattle.fisb_link.specs.LinkPicture.{segments_in, heard_segments}
+use Rattle.fisb_link.specs.Hearing.{Hearing, IsInTime, IsAfterHearings, AreHeard, payload_sent, reception_of, receptions_of}
 use Rattle.fisb_link.proofs.Layers.{AreAll, Setting}
 use Rattle.fisb_link.proofs.ReadSegments.{joint, is_fresh, arrival-read}
 use Rattle.fisb_link.proofs.StillHeard.{in_time}

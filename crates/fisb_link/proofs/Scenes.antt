@@ -28,8 +28,8 @@ use Rattle.ground_core.specs.History.{accepted, fill, free_number}
 use Rattle.ground_core.specs.Airing.{Frame}
 use Rattle.ground_core.specs.Refusal.{give_refusal}
 use Rattle.ground_core.specs.Broadcast.{StationEvent, IsBroadcast, frames}
-use Rattle.fisb_link.specs.LinkPicture.{Hearing, link_entries, link_picture}
-use Rattle.fisb_link.specs.Hearing.{AreHeard}
+use Rattle.fisb_link.specs.LinkPicture.{link_entries, link_picture}
+use Rattle.fisb_link.specs.Hearing.{Hearing, AreHeard}
 use Rattle.list_members.specs.Ranges.{all_in}
 
 abbrev other_station : StationId

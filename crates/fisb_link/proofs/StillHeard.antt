@@ -3,8 +3,7 @@ use Rattle.std.proofs.Common.{◌≡◌, ℕ, zero, suc, ◌≤◌, ◌+◌, Lis
 use Rattle.ground_core.specs.Airing.{Frame}
 use Rattle.ground_core.specs.Broadcast.{history_of, frames_of_event, frames}
 use Rattle.receiver_core.specs.Reception.{Reception}
-use Rattle.fisb_link.specs.LinkPicture.{Hearing}
-use Rattle.fisb_link.specs.Hearing.{IsInTime, AreHeard, payload_sent, receptions_of}
+use Rattle.fisb_link.specs.Hearing.{Hearing, IsInTime, AreHeard, payload_sent, receptions_of}
 use Rattle.fisb_link.specs.PicturesAgree.{HearingsStay}
 
 -- the frame of a hearing was sent, in time

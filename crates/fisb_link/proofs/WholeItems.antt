@@ -16,8 +16,8 @@ use Rattle.segment_core.specs.Joining.{segment, IsSegment, AreApart, AreSent, Ha
 use Rattle.segment_core.specs.Joining as joining
 use Rattle.ground_core.specs.Item.{Item, Segment, segment_of, segments_of, file_of, same_item, same_segment, end_of}
 use Rattle.ground_core.specs.Airing.{Frame, has_key}
-use Rattle.fisb_link.specs.LinkPicture.{Hearing, heard_segments, was_heard, is_whole}
-use Rattle.fisb_link.specs.Hearing.{IsAfterHearings, AreHeard}
+use Rattle.fisb_link.specs.LinkPicture.{heard_segments, was_heard, is_whole}
+use Rattle.fisb_link.specs.Hearing.{Hearing, IsAfterHearings, AreHeard}
 use Rattle.fisb_link.proofs.Layers.{Layers, AreAll, Setting}
 use Rattle.list_members.specs.Ranges.{all_in, in_all}
 use Rattle.fisb_link.proofs.ReadSegments.{joint, own-item, number-within, segments-has}

@@ -3,7 +3,11 @@ use Rattle.std.specs.Prelude.{ℕ, ◌+◌, ◌≤◌, List, [], ◌∷◌, map,
 use Rattle.fisb_time.specs.Moment.{IsMoment}
 use Rattle.ground_core.specs.Airing.{Frame, frame_payload}
 use Rattle.receiver_core.specs.Reception.{Reception}
-use Rattle.fisb_link.specs.LinkPicture.{Hearing}
+
+-- the number of a frame, and the moment at which it was heard; the newest hearing stands first
+pub record Hearing : Type 0 where
+  pub frame : ℕ
+  pub moment : ℕ
 
 -- the frame was sent, at most so many seconds before the moment
 abbrev pub IsInTime : ℕ → Option Frame → ℕ → Type 0

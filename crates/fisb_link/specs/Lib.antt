@@ -1,3 +1,3 @@
-pub mod LinkPicture
 pub mod Hearing
+pub mod LinkPicture
 pub mod PicturesAgree

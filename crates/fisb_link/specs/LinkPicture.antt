@@ -10,11 +10,7 @@ use Rattle.picture_core.specs.Picture.{picture}
 use Rattle.ground_core.specs.Item.{Item, Segment, segments_of, same_segment}
 use Rattle.ground_core.specs.Airing.{Frame}
 use Rattle.ground_core.specs.Broadcast.{StationEvent, frames, all_items}
-
--- the number of a frame, and the moment at which it was heard; the newest hearing stands first
-pub record Hearing : Type 0 where
-  pub frame : ℕ
-  pub moment : ℕ
+use Rattle.fisb_link.specs.Hearing.{Hearing}
 
 abbrev pub segments_in : Option Frame → List Segment
 segments_in None = []

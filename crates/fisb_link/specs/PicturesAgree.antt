@@ -4,8 +4,8 @@ use Rattle.life_table.specs.LifeTable.{LifeTable}
 use Rattle.life_table.specs.Rules.{IsTable}
 use Rattle.ground_core.specs.Broadcast.{StationEvent, IsBroadcast, frames}
 use Rattle.receiver_core.specs.Reception.{received_picture}
-use Rattle.fisb_link.specs.LinkPicture.{Hearing, link_picture}
-use Rattle.fisb_link.specs.Hearing.{AreHeard, IsAfterHearings, receptions_of}
+use Rattle.fisb_link.specs.LinkPicture.{link_picture}
+use Rattle.fisb_link.specs.Hearing.{Hearing, AreHeard, IsAfterHearings, receptions_of}
 
 -- Whatever was given, sent and heard in time, and in whatever order, the picture by the bytes that
 -- were heard is the one that updates, fills and hearings promise.

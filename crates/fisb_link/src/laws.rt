@@ -4,7 +4,7 @@ ghost use Rattle.fisb_link.specs.PicturesAgree.{HearingsStay, PicturesAgree};
 
 use apdu_core::laws::{apdu_reads_back, shown_fits};
 use fisb_time::laws::form_round_trip;
-use ground_core::{
+use ground_core::laws::{
     frames_read_back, histories_have_items, items_are_of_stations, segments_are_of_items,
     segments_are_same,
 };

@@ -2,6 +2,4 @@
 //! receiver.
 #![tactic(auto)]
 
-mod laws;
-
-pub use laws::{hearings_stay, pictures_agree};
+pub mod laws;

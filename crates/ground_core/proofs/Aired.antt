@@ -1,21 +1,23 @@
 -- What a fill airs: segments of items that were given before and live on, as many as fit.
-use Rattle.std.proofs.Common.{◌≡◌, ℕ, ◌+◌, ◌-◌, ◌<◌, ◌≤◌, Bool, true, false, nat_le, List, [], ◌∷◌, ◌++◌, map, filter, flat_map, sum_by, sym, ap, subst, ◌∙◌, inl, inr, arith}
+use Rattle.std.proofs.Common.{◌≡◌, ℕ, ◌+◌, ◌-◌, ◌<◌, ◌≤◌, Bool, true, nat_le, List, [], ◌∷◌, ◌++◌, filter, sum_by, sym, subst, inl, inr, arith}
 use Rattle.std.proofs.lemmas.Bool.{cases_Bool, cond-true, cond-false, ltb-true, leb-true, and_parts}
 use Rattle.std.proofs.lemmas.List.Sums.{sum_by-cons}
 use Rattle.life_table.specs.LifeTable.{LifeTable}
 use Rattle.life_table.specs.Rules.{IsTable}
 use Rattle.uplink_frame.specs.declared.station.StationId.{StationId}
 use Rattle.list_members.specs.Membership.{IsIn}
-use Rattle.list_members.specs.Members.{IsIn-before, IsIn-after, IsIn-either, IsIn-from_filter}
-use Rattle.list_members.specs.ListMembers.{in_map, in_flat_map}
+use Rattle.list_members.specs.Members.{IsIn-either, IsIn-from_filter}
+use Rattle.list_members.specs.ListMembers.{in_map, map_has}
 use Rattle.uplink_frame.specs.UplinkFrame.{frame_room}
-use Rattle.ground_core.specs.Item.{Weather, Item, Segment, segments_of, room_of, end_of}
+use Rattle.ground_core.specs.Item.{Weather, Item, Segment, room_of, end_of}
 use Rattle.ground_core.specs.Update.{weather_of}
 use Rattle.ground_core.specs.History.{Event, accepted, fill, item_of, items_made, new_items, items}
-use Rattle.ground_core.specs.Airing.{Touch, touch, is_live, is_touched, last_touches, waiting_segments, longest_fitting, airing, touches, log}
+use Rattle.ground_core.specs.Airing.{Touch, is_live, is_touched, last_touches, waiting_segments, longest_fitting, airing, log}
 use Rattle.ground_core.specs.Broadcast.{IsNotBeforeLast, IsHistory}
 use Rattle.ground_core.specs.Sound.{AreGiven, AcceptedIsGiven}
-use Rattle.ground_core.proofs.Segments.{is_segment_of}
+use Rattle.ground_core.proofs.ListLemmas.{AllByRecursion-at}
+use Rattle.ground_core.proofs.Order.{touched_segments}
+use Rattle.ground_core.proofs.Serials.{IsLogged, segments-logged}
 
 in_last : (t : Touch) (touched : List Touch) → IsIn t (last_touches touched) → IsIn t touched
 in_last t [] h = absurd h
@@ -52,15 +54,15 @@ fitting-fits room (x ∷ more) =
       | inr f ↦ subst (λ ss. sum_by room_of ss ≤ room) (sym (cond-false (nat_le (room_of x) room) rest [] f)) (omega arith)
     ]
 
--- what is aired stands in the log, and lives
-record IsLogged (all : List Item) (touched : List Touch) (moment : ℕ) (s : Segment) : Type 0 where
+-- a segment of the log that is live
+record IsWaiting (all : List Item) (touched : List Touch) (moment : ℕ) (s : Segment) : Type 0 where
   pub last : Touch
   pub in_log : IsIn last touched
   pub segment : s ≡ last.segment
   pub live : is_live all moment s.item ≡ true
 
-aired-logged : (all : List Item) (touched : List Touch) (moment : ℕ) (s : Segment) → IsIn s (airing all touched moment) → IsLogged all touched moment s
-aired-logged all touched moment s h =
+aired-waiting : (all : List Item) (touched : List Touch) (moment : ℕ) (s : Segment) → IsIn s (airing all touched moment) → IsWaiting all touched moment s
+aired-waiting all touched moment s h =
     let live : Touch → Bool = λ t. is_live all moment t.segment.item in
     let found = in_map (λ (t : Touch). t.segment) s (filter live (last_touches touched)) (in_fitting s frame_room (waiting_segments all touched moment) h) in
     let lives = IsIn-from_filter live found.0 (last_touches touched) found.1 in
@@ -72,40 +74,11 @@ aired-logged all touched moment s h =
     }
 
 -- each segment of the log is one of an item
-pub record IsOfItem (all : List Item) (s : Segment) : Type 0 where
-  pub item_in : IsIn s.item all
-  pub of_item : IsIn s (segments_of s.item)
-
-of_item-more : (all more : List Item) (s : Segment) → IsOfItem all s → IsOfItem (all ++ more) s
-of_item-more all more s of = record { item_in = IsIn-before s.item all more of.item_in; of_item = of.of_item }
-
-log-items : (table : LifeTable) (station : StationId) (history : List Event) (t : Touch) → IsIn t (log table station history)
-    → IsOfItem (items table station history) t.segment
-log-items table station [] t h = absurd h
-log-items table station (accepted moment update ∷ past) t h =
-    let before = items table station past in
-    let new = new_items table station before (accepted moment update) in
-    elim (IsIn-either t (log table station past) (touches table station before (log table station past) (accepted moment update)) h) [
-      | inl old ↦ of_item-more before new t.segment (log-items table station past t old)
-      | inr last ↦
-          let touched = in_map (touch false moment) t (flat_map segments_of new) last in
-          let found = in_flat_map segments_of touched.0 new touched.1 in
-          let own = (is_segment_of found.0 touched.0 found.2).item_is in
-          subst (IsOfItem (before ++ new)) (sym (ap (λ (x : Touch). x.segment) touched.2)) (record {
-            item_in = subst (λ (x : Item). IsIn x (before ++ new)) (sym own) (IsIn-after found.0 before new found.1);
-            of_item = subst (λ (x : Item). IsIn touched.0 (segments_of x)) (sym own) found.2;
-          })
-    ]
-log-items table station (fill moment slot ∷ past) t h =
-    let before = items table station past in
-    let past_log = log table station past in
-    of_item-more before [] t.segment (elim (IsIn-either t past_log (map (touch true moment) (airing before past_log moment)) h) [
-      | inl old ↦ log-items table station past t old
-      | inr last ↦
-          let touched = in_map (touch true moment) t (airing before past_log moment) last in
-          let logged = aired-logged before past_log moment touched.0 touched.1 in
-          subst (IsOfItem before) (sym (ap (λ (x : Touch). x.segment) touched.2 ∙ logged.segment)) (log-items table station past logged.last logged.in_log)
-    ])
+segment-logged : (table : LifeTable) (station : StationId) (history : List Event) (t : Touch) → IsIn t (log table station history)
+    → IsLogged (items table station history) t.segment
+segment-logged table station history t i =
+    AllByRecursion-at (IsLogged (items table station history)) (touched_segments (log table station history)) t.segment
+    (segments-logged table station history) (map_has (λ (x : Touch). x.segment) t (log table station history) i)
 
 -- an item is at most a minute ahead of every moment that is not before its giving
 made-lead : (table : LifeTable) (station : StationId) (moment : ℕ) (before : List Item) (ws : List Weather) (i : Item)
@@ -139,14 +112,14 @@ items-lead accepting table station (fill moment slot ∷ past) m i is_table is n
 
 -- what is known of a segment that is aired after a history
 pub record IsAiredAfter (table : LifeTable) (station : StationId) (past : List Event) (moment : ℕ) (s : Segment) : Type 0 where
-  pub of_item : IsOfItem (items table station past) s
+  pub of_item : IsLogged (items table station past) s
   pub live : moment < end_of s.item.weather
 
 pub aired-after : (table : LifeTable) (station : StationId) (past : List Event) (moment : ℕ) (s : Segment)
     → IsIn s (airing (items table station past) (log table station past) moment) → IsAiredAfter table station past moment s
 aired-after table station past moment s h =
-    let logged = aired-logged (items table station past) (log table station past) moment s h in
+    let logged = aired-waiting (items table station past) (log table station past) moment s h in
     record {
-      of_item = subst (IsOfItem (items table station past)) (sym logged.segment) (log-items table station past logged.last logged.in_log);
+      of_item = subst (IsLogged (items table station past)) (sym logged.segment) (segment-logged table station past logged.last logged.in_log);
       live = ltb-true moment (end_of s.item.weather) (and_parts _ _ logged.live).0;
     }

@@ -86,7 +86,7 @@ new-frame layers table station past moment slot is_table fits next is =
     let found = in_map body_of body frame.segments h in
     let aired = aired-after table station before moment found.0 found.1 in
     let within = room-within found.0 frame.segments found.1 in
-    subst IsBody (sym found.2) (body-is layers table found.0 (are.sound (found.0).item (aired.of_item).item_in) (aired.of_item).of_item (omega arith)) in
+    subst IsBody (sym found.2) (body-is layers table found.0 (are.sound (found.0).item (aired.of_item).item) (aired.of_item).of_item (omega arith)) in
     let back = layers.bodies station slot (map body_of frame.segments) fits next.is_accepted (All-members IsBody (map body_of frame.segments) bodies) (omega arith) in
     let same = map-map fisb_frame body_of frame.segments in
     let spelled : length (spelled_frames (map fisb_frame (map body_of frame.segments))) ≡ frames_size (map body_of frame.segments) =
@@ -100,7 +100,7 @@ new-frame layers table station past moment slot is_table fits next is =
       moment = next.moment_is;
       aired = λ s h.
           let aired = aired-after table station before moment s h in
-          let item_in = (aired.of_item).item_in in
+          let item_in = (aired.of_item).item in
           record {
             item_in = of_all layers.stations table past station s.item item_in;
             of_item = (aired.of_item).of_item;

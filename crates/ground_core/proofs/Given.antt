@@ -1,5 +1,6 @@
 -- What an accepted text says is sound, given in time, and newer than all of its key before it.
 use Rattle.std.proofs.Common.{◌≡◌, ℕ, ◌+◌, ◌*◌, ◌/◌, ◌<◌, ◌≤◌, Bool, true, false, not, ◌&&◌, nat_lt, nat_le, cond, max, fold, List, [], ◌∷◌, length, map, filter, flat_map, Option, Some, None, is_none, Result, Ok, Err, refl, sym, ap, subst, ◌∙◌, inl, inr, arith}
+use Rattle.std.specs.List.{AllByRecursion}
 use Rattle.std.specs.Bool.{Decides}
 use Rattle.std.specs.Str.{chars, IsUtf8}
 use Rattle.std.proofs.lemmas.Bool.{ltb-false, leb-false, not-false}
@@ -30,7 +31,6 @@ use Rattle.ground_core.specs.History.{accepted}
 use Rattle.ground_core.specs.Broadcast.{IsAccepted}
 use Rattle.ground_core.specs.Refusal.{GiveRefusal, coarse, ahead, expired, not_newer, no_file, given_version, given_versions, file_refusal, age_refusal, Timing, timing, version_refusal, weather_refusal, key_refusal, text_fault_refusal, give_refusal}
 use Rattle.ground_core.specs.Sound.{IsSound, IsGiven, AreGiven}
-use Rattle.ground_core.proofs.ListLemmas.{Each}
 
 -- what the crates below promise of texts
 pub record TextLayers : Type 0 where
@@ -82,7 +82,7 @@ abbrev pub IsAbove : ℕ → Option ℕ → Type 0
 IsAbove version None = Unit {0}
 IsAbove version (Some kept) = kept < version
 
-by_age : (version : ℕ) (kept : List (Option ℕ)) (later : Option GiveRefusal) → age_refusal version kept later ≡ None → Each (IsAbove version) kept × (later ≡ None)
+by_age : (version : ℕ) (kept : List (Option ℕ)) (later : Option GiveRefusal) → age_refusal version kept later ≡ None → AllByRecursion (IsAbove version) kept × (later ≡ None)
 by_age version [] later e = (tt, e)
 by_age version (None ∷ more) later e = let rest = by_age version more later e in ((tt, rest.0), rest.1)
 by_age version (Some kept ∷ more) later e =
@@ -95,7 +95,7 @@ pub record IsClear (moment : ℕ) (t : Timing) (kept : List (Option ℕ)) : Type
   pub shown : shows t.form t.version ≡ true
   pub not_ahead : t.version ≤ moment + 60
   pub alive : moment < t.version + t.life
-  pub newer : Each (IsAbove t.version) kept
+  pub newer : AllByRecursion (IsAbove t.version) kept
 
 pub by_version : (moment : ℕ) (t : Timing) (kept : List (Option ℕ)) (later : Option GiveRefusal) → version_refusal moment t kept later ≡ None
     → IsClear moment t kept × (later ≡ None)

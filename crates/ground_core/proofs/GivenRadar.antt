@@ -1,7 +1,7 @@
 -- What accepted radar says is sound, given in time, and newer than all of its keys before it.
 use Rattle.std.proofs.Common.{◌≡◌, ℕ, ◌<◌, ◌≤◌, ◌⊎◌, Bool, true, false, not, ◌==◌, nat_lt, nat_le, IsTrue, List, [], ◌∷◌, ◌++◌, length, map, flat_map, Option, Some, None, Ok, refl, sym, ap, subst, ◌∙◌, inl, inr, arith}
 use Rattle.std.specs.Bool.{Decides}
-use Rattle.std.specs.List.{All, concat, list_all}
+use Rattle.std.specs.List.{AllByRecursion, All, concat, list_all}
 use Rattle.std.proofs.lemmas.Bool.{and_parts, eqb-true, ltb-true, leb-true, le-leb, not-false, true≢false}
 use Rattle.std.proofs.lemmas.List.Elements.{All-head, All-tail}
 use Rattle.bit_fields.specs.Bits.{AreBytes}
@@ -38,7 +38,6 @@ use Rattle.ground_core.specs.Airing.{has_key}
 use Rattle.ground_core.specs.Broadcast.{IsAccepted}
 use Rattle.ground_core.specs.Refusal.{bad_block, given_versions, timing, radar_refusal, is_block, are_blanks, rise, most_blanks, give_refusal}
 use Rattle.ground_core.specs.Sound.{IsSound, IsGiven, AreGiven}
-use Rattle.ground_core.proofs.ListLemmas.{Each}
 use Rattle.ground_core.proofs.Given.{IsAbove, IsClear, by_version, test-passed, given-below}
 use Rattle.ground_core.proofs.Rising.{Rises, rises, increasing, rises_behind, below_behind}
 
@@ -166,7 +165,7 @@ by_radar moment version named kept (Some row) e =
     }
 
 -- versions of keys that the version is above
-above_keys : (version : ℕ) (before : List Item) (keys : List Key) → Each (IsAbove version) (given_versions before keys)
+above_keys : (version : ℕ) (before : List Item) (keys : List Key) → AllByRecursion (IsAbove version) (given_versions before keys)
     → (item : Item) (key : Key) → IsIn item before → IsIn key keys → has_key key item ≡ true → item.weather.version < version
 above_keys version before [] h item key i j has = absurd j
 above_keys version before (k ∷ keys) h item key i j has = elim j [

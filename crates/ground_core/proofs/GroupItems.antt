@@ -1,6 +1,7 @@
 -- The items of groups of blocks.
 use Rattle.std.proofs.Common.{◌≡◌, Bool, true, false, if◌then◌else◌, ℕ, ◌+◌, ◌-◌, ◌<◌, ◌≤◌, List, [], ◌∷◌, ◌++◌, length, map, take, drop, flat_map, get_or, Some, refl, sym, ap, subst, ◌∙◌, arith}
-use Rattle.std.proofs.lemmas.List.{take_more, take_all, append-nil, append_assoc}
+use Rattle.std.proofs.lemmas.List.{take_more, take_all, append-nil}
+use Rattle.std.proofs.lemmas.Grind.{flat_map-append}
 use Rattle.std.proofs.lemmas.Option.{get_or_from_slice_get}
 use Rattle.std.specs.List.{slice_get}
 use Rattle.life_table.specs.LifeTable.{RadarRow}
@@ -32,15 +33,11 @@ one_of_group version row area serial group n further w item e f h =
     subst (λ g. AreItemsFrom serial (group_weather version row (key_in_area area) g) (item ∷ [])) (sym e)
     (subst (λ ws. AreItemsFrom serial ws (item ∷ [])) (sym f) (h, tt))
 
-flat_map_last : (f : List ℕ → List Weather) (groups : List (List ℕ)) (g : List ℕ) → flat_map f (groups ++ g ∷ []) ≡ flat_map f groups ++ f g
-flat_map_last f [] g = append-nil (f g)
-flat_map_last f (first ∷ more) g = ap (λ l. f first ++ l) (flat_map_last f more g) ∙ sym (append_assoc (f first) (flat_map f more) (f g))
-
 pub more_groups : (f : List ℕ → List Weather) (groups : List (List ℕ)) (k : ℕ) (g : List ℕ) → slice_get groups k ≡ Some g → k < length groups
     → flat_map f (take (k + 1) groups) ≡ flat_map f (take k groups) ++ f g
 more_groups f groups k g e below =
     ap (flat_map f) (take_more groups k g below ∙ ap (λ x. take k groups ++ x ∷ []) (get_or_from_slice_get groups k g g e))
-    ∙ flat_map_last f (take k groups) g
+    ∙ flat_map-append f (take k groups) (g ∷ []) ∙ ap (λ l. flat_map f (take k groups) ++ l) (append-nil (f g))
 
 pub zero_both : (b : Bool) → ◌≡◌ {A = ℕ} 0 (if b then 0 else 0)
 zero_both true = refl

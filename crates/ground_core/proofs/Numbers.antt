@@ -5,7 +5,7 @@ use Rattle.std.proofs.lemmas.Bool.{cases_Bool, eqb-true, lt-ltb, le-ltb, ltb-fal
 use Rattle.std.proofs.lemmas.Bool.Decides.{nat_tests}
 use Rattle.std.proofs.lemmas.List.{map-append}
 use Rattle.std.proofs.lemmas.List.FromFn.{map-range_with_len_more}
-use Rattle.std.proofs.lemmas.List.Elements.{filter-append}
+use Rattle.std.proofs.lemmas.List.Elements.{filter-append, filter_agree}
 use Rattle.life_table.specs.LifeTable.{LifeTable, longest}
 use Rattle.life_table.specs.Rules.{IsTable}
 use Rattle.uplink_frame.specs.declared.station.StationId.{StationId}
@@ -14,7 +14,7 @@ use Rattle.ground_core.specs.Item.{Weather, Item, is_segmented}
 use Rattle.ground_core.specs.History.{Event, items, item_of, is_kept, is_rival, has_number, free_number, number_for}
 use Rattle.ground_core.specs.Broadcast.{IsHistory}
 use Rattle.ground_core.specs.StandsFor.{is_filed}
-use Rattle.ground_core.proofs.ListLemmas.{Each-all, list_any-map, filter_same}
+use Rattle.ground_core.proofs.ListLemmas.{list_any-map}
 use Rattle.ground_core.specs.Sound.{IsGiven, AcceptedIsGiven}
 use Rattle.ground_core.proofs.Induction.{GoesOn, by_items}
 
@@ -94,7 +94,7 @@ pub file_is_count : (table : LifeTable) (moment : ℕ) (before : List Item) (w :
     ≡ (if nat_lt (length (filed_items w.version w.product before)) file_numbers then Some (length (filed_items w.version w.product before)) else None)
 file_is_count table moment before w lt h =
     let rivals : filter (is_rival table moment w) before ≡ filed_items w.version w.product before
-    = filter_same (is_rival table moment w) (is_filed w.version w.product) before (Each-all _ (λ o. rival_is table moment w o lt) before) in
+    = filter_agree (is_rival table moment w) (is_filed w.version w.product) (λ o. rival_is table moment w o lt) before in
     ap free_number rivals ∙ free_number_is (filed_items w.version w.product before) file_numbers refl
     ∙ free_is file_numbers (length (filed_items w.version w.product before)) (filed_items w.version w.product before) (h w.version w.product)
 

@@ -1,6 +1,6 @@
 -- What is live of the queue is what waits: at a later moment, behind a frame that was filled, and behind an item that was given.
 use Rattle.std.proofs.Common.{◌≡◌, ℕ, zero, suc, ◌+◌, ◌-◌, ◌<◌, ◌≤◌, Bool, true, false, not, ◌&&◌, ◌==◌, nat_lt, nat_le, if◌then◌else◌, List, [], ◌∷◌, ◌++◌, length, map, filter, flat_map, Option, Some, None, refl, sym, ap, subst, ◌∙◌, inl, inr, arith, append-nil, length-append}
-use Rattle.std.specs.List.{range_with_len}
+use Rattle.std.specs.List.{AllByRecursion, range_with_len}
 use Rattle.std.proofs.lemmas.Bool.{cases_Bool, lt-ltb, ltb-true, and_parts, and_from, and_right}
 use Rattle.std.proofs.lemmas.Bool.Decides.{nat_tests}
 use Rattle.std.proofs.lemmas.List.{map-append, append_assoc}
@@ -17,25 +17,25 @@ use Rattle.ground_core.specs.Airing.{log, airing, waiting_segments, longest_fitt
 use Rattle.ground_core.specs.Piece.{Piece, Latest, piece_of, lives_as, live_by, fitting_pieces, left_pieces}
 use Rattle.ground_core.specs.StandsFor.{latest_of, latest_of_item}
 use Rattle.ground_core.proofs.KeyLemmas.{KeyLaws}
-use Rattle.ground_core.proofs.ListLemmas.{Each, Each-append, Each-weaker, Each-in, Each-all, Each-map, filter_same, filter_all, filter_less, filter-map, list_any-weaker}
-use Rattle.ground_core.proofs.Order.{last_places, segments_in, stands_in, waiting_is, front-turned, Once, last_places-append, last_places_once}
+use Rattle.ground_core.proofs.ListLemmas.{AllByRecursion-append, AllByRecursion-weaker, AllByRecursion-in, AllByRecursion-all, AllByRecursion-map, filter_same, filter_all, filter_less, filter-map, list_any-weaker}
+use Rattle.ground_core.proofs.Order.{last_places, touched_segments, stands_in, waiting_is, front-turned, Once, last_places-append, last_places_once}
 use Rattle.ground_core.proofs.Segments.{is_segment_of}
-use Rattle.ground_core.proofs.Serials.{Numbered, Numbered-append, numbered_items, numbered_made, serial_in, IsLogged, segments-logged, logged_more, logged_new, log_given, log_filled, Each-last_places, live_same, latest_push}
+use Rattle.ground_core.proofs.Serials.{Numbered, Numbered-append, numbered_items, numbered_made, serial_in, IsLogged, segments-logged, logged_more, logged_new, log_given, log_filled, AllByRecursion-last_places, live_same, latest_push}
 
 -- the pieces of segments that were given are live where their items are
-pub pieces_live : KeyLaws → (all : List Item) (moment : ℕ) (segments : List Segment) → Numbered 0 all → Each (IsLogged all) segments
+pub pieces_live : KeyLaws → (all : List Item) (moment : ℕ) (segments : List Segment) → Numbered 0 all → AllByRecursion (IsLogged all) segments
     → filter (live_by (latest_of all) moment) (map piece_of segments) ≡ map piece_of (filter (λ s. is_live all moment s.item) segments)
 pieces_live keys all moment segments n h =
     filter-map (live_by (latest_of all) moment) piece_of segments
     ∙ ap (map piece_of) (filter_same _ (λ s. is_live all moment s.item) segments
-    (Each-weaker _ _ (λ s k. live_same keys all moment s n k.item) segments h))
+    (AllByRecursion-weaker _ _ (λ s k. live_same keys all moment s n k.item) segments h))
 
 abbrev pub places : LifeTable → StationId → List Event → List Segment
-places table station history = last_places (segments_in (log table station history))
+places table station history = last_places (touched_segments (log table station history))
 
 pub logged_places : (table : LifeTable) (station : StationId) (history : List Event)
-    → Each (IsLogged (items table station history)) (places table station history)
-logged_places table station history = Each-last_places _ _ (segments-logged table station history)
+    → AllByRecursion (IsLogged (items table station history)) (places table station history)
+logged_places table station history = AllByRecursion-last_places _ _ (segments-logged table station history)
 
 pub waits_are : KeyLaws → (table : LifeTable) (station : StationId) (history : List Event) (moment : ℕ)
     → map piece_of (waiting_segments (items table station history) (log table station history) moment)
@@ -45,7 +45,7 @@ waits_are keys table station history moment =
     ∙ sym (pieces_live keys (items table station history) moment (places table station history) (numbered_items table station history) (logged_places table station history))
 
 -- a test that passes less
-pub less_same : (p q : Piece → Bool) (xs ys : List Piece) → Each (λ x. q x ≡ true → p x ≡ true) xs → Each (λ x. q x ≡ true → p x ≡ true) ys
+pub less_same : (p q : Piece → Bool) (xs ys : List Piece) → AllByRecursion (λ x. q x ≡ true → p x ≡ true) xs → AllByRecursion (λ x. q x ≡ true → p x ≡ true) ys
     → filter p xs ≡ filter p ys → filter q xs ≡ filter q ys
 less_same p q xs ys h k e = sym (filter_less p q xs h) ∙ ap (filter q) e ∙ filter_less p q ys k
 
@@ -66,8 +66,8 @@ pub line_later : KeyLaws → (table : LifeTable) (station : StationId) (history 
     → filter (live_by (latest_of (items table station history)) moment) line ≡ map piece_of (waiting_segments (items table station history) (log table station history) moment)
 line_later keys table station history clock moment line le e =
     let latest : Key → Option Latest = latest_of (items table station history) in
-    let less : (xs : List Piece) → Each (λ x. live_by latest moment x ≡ true → live_by latest clock x ≡ true) xs
-    = λ (xs : List Piece). Each-all _ (λ x. later_lives latest clock moment x le) xs in
+    let less : (xs : List Piece) → AllByRecursion (λ x. live_by latest moment x ≡ true → live_by latest clock x ≡ true) xs
+    = λ (xs : List Piece). AllByRecursion-all _ (λ x. later_lives latest clock moment x le) xs in
     less_same (live_by latest clock) (live_by latest moment) line (map piece_of (places table station history)) (less line) (less _)
     (e ∙ waits_are keys table station history clock) ∙ sym (waits_are keys table station history moment)
 
@@ -111,13 +111,13 @@ pub waiting_filled : StationsAreTold → (table : LifeTable) (station : StationI
     ++ airing (items table station past) (log table station past) moment
 waiting_filled told table station past moment slot =
     let all : List Item = items table station past in
-    let before : List Segment = segments_in (log table station past) in
+    let before : List Segment = touched_segments (log table station past) in
     let now : List Segment = waiting_segments all (log table station past) moment in
     let front : List Segment = longest_fitting 424 now in
     let live : Segment → Bool = λ s. is_live all moment s.item in
     let cut : filter live (last_places before) ≡ front ++ segments_left 424 now = sym (waiting_is all (log table station past) moment) ∙ fitting_left 424 now in
     waiting_is (all ++ []) (log table station (fill moment slot ∷ past)) moment
-    ∙ ap (λ is. filter (λ s. is_live is moment s.item) (last_places (segments_in (log table station (fill moment slot ∷ past))))) (append-nil all)
+    ∙ ap (λ is. filter (λ s. is_live is moment s.item) (last_places (touched_segments (log table station (fill moment slot ∷ past))))) (append-nil all)
     ∙ ap (λ l. filter live (last_places l)) (log_filled table station past moment slot)
     ∙ front-turned told live before front (segments_left 424 now) cut
 
@@ -152,26 +152,26 @@ once_numbers item at zero = tt
 once_numbers item at (suc n) = (none_below item at (at + 1) n (omega arith), once_numbers item (at + 1) n)
 
 -- a segment of another serial is none of an item's
-none_of_item : (s : Segment) (serial : ℕ) (xs : List Segment) → s.item.serial < serial → Each (λ x. x.item.serial ≡ serial) xs → stands_in xs s ≡ false
+none_of_item : (s : Segment) (serial : ℕ) (xs : List Segment) → s.item.serial < serial → AllByRecursion (λ x. x.item.serial ≡ serial) xs → stands_in xs s ≡ false
 none_of_item s serial [] lt h = refl
 none_of_item s serial (x ∷ xs) lt h =
     let other : (s.item.serial == x.item.serial) ≡ false = rw h.0 (grind (arith, nat_tests)) in
     let head : same_segment s x ≡ false = ap (λ b. b && (s.number == x.number)) (and_right (same_station s.item.station x.item.station) (s.item.serial == x.item.serial) other) in
     rw head (none_of_item s serial xs lt h.1)
 
-item_of_each : (item : Item) → Each (λ x. x.item.serial ≡ item.serial) (segments_of item)
-item_of_each item = Each-in _ (segments_of item) (λ x i. ap (λ (z : Item). z.serial) (is_segment_of item x i).item_is)
+item_of_each : (item : Item) → AllByRecursion (λ x. x.item.serial ≡ item.serial) (segments_of item)
+item_of_each item = AllByRecursion-in _ (segments_of item) (λ x i. ap (λ (z : Item). z.serial) (is_segment_of item x i).item_is)
 
 -- the segments of a new item stand behind all others
-pub places_given : (all : List Item) (before : List Segment) (item : Item) → item.serial ≡ length all → Numbered 0 all → Each (IsLogged all) before
+pub places_given : (all : List Item) (before : List Segment) (item : Item) → item.serial ≡ length all → Numbered 0 all → AllByRecursion (IsLogged all) before
     → last_places (before ++ segments_of item) ≡ last_places before ++ segments_of item
 places_given all before item e n h =
     let new : List Segment = segments_of item in
     last_places-append before new
     ∙ ap (λ l. filter (λ s. not (stands_in new s)) (last_places before) ++ l) (last_places_once new (once_numbers item 1 _))
-    ∙ ap (λ l. l ++ new) (filter_all (λ s. not (stands_in new s)) (last_places before) (Each-weaker _ _ (λ s k.
+    ∙ ap (λ l. l ++ new) (filter_all (λ s. not (stands_in new s)) (last_places before) (AllByRecursion-weaker _ _ (λ s k.
     let below = (serial_in 0 all s.item n k.item).1 in
-    ap not (none_of_item s item.serial new (omega arith) (item_of_each item))) (last_places before) (Each-last_places _ before h)))
+    ap not (none_of_item s item.serial new (omega arith) (item_of_each item))) (last_places before) (AllByRecursion-last_places _ before h)))
 
 -- an older piece is live behind a new item only where it was live before
 older_serial : (all : List Item) (item : Item) (clock moment serial : ℕ) (key : Key) → item.serial ≡ length all → clock ≤ moment → serial < length all
@@ -196,7 +196,7 @@ older_lives all item clock moment p e le lt h =
     (λ key k. older_serial all item clock moment p.serial key e le lt k) p.keys h
 
 -- the segments of new items stand behind all others
-pub places_given_all : (all : List Item) (before : List Segment) (new : List Item) → Numbered 0 all → Numbered (length all) new → Each (IsLogged all) before
+pub places_given_all : (all : List Item) (before : List Segment) (new : List Item) → Numbered 0 all → Numbered (length all) new → AllByRecursion (IsLogged all) before
     → last_places (before ++ flat_map segments_of new) ≡ last_places before ++ flat_map segments_of new
 places_given_all all before [] n m h = ap last_places (append-nil before) ∙ sym (append-nil (last_places before))
 places_given_all all before (item ∷ more) n m h =
@@ -205,9 +205,9 @@ places_given_all all before (item ∷ more) n m h =
     let size : length after ≡ length all + 1 = length-append all (item ∷ []) in
     let numbered : Numbered 0 after = Numbered-append 0 all (item ∷ []) n (m.0 ∙ sym (zero_less (length all)), tt) in
     let one : last_places (before ++ segments) ≡ last_places before ++ segments = places_given all before item m.0 n h in
-    let own : Each (IsLogged after) segments = subst (Each (IsLogged after)) (append-nil segments) (logged_new all (item ∷ [])) in
-    let logged_all : Each (IsLogged after) (before ++ segments) =
-    Each-append _ before segments (Each-weaker _ _ (logged_more all (item ∷ [])) before h) own
+    let own : AllByRecursion (IsLogged after) segments = subst (AllByRecursion (IsLogged after)) (append-nil segments) (logged_new all (item ∷ [])) in
+    let logged_all : AllByRecursion (IsLogged after) (before ++ segments) =
+    AllByRecursion-append _ before segments (AllByRecursion-weaker _ _ (logged_more all (item ∷ [])) before h) own
     in
     ap last_places (sym (append_assoc before segments (flat_map segments_of more)))
     ∙ places_given_all after (before ++ segments) more numbered (subst (λ k. Numbered k more) (sym size) m.1) logged_all
@@ -242,13 +242,13 @@ pub order_given : (table : LifeTable) (station : StationId) (moment : ℕ) (past
     ≡ places table station past ++ flat_map segments_of (made_items table station moment past update)
 order_given table station moment past update =
     ap last_places (log_given table station past moment update)
-    ∙ places_given_all (items table station past) (segments_in (log table station past)) (made_items table station moment past update)
+    ∙ places_given_all (items table station past) (touched_segments (log table station past)) (made_items table station moment past update)
     (numbered_items table station past) (numbered_new table station moment past update) (segments-logged table station past)
 
 -- what waits behind items that were given
 pub given_line : KeyLaws → (table : LifeTable) (station : StationId) (past : List Event) (moment : ℕ) (update : Update) (clock : ℕ) (old new : List Piece)
     → clock ≤ moment
-    → Each (λ p. p.serial < length (items table station past)) old
+    → AllByRecursion (λ p. p.serial < length (items table station past)) old
     → filter (live_by (latest_of (items table station past)) clock) old ≡ map piece_of (waiting_segments (items table station past) (log table station past) clock)
     → new ≡ old ++ map piece_of (flat_map segments_of (made_items table station moment past update))
     → filter (live_by (latest_of (items table station (accepted moment update ∷ past))) moment) new
@@ -262,8 +262,8 @@ given_line keys table station past moment update clock old new le low e n =
     let test : Piece → Bool = live_by (latest_of (all ++ made)) moment in
     let older : filter test old ≡ filter test (map piece_of (places table station past))
     = less_same (live_by (latest_of all) clock) test old (map piece_of (places table station past))
-    (Each-weaker _ _ (λ p lt. older_lives_all all made clock moment p numbered le lt) old low)
-    (Each-map _ piece_of (places table station past) (Each-weaker _ _ (λ s k.
+    (AllByRecursion-weaker _ _ (λ p lt. older_lives_all all made clock moment p numbered le lt) old low)
+    (AllByRecursion-map _ piece_of (places table station past) (AllByRecursion-weaker _ _ (λ s k.
     older_lives_all all made clock moment (piece_of s) numbered le (let b = serial_in 0 all s.item (numbered_items table station past) k.item in omega (arith, b.1))) (places table station past) (logged_places table station past)))
     (e ∙ waits_are keys table station past clock) in
     ap (filter test) n ∙ filter-append test old (map piece_of segments)

@@ -1,22 +1,23 @@
 -- Numbers that rise strictly: one is below all that stand behind it.
 use Rattle.std.proofs.Common.{◌≡◌, ℕ, zero, suc, ◌+◌, ◌<◌, Bool, true, ◌&&◌, nat_lt, nat_le, List, [], ◌∷◌, ◌++◌, inl, inr, arith}
+use Rattle.std.specs.List.{AllByRecursion}
 use Rattle.std.specs.List.Sorted.{IsStrictlyIncreasing}
 use Rattle.std.proofs.lemmas.Bool.{and_parts, ltb-true}
 use Rattle.list_members.specs.Membership.{IsIn}
 use Rattle.ground_core.specs.Refusal.{rise, rise_above}
-use Rattle.ground_core.proofs.ListLemmas.{Each, Each-weaker, Each-at}
+use Rattle.ground_core.proofs.ListLemmas.{AllByRecursion-weaker, AllByRecursion-back, AllByRecursion-at}
 
 abbrev pub Rises : List ℕ → Type 0
 Rises [] = Unit {0}
-Rises (n ∷ more) = Each (λ m. n < m) more × Rises more
+Rises (n ∷ more) = AllByRecursion (λ m. n < m) more × Rises more
 
-rises_above : (low : ℕ) (numbers : List ℕ) → rise_above low numbers ≡ true → Each (λ m. low < m) numbers × Rises numbers
+rises_above : (low : ℕ) (numbers : List ℕ) → rise_above low numbers ≡ true → AllByRecursion (λ m. low < m) numbers × Rises numbers
 rises_above low [] h = (tt, tt)
 rises_above low (n ∷ more) h =
     let both = and_parts (nat_lt low n) (rise_above n more) h in
     let rest = rises_above n more both.1 in
     let below : low < n = ltb-true low n both.0 in
-    ((below, Each-weaker (λ m. n < m) (λ m. low < m) (λ m h. omega arith) more rest.0), rest)
+    ((below, AllByRecursion-weaker (λ m. n < m) (λ m. low < m) (λ m h. omega arith) more rest.0), rest)
 
 pub rises : (numbers : List ℕ) → rise numbers ≡ true → Rises numbers
 rises [] h = tt
@@ -34,16 +35,12 @@ pub rises_behind : (front back : List ℕ) → Rises (front ++ back) → Rises b
 rises_behind [] back h = h
 rises_behind (n ∷ front) back h = rises_behind front back h.1
 
-each_behind : (P : ℕ → Type 0) (front back : List ℕ) → Each P (front ++ back) → Each P back
-each_behind P [] back h = h
-each_behind P (n ∷ front) back h = each_behind P front back h.1
-
 -- numbers at the front are below those behind
 pub below_behind : (front back : List ℕ) (m n : ℕ) → Rises (front ++ back) → IsIn m front → IsIn n back → m < n
 below_behind [] back m n h i j = absurd i
 below_behind (k ∷ front) back m n h i j = elim i [
   | inl e ↦ (
-      let above : k < n = Each-at (λ x. k < x) back n (each_behind (λ x. k < x) front back h.0) j in
+      let above : k < n = AllByRecursion-at (λ x. k < x) back n (AllByRecursion-back (λ x. k < x) front back h.0) j in
       let same : m ≡ k = e in
       omega arith)
   | inr more ↦ below_behind front back m n h.1 more j

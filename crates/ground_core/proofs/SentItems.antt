@@ -55,8 +55,8 @@ AreSent [] (item ∷ items) = ⊥
 AreSent (spec ∷ specs) [] = ⊥
 AreSent (spec ∷ specs) (item ∷ items) = IsSent spec item × AreSent specs items
 
-abbrev latest_with : ℕ → ℕ → ℕ → Latest
-latest_with version serial until = record { version = version; serial = serial; until = until }
+abbrev latest_of_parts : ℕ → ℕ → ℕ → Latest
+latest_of_parts version serial until = record { version = version; serial = serial; until = until }
 
 is_sent : (table : LifeTable) (station : StationId) (moment : ℕ) (before : List Item) (w : Weather) (serial count : ℕ) (item : SentItem)
     → IsGiven table before moment w → AreCounted before → serial ≡ length before
@@ -83,9 +83,9 @@ is_sent table station moment before w serial count item g h s e i =
     = item.counted ∙ ap (λ f. length (of_file.parts f item.payload)) i.form ∙ ap (λ b. length (of_file.parts w.form b)) i.payload in
     record {
       keys = i.keys;
-      latest = ap (λ x. latest_with x item.serial item.until) i.version_is
-          ∙ ap (λ x. latest_with w.version x item.until) own
-          ∙ ap (λ x. latest_with w.version (length before) x) i.until;
+      latest = ap (λ x. latest_of_parts x item.serial item.until) i.version_is
+          ∙ ap (λ x. latest_of_parts w.version x item.until) own
+          ∙ ap (λ x. latest_of_parts w.version (length before) x) i.until;
       files_same = λ v p. ap (λ b. b && (item.version == v) && (item.product == p)) segmented
           ∙ ap (λ n. is_segmented w && (n == v) && (item.product == p)) i.version_is
           ∙ ap (λ n. is_segmented w && (w.version == v) && (n == p)) i.product;

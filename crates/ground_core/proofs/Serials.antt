@@ -1,6 +1,6 @@
 -- Items are numbered by their place, and what is logged are segments of items that were given.
 use Rattle.std.proofs.Common.{◌≡◌, ℕ, ◌+◌, ◌-◌, ◌<◌, ◌≤◌, Bool, true, false, not, ◌&&◌, ◌==◌, nat_lt, nat_le, if◌then◌else◌, List, [], ◌∷◌, ◌++◌, length, map, flat_map, Option, Some, None, refl, sym, ap, subst, ◌∙◌, inl, inr, arith, length-append}
-use Rattle.std.specs.List.{list_any}
+use Rattle.std.specs.List.{AllByRecursion, list_any}
 use Rattle.std.proofs.Math.Bool.{and-false}
 use Rattle.std.proofs.lemmas.Bool.{cases_Bool, lt-ltb}
 use Rattle.std.proofs.lemmas.Bool.Decides.{nat_tests}
@@ -21,9 +21,9 @@ use Rattle.ground_core.specs.Airing.{Touch, touch, log, airing, waiting_segments
 use Rattle.ground_core.specs.Piece.{Latest, piece_of, lives_as, live_by}
 use Rattle.ground_core.specs.StandsFor.{latest_after, latest_of, latest_of_item}
 use Rattle.ground_core.proofs.KeyLemmas.{KeyLaws}
-use Rattle.ground_core.proofs.ListLemmas.{Each, Each-append, Each-weaker, Each-filter, Each-in, list_any-map}
+use Rattle.ground_core.proofs.ListLemmas.{AllByRecursion-append, AllByRecursion-weaker, AllByRecursion-filter, AllByRecursion-in, list_any-map}
 use Rattle.ground_core.proofs.Segments.{is_segment_of}
-use Rattle.ground_core.proofs.Order.{last_places, segments_in, stands_in, waiting_is}
+use Rattle.ground_core.proofs.Order.{last_places, touched_segments, stands_in, waiting_is}
 
 abbrev pub Numbered : ℕ → List Item → Type 0
 Numbered n [] = Unit {0}
@@ -68,8 +68,8 @@ pub record IsLogged (all : List Item) (s : Segment) : Type 0 where
 pub logged_more : (all more : List Item) (s : Segment) → IsLogged all s → IsLogged (all ++ more) s
 logged_more all more s h = record { item = IsIn-before s.item all more h.item; of_item = h.of_item }
 
-pub logged_new : (all new : List Item) → Each (IsLogged (all ++ new)) (flat_map segments_of new)
-logged_new all new = Each-in _ (flat_map segments_of new) (λ s i.
+pub logged_new : (all new : List Item) → AllByRecursion (IsLogged (all ++ new)) (flat_map segments_of new)
+logged_new all new = AllByRecursion-in _ (flat_map segments_of new) (λ s i.
     let w = in_flat_map segments_of s new i in
     let same : s.item ≡ w.0 = (is_segment_of w.0 s w.2).item_is in
     record {
@@ -78,61 +78,61 @@ logged_new all new = Each-in _ (flat_map segments_of new) (λ s i.
     })
 
 pub segments_of_touches :
-    (is_airing : Bool) (moment : ℕ) (xs : List Segment) → segments_in (map (touch is_airing moment) xs) ≡ xs
+    (is_airing : Bool) (moment : ℕ) (xs : List Segment) → touched_segments (map (touch is_airing moment) xs) ≡ xs
 segments_of_touches is_airing moment [] = refl
 segments_of_touches is_airing moment (x ∷ xs) = ap (λ l. x ∷ l) (segments_of_touches is_airing moment xs)
 
-pub Each-last_places : (P : Segment → Type 0) (xs : List Segment) → Each P xs → Each P (last_places xs)
-Each-last_places P [] h = tt
-Each-last_places P (x ∷ xs) h = elim (cases_Bool (stands_in xs x)) [
-  | inl t ↦ rw t (Each-last_places P xs h.1)
-  | inr f ↦ rw f (h.0, Each-last_places P xs h.1)
+pub AllByRecursion-last_places : (P : Segment → Type 0) (xs : List Segment) → AllByRecursion P xs → AllByRecursion P (last_places xs)
+AllByRecursion-last_places P [] h = tt
+AllByRecursion-last_places P (x ∷ xs) h = elim (cases_Bool (stands_in xs x)) [
+  | inl t ↦ rw t (AllByRecursion-last_places P xs h.1)
+  | inr f ↦ rw f (h.0, AllByRecursion-last_places P xs h.1)
 ]
 
-pub Each-fitting : (P : Segment → Type 0) (room : ℕ) (xs : List Segment) → Each P xs → Each P (longest_fitting room xs)
-Each-fitting P room [] h = tt
-Each-fitting P room (x ∷ xs) h = elim (cases_Bool (nat_le (room_of x) room)) [
-  | inl t ↦ rw t (h.0, Each-fitting P (room - room_of x) xs h.1)
+pub AllByRecursion-fitting : (P : Segment → Type 0) (room : ℕ) (xs : List Segment) → AllByRecursion P xs → AllByRecursion P (longest_fitting room xs)
+AllByRecursion-fitting P room [] h = tt
+AllByRecursion-fitting P room (x ∷ xs) h = elim (cases_Bool (nat_le (room_of x) room)) [
+  | inl t ↦ rw t (h.0, AllByRecursion-fitting P (room - room_of x) xs h.1)
   | inr f ↦ rw f tt
 ]
 
 -- the segments that an event adds
 pub log_given : (table : LifeTable) (station : StationId) (past : List Event) (moment : ℕ) (update : Update)
-    → segments_in (log table station (accepted moment update ∷ past))
-    ≡ segments_in (log table station past) ++ flat_map segments_of (new_items table station (items table station past) (accepted moment update))
+    → touched_segments (log table station (accepted moment update ∷ past))
+    ≡ touched_segments (log table station past) ++ flat_map segments_of (new_items table station (items table station past) (accepted moment update))
 log_given table station past moment update =
     let new : List Segment = flat_map segments_of (new_items table station (items table station past) (accepted moment update)) in
     map-append (λ (t : Touch). t.segment) (log table station past) (map (touch false moment) new)
-    ∙ ap (λ l. segments_in (log table station past) ++ l) (segments_of_touches false moment new)
+    ∙ ap (λ l. touched_segments (log table station past) ++ l) (segments_of_touches false moment new)
 
 pub log_filled : (table : LifeTable) (station : StationId) (past : List Event) (moment slot : ℕ)
-    → segments_in (log table station (fill moment slot ∷ past))
-    ≡ segments_in (log table station past) ++ airing (items table station past) (log table station past) moment
+    → touched_segments (log table station (fill moment slot ∷ past))
+    ≡ touched_segments (log table station past) ++ airing (items table station past) (log table station past) moment
 log_filled table station past moment slot =
     let new : List Segment = airing (items table station past) (log table station past) moment in
     map-append (λ (t : Touch). t.segment) (log table station past) (map (touch true moment) new)
-    ∙ ap (λ l. segments_in (log table station past) ++ l) (segments_of_touches true moment new)
+    ∙ ap (λ l. touched_segments (log table station past) ++ l) (segments_of_touches true moment new)
 
-pub Each-waiting : (P : Segment → Type 0) (all : List Item) (touched : List Touch) (moment : ℕ) → Each P (segments_in touched) → Each P (waiting_segments all touched moment)
-Each-waiting P all touched moment h = subst (Each P) (sym (waiting_is all touched moment))
-    (Each-filter P (λ s. is_live all moment s.item) _ (Each-last_places P (segments_in touched) h))
+pub AllByRecursion-waiting : (P : Segment → Type 0) (all : List Item) (touched : List Touch) (moment : ℕ) → AllByRecursion P (touched_segments touched) → AllByRecursion P (waiting_segments all touched moment)
+AllByRecursion-waiting P all touched moment h = subst (AllByRecursion P) (sym (waiting_is all touched moment))
+    (AllByRecursion-filter P (λ s. is_live all moment s.item) _ (AllByRecursion-last_places P (touched_segments touched) h))
 
 pub segments-logged : (table : LifeTable) (station : StationId) (history : List Event)
-    → Each (IsLogged (items table station history)) (segments_in (log table station history))
+    → AllByRecursion (IsLogged (items table station history)) (touched_segments (log table station history))
 segments-logged table station [] = tt
 segments-logged table station (accepted moment update ∷ past) =
     let all : List Item = items table station past in
     let new : List Item = new_items table station all (accepted moment update) in
-    subst (Each (IsLogged (all ++ new))) (sym (log_given table station past moment update))
-    (Each-append _ (segments_in (log table station past)) (flat_map segments_of new)
-    (Each-weaker _ _ (logged_more all new) _ (segments-logged table station past)) (logged_new all new))
+    subst (AllByRecursion (IsLogged (all ++ new))) (sym (log_given table station past moment update))
+    (AllByRecursion-append _ (touched_segments (log table station past)) (flat_map segments_of new)
+    (AllByRecursion-weaker _ _ (logged_more all new) _ (segments-logged table station past)) (logged_new all new))
 segments-logged table station (fill moment slot ∷ past) =
     let all : List Item = items table station past in
     let before = segments-logged table station past in
-    subst (Each (IsLogged (all ++ []))) (sym (log_filled table station past moment slot))
-    (Each-weaker _ _ (logged_more all []) _
-    (Each-append _ (segments_in (log table station past)) _ before
-    (Each-fitting _ frame_room _ (Each-waiting _ all (log table station past) moment before))))
+    subst (AllByRecursion (IsLogged (all ++ []))) (sym (log_filled table station past moment slot))
+    (AllByRecursion-weaker _ _ (logged_more all []) _
+    (AllByRecursion-append _ (touched_segments (log table station past)) _ before
+    (AllByRecursion-fitting _ frame_room _ (AllByRecursion-waiting _ all (log table station past) moment before))))
 
 abbrev has_serial : ℕ → Option Latest → Bool
 has_serial serial None = false
@@ -183,7 +183,7 @@ EndsAs serial until None = Unit {0}
 EndsAs serial until (Some latest) = latest.serial ≡ serial → latest.until ≡ until
 
 ends_as : (serial until : ℕ) (key : Key) (all : List Item) (before : Option Latest)
-    → Each (λ o. o.serial ≡ serial → end_of o.weather ≡ until) all → EndsAs serial until before → EndsAs serial until (latest_after key all before)
+    → AllByRecursion (λ o. o.serial ≡ serial → end_of o.weather ≡ until) all → EndsAs serial until before → EndsAs serial until (latest_after key all before)
 ends_as serial until key [] before h e = e
 ends_as serial until key (o ∷ more) before h e =
     ends_as serial until key more (if has_key key o then Some (latest_of_item o) else before) h.1
@@ -226,7 +226,7 @@ pub live_same : KeyLaws → (all : List Item) (moment : ℕ) (s : Segment) → N
     → live_by (latest_of all) moment (piece_of s) ≡ is_live all moment s.item
 live_same keys all moment s h i =
     let until : ℕ = end_of s.item.weather in
-    let ends = Each-in (λ o. o.serial ≡ s.item.serial → end_of o.weather ≡ until) all (λ o j e.
+    let ends = AllByRecursion-in (λ o. o.serial ≡ s.item.serial → end_of o.weather ≡ until) all (λ o j e.
     ap (λ (x : Item). end_of x.weather) (one_serial 0 all o s.item h j i e)) in
     list_any-map (λ key. lives_as moment s.item.serial (latest_of all key)) (λ (entry : Entry). entry.key) s.item.weather.entries
     ∙ list_any_same _ (λ entry. nat_lt moment until && is_newest_for all s.item entry.key) s.item.weather.entries

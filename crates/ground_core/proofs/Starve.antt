@@ -1,5 +1,6 @@
 -- A segment that waits comes nearer to the front with each fill.
 use Rattle.std.proofs.Common.{◌≡◌, ℕ, ◌+◌, ◌-◌, ◌*◌, ◌/◌, ◌<◌, ◌≤◌, ◌⊎◌, Bool, true, nat_lt, nat_le, cond, if◌then◌else◌, List, [], ◌∷◌, ◌++◌, length, filter, flat_map, refl, sym, ap, subst, ◌∙◌, inl, inr, arith, append_assoc}
+use Rattle.std.specs.List.{AllByRecursion}
 use Rattle.std.proofs.lemmas.Bool.{cases_Bool, leb-true, leb-false, le-leb, lt-ltb, ltb-true, and_parts, and_from}
 use Rattle.std.proofs.lemmas.List.Elements.{filter-append}
 use Rattle.list_members.specs.Membership.{IsIn}
@@ -17,9 +18,9 @@ use Rattle.ground_core.specs.Airing.{log, longest_fitting, is_live}
 use Rattle.ground_core.specs.Broadcast.{IsHistory, IsNotBeforeLast}
 use Rattle.ground_core.specs.Starving.{bytes_of, waiting_after, fills, WaitsStill, AreFrom, NoStarvation}
 use Rattle.ground_core.proofs.KeyLemmas.{KeyLaws}
-use Rattle.ground_core.proofs.ListLemmas.{Each, Each-weaker, Each-all, Each-at, filter_less}
-use Rattle.ground_core.proofs.Order.{last_places, segments_in, waiting_is}
-use Rattle.ground_core.proofs.Serials.{Numbered, numbered_items, serial_in, IsLogged, segments-logged, logged_more, Each-waiting, live_same}
+use Rattle.ground_core.proofs.ListLemmas.{AllByRecursion-weaker, AllByRecursion-all, AllByRecursion-at, filter_less}
+use Rattle.ground_core.proofs.Order.{last_places, touched_segments, waiting_is}
+use Rattle.ground_core.proofs.Serials.{Numbered, numbered_items, serial_in, IsLogged, segments-logged, logged_more, AllByRecursion-waiting, live_same}
 use Rattle.ground_core.proofs.Segments.{is_segment_of}
 use Rattle.ground_core.proofs.Queue.{segments_left, fitting_left, waiting_filled, older_lives_all, logged_places, made_items, numbered_new, order_given}
 
@@ -132,17 +133,17 @@ nothing : (b : Segment) (before : List Segment) → b ∷ before ≡ [] → ⊥
 nothing b before h = cc
 
 -- a fill without the segment brings it nearer
-placed-filled : (count bytes : ℕ) (s : Segment) (line : List Segment) → Each (λ x. room_of x ≤ 424) line → (IsIn s (longest_fitting 424 line) → ⊥)
+placed-filled : (count bytes : ℕ) (s : Segment) (line : List Segment) → AllByRecursion (λ x. room_of x ≤ 424) line → (IsIn s (longest_fitting 424 line) → ⊥)
     → IsPlaced count bytes s line → IsPlaced (count + 1) bytes s (segments_left 424 line)
 placed-filled count bytes s line fits absent h = go h.before refl where
   go : (before : List Segment) → before ≡ h.before → IsPlaced (count + 1) bytes s (segments_left 424 line)
   go [] e =
       let line_is : line ≡ s ∷ h.after = h.line_is ∙ ap (λ b. b ++ s ∷ h.after) (sym e) in
-      let first = (subst (Each (λ x. room_of x ≤ 424)) line_is fits).0 in
+      let first = (subst (AllByRecursion (λ x. room_of x ≤ 424)) line_is fits).0 in
       absurd (absent (subst (λ l. IsIn s (longest_fitting 424 l)) (sym line_is) (subst (IsIn s) (sym (head_fits 424 s h.after first)) (inl refl))))
   go (b ∷ before) e =
       let line_is : line ≡ (b ∷ before) ++ s ∷ h.after = h.line_is ∙ ap (λ l. l ++ s ∷ h.after) (sym e) in
-      let first = (subst (Each (λ x. room_of x ≤ 424)) line_is fits).0 in
+      let first = (subst (AllByRecursion (λ x. room_of x ≤ 424)) line_is fits).0 in
       let taken : longest_fitting 424 line ≡ b ∷ longest_fitting (424 - room_of b) (before ++ s ∷ h.after) = ap (longest_fitting 424) line_is ∙ head_fits 424 b (before ++ s ∷ h.after) first in
       let more : room_of b ≤ bytes_of (longest_fitting 424 line) = subst (λ l. room_of b ≤ bytes_of l) (sym taken) (omega arith) in
       let f = front_before (longest_fitting 424 line) (segments_left 424 line) (b ∷ before) s h.after (sym line_is ∙ fitting_left 424 line) absent in
@@ -174,9 +175,9 @@ fits_frame fit all s h =
     let fits = (fit file s.number number.least number.most).fits in
     omega (arith, fits)
 
-rooms_fit : PartsFitFrames → (table : LifeTable) (station : StationId) (history : List Event) (moment : ℕ) → Each (λ x. room_of x ≤ 424) (waiting_after table station history moment)
-rooms_fit fit table station history moment = Each-waiting (λ x. room_of x ≤ 424) (items table station history) (log table station history) moment
-    (Each-weaker _ _ (λ s h. fits_frame fit (items table station history) s h) (segments_in (log table station history)) (segments-logged table station history))
+rooms_fit : PartsFitFrames → (table : LifeTable) (station : StationId) (history : List Event) (moment : ℕ) → AllByRecursion (λ x. room_of x ≤ 424) (waiting_after table station history moment)
+rooms_fit fit table station history moment = AllByRecursion-waiting (λ x. room_of x ≤ 424) (items table station history) (log table station history) moment
+    (AllByRecursion-weaker _ _ (λ s h. fits_frame fit (items table station history) s h) (touched_segments (log table station history)) (segments-logged table station history))
 
 live_earlier : (all : List Item) (clock moment : ℕ) (item : Item) → clock ≤ moment → is_live all moment item ≡ true → is_live all clock item ≡ true
 live_earlier all clock moment item le h =
@@ -189,8 +190,8 @@ waiting_later : (table : LifeTable) (station : StationId) (history : List Event)
 waiting_later table station history clock moment le =
     let all : List Item = items table station history in
     waiting_is all (log table station history) moment
-    ∙ sym (filter_less (λ s. is_live all clock s.item) (λ s. is_live all moment s.item) (last_places (segments_in (log table station history)))
-    (Each-all _ (λ s h. live_earlier all clock moment s.item le h) _))
+    ∙ sym (filter_less (λ s. is_live all clock s.item) (λ s. is_live all moment s.item) (last_places (touched_segments (log table station history)))
+    (AllByRecursion-all _ (λ s h. live_earlier all clock moment s.item le h) _))
     ∙ ap (filter (λ s. is_live all moment s.item)) (sym (waiting_is all (log table station history) clock))
 
 -- an older item is live behind new ones only where it was live before
@@ -208,13 +209,13 @@ waiting_given : KeyLaws → (table : LifeTable) (station : StationId) (history :
 waiting_given keys table station history given moment update =
     let all : List Item = items table station history in
     let after : List Event = accepted given update ∷ history in
-    let before : List Segment = segments_in (log table station history) in
+    let before : List Segment = touched_segments (log table station history) in
     let segments : List Segment = flat_map segments_of (made_items table station given history update) in
     let numbered = numbered_items table station history in
     let live : Segment → Bool = λ s. is_live (items table station after) moment s.item in
     let less : filter live (filter (λ s. is_live all moment s.item) (last_places before)) ≡ filter live (last_places before)
     = filter_less (λ s. is_live all moment s.item) live (last_places before)
-    (Each-weaker _ _ (λ s h. live_before keys all (made_items table station given history update) moment s numbered
+    (AllByRecursion-weaker _ _ (λ s h. live_before keys all (made_items table station given history update) moment s numbered
     (numbered_new table station given history update) (numbered_items table station after) h) (last_places before) (logged_places table station history)) in (
       filter live segments,
       waiting_is (items table station after) (log table station after) moment
@@ -288,5 +289,5 @@ run told keys fit table station past (fill now slot ∷ later) at s before after
 pub no_starvation : StationsAreTold → KeyLaws → PartsFitFrames → NoStarvation
 no_starvation told keys fit table station past later at s before after h f e w =
     let here : IsIn s (waiting_after table station past at) = subst (IsIn s) (sym e) (IsIn-after s before (s ∷ after) (inl refl)) in
-    let l = Each-at _ (waiting_after table station past at) s (Each-waiting _ (items table station past) (log table station past) at (segments-logged table station past)) here in
+    let l = AllByRecursion-at _ (waiting_after table station past at) s (AllByRecursion-waiting _ (items table station past) (log table station past) at (segments-logged table station past)) here in
     run told keys fit table station past later at s before after h f l e w

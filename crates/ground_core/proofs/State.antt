@@ -26,9 +26,9 @@ use Rattle.ground_core.specs.Views.{latest_at, count_at, pieces_in}
 use Rattle.ground_core.specs.declared.item.SentItem.{SentItem}
 use Rattle.ground_core.specs.declared.ground.Ground.{Ground}
 use Rattle.ground_core.proofs.Kept.{kept_later, kept_then, live_kept}
-use Rattle.ground_core.proofs.ListLemmas.{Each-in, Each-at}
+use Rattle.ground_core.proofs.ListLemmas.{AllByRecursion-in, AllByRecursion-at}
 use Rattle.ground_core.proofs.KeyLemmas.{KeyLaws}
-use Rattle.ground_core.proofs.Order.{segments_in}
+use Rattle.ground_core.proofs.Order.{touched_segments}
 use Rattle.ground_core.proofs.Serials.{segments-logged, log_given, log_filled, numbered_items, serial_in, latest_after-append}
 use Rattle.ground_core.proofs.Numbers.{filed_items, items-counted}
 use Rattle.ground_core.proofs.Versions.{GroundLaws, one_life, given_version_is, refusal_alike}
@@ -198,7 +198,7 @@ give_stands table laws station history moment update old new items_put s e m acc
     (after_kept key moment made (latest_of all key) (latest_at old.newest key) (kept_at table station history moment old s le key))) in
     let pieces : pieces_in new.line ≡ pieces_in old.line ++ map piece_of (flat_map segments_of made)
     = p.line ∙ ap (λ l. pieces_in old.line ++ l) (pieces_same made items_put sent) in
-    let logs : segments_in (log table station after) ≡ segments_in (log table station history) ++ flat_map segments_of made
+    let logs : touched_segments (log table station after) ≡ touched_segments (log table station history) ++ flat_map segments_of made
     = log_given table station history moment update in
     record {
       is_history = (record { is_accepted = accept; moment_is = m; not_before = not_before history moment e }, s.is_history);
@@ -226,9 +226,9 @@ give_stands table laws station history moment update old new items_put s e m acc
       ];
       line_is = ap (λ f. filter f (pieces_in new.line)) (live_kept moment (latest_of (items table station after)) (latest_at new.newest) newest)
           ∙ given_line keys table station history moment update (history_moment history) (pieces_in old.line) (pieces_in new.line) le
-          (Each-in _ (pieces_in old.line) (λ q k.
+          (AllByRecursion-in _ (pieces_in old.line) (λ q k.
           let o = s.of_log q k in
-          let l = Each-at _ _ o.segment (segments-logged table station history) o.given in
+          let l = AllByRecursion-at _ _ o.segment (segments-logged table station history) o.given in
           let b = serial_in 0 all o.segment.item (numbered_items table station history) l.item in
           let z : q.serial ≡ o.segment.item.serial = ap (λ (x : Piece). x.serial) o.piece_is in
           omega (arith, b.1, z)))

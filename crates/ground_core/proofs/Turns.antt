@@ -4,7 +4,7 @@ use Rattle.std.specs.List.{range_with_len}
 use Rattle.std.proofs.lemmas.Bool.{cases_Bool, leb-true}
 use Rattle.std.proofs.lemmas.List.{map-append, length-map, length-take, nil_from_length, take-append-le}
 use Rattle.std.proofs.lemmas.List.FromFn.{map-range_with_len_more}
-use Rattle.std.proofs.lemmas.List.Elements.{filter-append}
+use Rattle.std.proofs.lemmas.List.Elements.{filter-append, filter_passes, recursion_from_All}
 use Rattle.list_members.specs.Membership.{IsIn}
 use Rattle.list_members.specs.Members.{IsIn-before, IsIn-after, IsIn-either, IsIn-from_filter}
 use Rattle.list_members.specs.ListMembers.{heads}
@@ -14,7 +14,7 @@ use Rattle.ground_core.specs.Turn.{HasFront, IsDropped, IsFrontAired, IsTooLong,
 use Rattle.ground_core.specs.Views.{place_view, piece_at}
 use Rattle.ground_core.specs.declared.item.SentItem.{SentItem}
 use Rattle.ground_core.specs.declared.place.Place.{Place}
-use Rattle.ground_core.proofs.ListLemmas.{filter_all, filter_passes}
+use Rattle.ground_core.proofs.ListLemmas.{filter_all}
 
 pub front_of : (xs : List Place) (x : Place) → 0 < length xs → x ≡ get_or xs 0 x → xs ≡ x ∷ drop 1 xs
 front_of [] x lt e = absurd (omega arith)
@@ -205,7 +205,8 @@ turns-done live start turns frames now aired h none =
       frames_are = h.sent ∙ ap (map frame_of) (sym fitting);
       few = omega (arith, h.few, h.room);
       line = ap (filter live) h.line ∙ filter-append live h.ahead (filter live h.seen)
-          ∙ ap (λ l. filter live h.ahead ++ l) (filter_all live (filter live h.seen) (filter_passes live h.seen))
+          ∙ ap (λ l. filter live h.ahead ++ l) (filter_all live (filter live h.seen)
+          (recursion_from_All (λ s. live s ≡ true) (filter live h.seen) (filter_passes live h.seen)))
           ∙ ap (λ l. l ++ filter live h.seen) (sym left) ∙ ap (λ l. left_pieces 424 (filter live start) ++ l) (sym fitting);
       among = λ p i. subst (IsIn p) (sym h.start_is) (elim (IsIn-either p h.ahead (filter live h.seen) (subst (IsIn p) h.line i)) [
         | inl a ↦ IsIn-after p h.seen h.ahead a

@@ -1,5 +1,6 @@
 -- The last item with a key has the greatest version of the key, and what is kept tells the first reason against an update.
 use Rattle.std.proofs.Common.{◌≡◌, ℕ, ◌+◌, ◌<◌, ◌≤◌, Bool, true, false, not, ◌||◌, ◌&&◌, ◌==◌, nat_lt, nat_le, max, fold, cond, if◌then◌else◌, IsTrue, List, [], ◌∷◌, ◌++◌, length, map, filter, Option, Some, None, is_none, unwrap_or, Result, Ok, Err, refl, sym, ap, subst, ◌∙◌, inl, inr, arith, append-nil}
+use Rattle.std.specs.List.{AllByRecursion}
 use Rattle.std.specs.Str.{chars}
 use Rattle.std.proofs.lemmas.Bool.{cases_Bool, leb-false, eqb-true}
 use Rattle.std.proofs.lemmas.Bool.Decides.{nat_tests}
@@ -33,7 +34,7 @@ use Rattle.ground_core.specs.Piece.{Latest, IsLastOrEnded}
 use Rattle.ground_core.specs.StandsFor.{latest_of, latest_of_item}
 use Rattle.ground_core.specs.Told.{latest_version, latest_versions, count_refusal, weather_refusal_by, key_refusal_by, refusal_by}
 use Rattle.ground_core.proofs.KeyLemmas.{KeyLaws}
-use Rattle.ground_core.proofs.ListLemmas.{Each, Each-in}
+use Rattle.ground_core.proofs.ListLemmas.{AllByRecursion-in}
 use Rattle.ground_core.proofs.Given.{text_weather, by_row_is}
 use Rattle.ground_core.proofs.Induction.{GoesOn, by_items}
 use Rattle.ground_core.proofs.Serials.{latest_push}
@@ -46,11 +47,11 @@ pub record GroundLaws (table : LifeTable) : Type 0 where
   pub is_table : IsTable table
   pub lives : (product version : ℕ) (payload : List ℕ) → HaveLife (life_of table) (payload_entries table product version payload)
 
-fold-max : (bound m : ℕ) (ms : List ℕ) → m < bound → Each (λ n. n < bound) ms → fold max m ms < bound
+fold-max : (bound m : ℕ) (ms : List ℕ) → m < bound → AllByRecursion (λ n. n < bound) ms → fold max m ms < bound
 fold-max bound m [] lt h = lt
 fold-max bound m (n ∷ ms) lt h = let below = h.0 in fold-max bound (max m n) ms (omega arith) h.1
 
-greatest_of-push : (ns : List ℕ) (n : ℕ) → Each (λ m. m < n) ns → greatest_of (ns ++ n ∷ []) ≡ Some n
+greatest_of-push : (ns : List ℕ) (n : ℕ) → AllByRecursion (λ m. m < n) ns → greatest_of (ns ++ n ∷ []) ≡ Some n
 greatest_of-push [] n h = refl
 greatest_of-push (m ∷ ms) n h =
     let lt : fold max m ms < n = fold-max n m ms h.0 h.1 in
@@ -59,8 +60,8 @@ greatest_of-push (m ∷ ms) n h =
 
 -- versions of earlier items with a key
 below_all : (version : ℕ) (key : Key) (all : List Item) → ((i : Item) → IsIn i all → has_key key i ≡ true → i.weather.version < version)
-    → Each (λ n. n < version) (map (λ i. i.weather.version) (filter (has_key key) all))
-below_all version key all h = Each-in (λ n. n < version) _ (λ n i.
+    → AllByRecursion (λ n. n < version) (map (λ i. i.weather.version) (filter (has_key key) all))
+below_all version key all h = AllByRecursion-in (λ n. n < version) _ (λ n i.
     let from = in_map (λ (x : Item). x.weather.version) n (filter (has_key key) all) i in
     let was = IsIn-from_filter (has_key key) from.0 all from.1 in
     subst (λ m. m < version) (sym from.2) (h from.0 was.0 was.1))
@@ -180,7 +181,7 @@ pub record Keeps (table : LifeTable) (before : List Item) (moment : ℕ) (latest
 
 -- the same for the keys of an update, which have one life
 ages_alike : (table : LifeTable) (before : List Item) (moment version life : ℕ) (latest : Key → Option Latest) (count : ℕ → ℕ → ℕ) (keys : List Key) (later : Option GiveRefusal)
-    → Keeps table before moment latest count → moment < version + life → Each (λ key. life_of table key ≡ life) keys
+    → Keeps table before moment latest count → moment < version + life → AllByRecursion (λ key. life_of table key ≡ life) keys
     → age_refusal version (latest_versions latest keys) later ≡ age_refusal version (given_versions before keys) later
 ages_alike table before moment version life latest count [] later k lt h = refl
 ages_alike table before moment version life latest count (key ∷ more) later k lt h =
@@ -256,17 +257,17 @@ key_alike table before moment version chars (Ok key) latest count law k ek =
 
 -- of radar, whose keys are all of its product
 radar_alike : (table : LifeTable) (before : List Item) (moment version product : ℕ) (named : Bool) (row : Option RadarRow) (latest : Key → Option Latest) (count : ℕ → ℕ → ℕ) (keys : List Key)
-    → Keeps table before moment latest count → radar_row table product ≡ row → Each (λ key. life_of table key ≡ life_of_radar (radar_row table product)) keys
+    → Keeps table before moment latest count → radar_row table product ≡ row → AllByRecursion (λ key. life_of table key ≡ life_of_radar (radar_row table product)) keys
     → radar_refusal moment version named (latest_versions latest keys) row ≡ radar_refusal moment version named (given_versions before keys) row
 radar_alike table before moment version product named None latest count keys k e own = refl
 radar_alike table before moment version product named (Some row) latest count keys k e own =
     if_alike (not named) (Some bad_block) _ _ (λ _.
     version_alike moment (timing row.form version row.life) (latest_versions latest keys) (given_versions before keys) None None (λ lt.
     ages_alike table before moment version row.life latest count keys None k lt
-    (subst (λ n. Each (λ key. life_of table key ≡ n) keys) (ap life_of_radar e) own)))
+    (subst (λ n. AllByRecursion (λ key. life_of table key ≡ n) keys) (ap life_of_radar e) own)))
 
 numbers_own : (table : LifeTable) (product scale : ℕ) (south : Bool) (numbers : List ℕ)
-    → Each (λ key. life_of table key ≡ life_of_radar (radar_row table product)) (map (λ n. radar_block (block_key product scale south n)) numbers)
+    → AllByRecursion (λ key. life_of table key ≡ life_of_radar (radar_row table product)) (map (λ n. radar_block (block_key product scale south n)) numbers)
 numbers_own table product scale south [] = tt
 numbers_own table product scale south (n ∷ more) = (refl, numbers_own table product scale south more)
 

@@ -21,7 +21,8 @@ use Rattle.ground_core.specs.declared.fault.FillFault.{FillFault}
 use Rattle.ground_core.specs.declared.fault.FillFault.TheVariants.{Clock as FillClock}
 use Rattle.ground_core.specs.declared.fault.GiveFault.{GiveFault}
 use Rattle.ground_core.specs.declared.fault.GiveFault.TheVariants.{Clock, BadText, FewWords}
-use Rattle.ground_core.specs.declared.fault.GiveFault.TheVariants.{Unlisted, BadBlock, Coarse, Ahead}
+use Rattle.ground_core.specs.declared.fault.GiveFault.TheVariants.{Unlisted, BadBlock, Coarse}
+use Rattle.ground_core.specs.declared.fault.GiveFault.TheVariants.{Ahead}
 use Rattle.ground_core.specs.declared.fault.GiveFault.TheVariants.{Expired, NotNewer, NoFile}
 use Rattle.ground_core.specs.declared.fault.GiveFault.TheVariants.{NoMemory}
 

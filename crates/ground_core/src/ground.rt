@@ -103,7 +103,8 @@ impl Ground {
     ) -> Result<(), GiveFault>
         requires { length text.now < 2 ^ 32 }
 
-        // For every history that the object stands for: an accepted text is one more update, which nothing stood against.
+        // For every history that the object stands for: an accepted text is one more update, which
+        // nothing stood against.
         ensures accepted { (table : Table) (station : Place) (history : List Event)
             → StandsFor table station self.old history
             → OnOk result (StandsFor table station self.new (accepted moment
@@ -149,7 +150,8 @@ impl Ground {
         key: &BlockKey,
         cells: &Cells,
     ) -> Result<(), GiveFault>
-        // For every history that the object stands for: accepted cells are one more update, which nothing stood against.
+        // For every history that the object stands for: accepted cells are one more update, which
+        // nothing stood against.
         ensures accepted { (table : Table) (station : Place) (history : List Event)
             → StandsFor table station self.old history
             → OnOk result (StandsFor table station self.new (accepted moment
@@ -200,7 +202,8 @@ impl Ground {
         south: bool,
         numbers: &[u32],
     ) -> Result<(), GiveFault>
-        // For every history that the object stands for: accepted blocks are one more update, which nothing stood against.
+        // For every history that the object stands for: accepted blocks are one more update, which
+        // nothing stood against.
         ensures accepted { (table : Table) (station : Place) (history : List Event)
             → StandsFor table station self.old history
             → OnOk result (StandsFor table station self.new (accepted moment

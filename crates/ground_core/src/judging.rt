@@ -1,6 +1,7 @@
 //! Whether an update may be given: each reason against it.
 ghost use Rattle.std.specs.Prelude.{◌≡◌, ℕ, ◌+◌, ◌≤◌, ◌<◌, ◌^◌, ◌∷◌, Option, None, Some, Ok, true};
-ghost use Rattle.std.specs.Prelude.{List, length, IfOk, IfErr, IfSome, IfNone, OnOk, IsTrue, nat_lt};
+ghost use Rattle.std.specs.Prelude.{List, length, IfOk, IfErr, IfSome, IfNone, OnOk, IsTrue};
+ghost use Rattle.std.specs.Prelude.{nat_lt};
 ghost use Rattle.std.specs.Prelude.{if◌then◌else◌, ◌&&◌};
 ghost use Rattle.std.specs.List.{list_all};
 ghost use Rattle.std.specs.Str.{chars};

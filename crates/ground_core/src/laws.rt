@@ -1,8 +1,9 @@
-//! Laws of histories and of broadcasts, for the crates above: each is the contract of a function that does nothing but call
-//! the laws of lower crates.
+//! Laws of histories, of broadcasts and of what waits, for the crates above: each is the contract of a function that does
+//! nothing but call the laws of lower crates.
 ghost use Rattle.ground_core.specs.Sound.{AcceptedIsGiven, HistoriesHaveItems};
 ghost use Rattle.ground_core.specs.Sent.{FramesReadBack, ItemsAreOfStations, SegmentsAreOfItems};
 ghost use Rattle.ground_core.specs.Sent.{HistoriesGrow, SegmentsAreSame};
+ghost use Rattle.ground_core.specs.Starving.{NoStarvation};
 
 use apdu_core::laws::apdu_reads_back;
 use dlac_text::laws::{payload_size, reading_undoes_writing, refused_texts};
@@ -80,4 +81,15 @@ pub fn frames_read_back()
     parts_fit_frames();
     accepted_is_given();
     histories_have_items();
+}
+
+/// The law that no segment waits for ever: while it stays live, it is aired at the latest by the n-th next fill, n being
+/// twice the bytes before it by 425, rounded down, plus 2.
+#[inline]
+pub fn no_starvation()
+    ensures { NoStarvation }
+{
+    keys_are_ordered();
+    parts_fit_frames();
+    stations_are_told();
 }

@@ -47,7 +47,8 @@ pub(crate) struct Newest {
 
 impl Newest {
     ghost use Rattle.ground_core.specs.Views.{latest_at, given_view, keys_in, block_keys};
-    ghost use Rattle.ground_core.specs.Rooms.{HaveRoom, HaveRoomFor, HaveRoomForAll, IsOfBlocks, HasRoom};
+    ghost use Rattle.ground_core.specs.Rooms.{HaveRoom, HaveRoomFor, HaveRoomForAll, IsOfBlocks};
+    ghost use Rattle.ground_core.specs.Rooms.{HasRoom};
     ghost use Rattle.ground_core.specs.Putting.{AreWhole, values_of, latest_put, is_among};
     ghost use Rattle.ground_core.specs.Piece.{while_living, lives_as};
     ghost use Rattle.ground_core.specs.Told.{latest_version};

@@ -44,7 +44,8 @@ fn empty_blocks_are_sent_until_each_is_superseded(rt: HostRuntime) -> Result<(),
 
 #[test]
 fn empty_blocks_that_are_far_apart_are_several_items(rt: HostRuntime) -> Result<(), Fail> {
-    // Block 100,017 is 117 further than 99,900. The bit of 116 further stands in the fifteenth byte of the first bitmap.
+    // Block 100,017 is 117 further than 99,900. The bit of 116 further stands in the fifteenth byte
+    // of the first bitmap.
     let first = &[
         0x0B, 0x00, 0x00, 0xFC, 0x58, 0xD0, 0x01, 0x86, 0x3C, 0x0F, 0x00, 0x00, 0x00, 0x00, 0x00,
         0x00, 0x00, 0x00, 0x00, 0x00, 0x00, 0x00, 0x00, 0x80, 0x04, 0x00, 0x00, 0xFC, 0x58, 0xD0,

@@ -10,7 +10,8 @@ use std::test::Fail;
 
 #[test]
 fn a_text_is_sent_in_the_next_frame(rt: HostRuntime) -> Result<(), Fail> {
-    // The payload's bytes 0 to 71 are the first block, of which each sixth byte of the frame is one.
+    // The payload's bytes 0 to 71 are the first block, of which each sixth byte of the frame is
+    // one.
     let bytes = &[
         (36, 1, 0xA0),
         (48, 1, 0x06),
@@ -98,8 +99,8 @@ fn three_texts_of_273_characters_take_turns(rt: HostRuntime) -> Result<(), Fail>
 
 #[test]
 fn long_texts_of_one_version_are_numbered_from_0(rt: HostRuntime) -> Result<(), Fail> {
-    // Byte 84 begins with the file number, which is below 64, and byte 96 is the segment's number. The second segment has
-    // 36 of the 451 bytes. Each version numbers its own texts from 0.
+    // Byte 84 begins with the file number, which is below 64, and byte 96 is the segment's number.
+    // The second segment has 36 of the 451 bytes. Each version numbers its own texts from 0.
     let day_later = MINUTE + 86_400;
     let steps = [
         Step::Give(NOW, MINUTE, "METAR KAAA ", 589, Answer::Given),
@@ -204,8 +205,8 @@ fn bodies_in(ground: &mut Ground, frames: u32) -> Result<u32, Fail> {
     Ok(bodies)
 }
 
-// The 75 texts of each type take 20, 19, 21 and 22 bytes each, so 31 frames have room for all twice, even if 21 bytes are
-// left at the end of each.
+// The 75 texts of each type take 20, 19, 21 and 22 bytes each, so 31 frames have room for all
+// twice, even if 21 bytes are left at the end of each.
 #[test]
 fn frames_are_filled_with_texts_of_each_form(rt: HostRuntime) -> Result<(), Fail> {
     let alloc = rt.alloc();

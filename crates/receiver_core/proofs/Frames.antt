@@ -14,7 +14,7 @@ use Rattle.receiver_core.specs.UnreadParts.{UnreadPart, frame_reasons, part_in, 
 use Rattle.receiver_core.proofs.Puts.{put_one_more, tell_one_more}
 
 -- what is held after the frames before those that are left; with the frames that are left it is what all frames bring
-pub record HasTaken (table : LifeTable) (station : StationId) (moment : ℕ) (before : List Arrival) (all : List InformationFrame)
+pub record HasTakenFrames (table : LifeTable) (station : StationId) (moment : ℕ) (before : List Arrival) (all : List InformationFrame)
     (first : List Entry) (left : List InformationFrame) (store : Store) (kept : List Entry)
     (told : List UnreadPart) : Type 0 where
   pub now : List Arrival
@@ -27,7 +27,7 @@ pub record HasTaken (table : LifeTable) (station : StationId) (moment : ℕ) (be
 pub taken_none : (table : LifeTable) (station : StationId) (moment : ℕ) (before : List Arrival)
     (all : List InformationFrame) (first : List Entry)
     (left : List InformationFrame) (store : Store) (told : List UnreadPart)
-    → left ≡ all → told ≡ [] → StandsFor store before → HasTaken table station moment before all first left store first told
+    → left ≡ all → told ≡ [] → StandsFor store before → HasTakenFrames table station moment before all first left store first told
 taken_none table station moment before all first left store told same none stands = record {
   now = before;
   stands = stands;
@@ -41,11 +41,11 @@ pub take_one_more : (table : LifeTable) (station : StationId) (moment : ℕ) (be
     (all : List InformationFrame) (first : List Entry)
     (frame : InformationFrame) (left : List InformationFrame) (store store' : Store) (kept kept' : List Entry)
     (told told' : List UnreadPart)
-    → (h : HasTaken table station moment before all first (frame ∷ left) store kept told)
+    → (h : HasTakenFrames table station moment before all first (frame ∷ left) store kept told)
     → StandsFor store' (arrived_with h.now (arrival_in table station moment frame))
     → kept' ≡ put_all (frame_entries table h.now (arrival_in table station moment frame)) kept
     → told' ≡ told ++ map (part_in frame) (frame_reasons table h.now (arrival_in table station moment frame))
-    → HasTaken table station moment before all first left store' kept' told'
+    → HasTakenFrames table station moment before all first left store' kept' told'
 take_one_more table station moment before all first frame left store store' kept kept' told told' h stands put tell =
     let read = arrival_in table station moment frame in
     record {
@@ -69,7 +69,7 @@ pub record HasTakenAll (table : LifeTable) (station : StationId) (moment : ℕ) 
 pub taken_all : (table : LifeTable) (station : StationId) (moment : ℕ) (before : List Arrival)
     (all : List InformationFrame) (first : List Entry)
     (left : List InformationFrame) (store : Store) (kept : List Entry) (told : List UnreadPart)
-    → left ≡ [] → HasTaken table station moment before all first left store kept told
+    → left ≡ [] → HasTakenFrames table station moment before all first left store kept told
     → HasTakenAll table station moment before all first store kept told
 taken_all table station moment before all first left store kept told none h = record {
   stands = subst (StandsFor store) (sym (h.joined ∙ ap (arrivals_after table station moment h.now) none)) h.stands;

@@ -34,7 +34,7 @@ is_valid payload = (header_in payload).app_valid
 
 -- a reception that can come after these: its payload has valid application data, and its moment is
 -- not below the last one
-pub record IsNext (past : List Reception) (heard : Reception) : Type 0 where
+pub record IsNextReception (past : List Reception) (heard : Reception) : Type 0 where
   pub moment_is : IsMoment heard.moment
   pub in_time : last_above (clock_of past) heard.moment ≡ None
   pub size : length heard.payload ≡ payload_length
@@ -43,7 +43,7 @@ pub record IsNext (past : List Reception) (heard : Reception) : Type 0 where
 
 abbrev pub AreReceptions : List Reception → Type 0
 AreReceptions [] = Unit {0}
-AreReceptions (heard ∷ past) = IsNext past heard × AreReceptions past
+AreReceptions (heard ∷ past) = IsNextReception past heard × AreReceptions past
 
 -- why a frame is not heard
 pub data HearRefusal : Type 0 where

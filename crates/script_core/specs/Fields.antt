@@ -1,6 +1,7 @@
 -- The forms of the lines of a script: a word, and fields with exactly one space between them.
 use Rattle.std.specs.Prelude.{ℕ, ◌+◌, ◌-◌, ◌*◌, Bool, true, false, not, ◌&&◌, ◌||◌, ◌==◌}
-use Rattle.std.specs.Prelude.{nat_lt, nat_le, if◌then◌else◌, List, [], ◌∷◌, length, fold, map, codes}
+use Rattle.std.specs.Prelude.{nat_lt, nat_le, if◌then◌else◌, List, [], ◌∷◌, length, fold, map}
+use Rattle.std.specs.Prelude.{codes}
 use Rattle.std.specs.Prelude.{Option, Some, None, option_and_then}
 use Rattle.std.specs.Char.{digit_value, is_ascii_digit, is_digit}
 use Rattle.std.specs.Int.{is_in_range}
@@ -253,8 +254,8 @@ abbrev pub line_of : List ℕ → Option Line
 line_of [] = Some empty
 line_of (b ∷ bytes) = line_of_fields (fields (b ∷ bytes))
 
--- whether the line of some fields takes memory: a `text` line for its report, a `blank` line for its
--- numbers, and a `hear` line for its wrong bytes
+-- whether the line of some fields takes memory: a `text` line for its report, a `blank` line for
+-- its numbers, and a `hear` line for its wrong bytes
 abbrev pub takes_memory : List (List ℕ) → Bool
 takes_memory [] = false
 takes_memory (word ∷ rest) =

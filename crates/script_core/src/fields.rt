@@ -1,11 +1,15 @@
 //! The fields of a line, and the small forms that they have.
-ghost use Rattle.std.specs.Prelude.{◌≡◌, ◌==◌, ◌*◌, ◌<◌, ◌≤◌, ◌^◌, if◌then◌else◌, ◌∷◌, [], unwrap_or, None, Some, IfOk, IfSome, MatchOption, length, option_copied};
+ghost use Rattle.std.specs.Prelude.{◌≡◌, ◌==◌, ◌*◌, ◌<◌, ◌≤◌, ◌^◌, if◌then◌else◌, ◌∷◌, []};
+ghost use Rattle.std.specs.Prelude.{unwrap_or, None, Some, IfOk, IfSome, MatchOption, length};
+ghost use Rattle.std.specs.Prelude.{option_copied};
 ghost use Rattle.std.specs.List.{slice_split, before_first, after_first};
 ghost use Rattle.std.specs.Str.{bytes_eq};
 ghost use Rattle.std.specs.Result.{result_ok};
 ghost use Rattle.fisb_time.specs.Moment.{IsMoment};
 ghost use Rattle.hex.specs.Hex.{decode_sized, hex_digit_value};
-ghost use Rattle.script_core.specs.Fields.{parts_left, fields_left, number_within, moment_in, south_in, is_cells, intensities_in, block_number_in, numbers_in, air_in, has_leading_zero};
+ghost use Rattle.script_core.specs.Fields.{parts_left, fields_left, number_within, moment_in};
+ghost use Rattle.script_core.specs.Fields.{south_in, is_cells, intensities_in, block_number_in};
+ghost use Rattle.script_core.specs.Fields.{numbers_in, air_in, has_leading_zero};
 
 use crate::script_line::LineFault;
 use fisb_time::Moment;

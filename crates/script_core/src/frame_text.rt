@@ -1,8 +1,10 @@
 //! The texts of frames: those that are sent, and what is heard of one.
-ghost use Rattle.std.specs.Prelude.{◌≡◌, ◌∷◌, ◌++◌, [], IfOk, OnOk, codes, decimal, flat_map, map, string_bytes};
+ghost use Rattle.std.specs.Prelude.{◌≡◌, ◌∷◌, ◌++◌, [], IfOk, OnOk, codes, decimal, flat_map, map};
+ghost use Rattle.std.specs.Prelude.{string_bytes};
 ghost use Rattle.receiver_core.specs.Hearing.{unread_view};
 ghost use Rattle.refusal_core.specs.Refusal.{line_of_words};
-ghost use Rattle.script_core.specs.Printed.{heard_lines, lost_line, noapp_line, sent_line, unread_text, unread_word};
+ghost use Rattle.script_core.specs.Printed.{heard_lines, lost_line, noapp_line, sent_line};
+ghost use Rattle.script_core.specs.Printed.{unread_text, unread_word};
 
 use fisb_time::Moment;
 use fisb_wire::Bytes;

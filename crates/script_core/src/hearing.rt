@@ -1,7 +1,9 @@
 //! The lines of frames that are heard: their bytes, or the fields PLACE=XX of their wrong bytes.
-ghost use Rattle.std.specs.Prelude.{◌≡◌, ℕ, ◌<◌, ◌≤◌, All, IfOk, IfSome, None, Some, length, option_copied, option_map};
+ghost use Rattle.std.specs.Prelude.{◌≡◌, ℕ, ◌<◌, ◌≤◌, All, IfOk, IfSome, None, Some, length};
+ghost use Rattle.std.specs.Prelude.{option_copied, option_map};
 ghost use Rattle.uplink_weave.specs.Woven.{frame_bytes};
-ghost use Rattle.script_core.specs.Fields.{fields_left, byte_in, hear_line, hex_digit, rx_line, wrong_byte_in, wrong_from};
+ghost use Rattle.script_core.specs.Fields.{fields_left, byte_in, hear_line, hex_digit, rx_line};
+ghost use Rattle.script_core.specs.Fields.{wrong_byte_in, wrong_from};
 ghost use Rattle.script_core.specs.LineView.{line_view, HasRanges};
 
 use crate::fields::{cut_at, next_field, read_air, read_moment, read_number};

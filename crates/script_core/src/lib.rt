@@ -5,7 +5,7 @@ mod fields;
 mod frame_text;
 mod hearing;
 mod kinds;
-mod laws;
+pub mod laws;
 mod picture_text;
 mod radar;
 mod reading;
@@ -14,7 +14,6 @@ mod wrong;
 
 pub use fields::read_number;
 pub use frame_text::{print_heard, print_lost, print_noapp, print_sent};
-pub use laws::ranges_of_lines;
 pub use picture_text::print_picture;
 pub use reading::read_line;
 pub use refusal_core::{Reason, print_refused};

@@ -5,7 +5,8 @@ ghost use Rattle.picture_core.specs.Key.{radar_block, text_report};
 ghost use Rattle.picture_core.specs.Views.{entry_view};
 ghost use Rattle.radar_core.specs.Cells.{IsCells};
 ghost use Rattle.text_reports.specs.Views.{key_view};
-ghost use Rattle.script_core.specs.Printed.{cell_digits, entry_text, hemisphere_word, picture_text, shown_entry};
+ghost use Rattle.script_core.specs.Printed.{cell_digits, entry_text, hemisphere_word, picture_text};
+ghost use Rattle.script_core.specs.Printed.{shown_entry};
 
 use dlac_text::{Report, plain};
 use fisb_time::Moment;

@@ -1,6 +1,7 @@
 //! The lines of radar: the cells of a block, and blocks of intensity 0.
 ghost use Rattle.std.specs.Prelude.{◌≡◌, IfOk, MatchOption, None, Some, option_copied, option_map};
-ghost use Rattle.script_core.specs.Fields.{fields_left, head_in, radar_head, radar_line, blank_line};
+ghost use Rattle.script_core.specs.Fields.{fields_left, head_in, radar_head, radar_line};
+ghost use Rattle.script_core.specs.Fields.{blank_line};
 ghost use Rattle.script_core.specs.LineView.{line_view};
 
 use crate::fields::{

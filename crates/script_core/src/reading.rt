@@ -1,7 +1,9 @@
 //! Reads one line of a script.
-ghost use Rattle.std.specs.Prelude.{◌≡◌, ℕ, ◌≤◌, IfOk, IfSome, IsTrue, None, Some, length, option_copied, option_map};
+ghost use Rattle.std.specs.Prelude.{◌≡◌, ℕ, ◌≤◌, IfOk, IfSome, IsTrue, None, Some, length};
+ghost use Rattle.std.specs.Prelude.{option_copied, option_map};
 ghost use Rattle.std.specs.String.{string_bytes};
-ghost use Rattle.script_core.specs.Fields.{fields, fields_left, line_of, text_line, report_in, other_line, takes_memory};
+ghost use Rattle.script_core.specs.Fields.{fields, fields_left, line_of, text_line, report_in};
+ghost use Rattle.script_core.specs.Fields.{other_line, takes_memory};
 ghost use Rattle.script_core.specs.LineView.{line_view, HasRanges};
 
 use crate::fields::{is_word, next_field, read_moment};

@@ -1,9 +1,8 @@
 use fisb_time::Moment;
 use ground_core::AirFrame;
 use radar_core::BlockKey;
-use script_core::{
-    Line, LineFault, print_lost, print_noapp, print_sent, ranges_of_lines, read_line,
-};
+use script_core::laws::ranges_of_lines;
+use script_core::{Line, LineFault, print_lost, print_noapp, print_sent, read_line};
 use std::alloc::{AllocError, Global};
 use std::process::Abort;
 use std::test::Fail;

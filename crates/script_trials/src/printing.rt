@@ -7,7 +7,8 @@ use script_core::{print_heard, print_picture};
 use std::alloc::Global;
 use std::test::Fail;
 
-// A header of slot 0 and site 0 without a position, an information frame with METAR KSEA of 22:13, and one of type 5.
+// A header of slot 0 and site 0 without a position, an information frame with METAR KSEA of 22:13,
+// and one of type 5.
 const FRONT: [u8; 27] = [
     0x00, 0x00, 0x00, 0x00, 0x00, 0x00, 0xa0, 0x00, 0x06, 0x80, 0x06, 0x74, 0x58, 0xd0, 0x34, 0x55,
     0x01, 0x4a, 0x02, 0xd3, 0x14, 0x10, 0x00, 0x01, 0x05, 0xab, 0xcd,

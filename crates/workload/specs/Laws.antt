@@ -8,8 +8,9 @@ use Rattle.workload.specs.Workload.{workload}
 abbrev pub EveryStepFits : Type 0
 EveryStepFits = (count seed : ℕ) → All FitsStep (workload count seed)
 
--- no byte of a block is changed twice: of at most eleven places, nine apart and round at its end, no two
--- are one
+-- no byte of a block is changed twice: of at most eleven places, nine apart and round at its end,
+-- no two are one
 abbrev pub PlacesDiffer : Type 0
 PlacesDiffer =
-    (first t u : ℕ) → t < 11 → u < 11 → (first + 9 * t) % block_bytes ≡ (first + 9 * u) % block_bytes → t ≡ u
+    (first t u : ℕ) → t < 11 → u < 11
+    → (first + 9 * t) % block_bytes ≡ (first + 9 * u) % block_bytes → t ≡ u

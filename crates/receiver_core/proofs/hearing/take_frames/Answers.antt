@@ -2,7 +2,7 @@ use Rattle.std.proofs.Common.{◌≡◌, ◌∷◌, map, rules, sym, ap, subst, 
 use Rattle.uplink_frame.specs.UplinkFrame.{information_frames}
 use Rattle.uplink_frame.specs.Views.{frame_view}
 use Rattle.receiver_core.specs.Hearing.{unread_view}
-use Rattle.receiver_core.proofs.Frames.{AreShort, HasTaken, short_frames, take_one_more, taken_all, taken_none}
+use Rattle.receiver_core.proofs.Frames.{AreShort, HasTakenFrames, short_frames, take_one_more, taken_all, taken_none}
 use Rattle.receiver_core.proofs.hearing.take_frames.Goals as goal
 
 pub loop-frame-init : goal.loop-frame-init
@@ -28,11 +28,11 @@ loop-frame-preserved c =
     (AreShort 424) first c.loop-frame.invariant.short in
     record {
       taken = λ before stands.
-          let h : HasTaken c.args.table.now c.args.station c.args.moment before
+          let h : HasTakenFrames c.args.table.now c.args.station c.args.moment before
           (information_frames c.args.payload.now) c.args.picture.now.entries
           (frame_view c.in-Some.frame ∷ c.next.new.self) c.loop-frame.joiner.store c.loop-frame.picture.entries
           (map unread_view c.loop-frame.unread.items)
-          = subst (λ fs. HasTaken c.args.table.now c.args.station c.args.moment before
+          = subst (λ fs. HasTakenFrames c.args.table.now c.args.station c.args.moment before
           (information_frames c.args.payload.now) c.args.picture.now.entries
           fs c.loop-frame.joiner.store c.loop-frame.picture.entries (map unread_view c.loop-frame.unread.items)) first
           (c.loop-frame.invariant.taken before stands) in

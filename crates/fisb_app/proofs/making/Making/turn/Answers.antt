@@ -5,7 +5,7 @@ use Rattle.fisb_app.specs.declared.counts.Counts.{Counts}
 use Rattle.fisb_app.specs.Past.{sent_frames, station_after, events}
 use Rattle.fisb_app.specs.Reading.{frame_limit}
 use Rattle.fisb_app.specs.Make.{after_step}
-use Rattle.fisb_app.specs.Makes.{Makes}
+use Rattle.fisb_app.specs.MakingHolds.{MakingHolds}
 use Rattle.fisb_app.proofs.Stepping.{refused-step, acted-step}
 use Rattle.fisb_app.proofs.StepKinds.{turn-step, turn-made, full-turn, room-turn}
 use Rattle.fisb_app.proofs.making.Making.turn.Goals as goal
@@ -25,7 +25,7 @@ returns-in_default g c = λ table acted h.
     let turns = ap (λ (n : Counts). n.turns) h.counts in
     let under = c.if-self-ge-FRAME_LIMIT.false in
     let room : length (sent_frames table acted) < frame_limit = omega (arith, turns, under) in
-    subst (λ ground. Makes g.G.Sender.stands g.E.Ear.stands table (after_step table acted (Turn c.args.moment c.args.slot)) (record c.args.self.now { ground = ground })) (sym c.in_default.ensures.same)
+    subst (λ ground. MakingHolds g.G.Sender.stands g.E.Ear.stands table (after_step table acted (Turn c.args.moment c.args.slot)) (record c.args.self.now { ground = ground })) (sym c.in_default.ensures.same)
     (refused-step g.G.Sender.stands g.E.Ear.stands table acted _ _ _ _ c.args.self.now after
     (room-turn (length (sent_frames table acted)) acted c.args.moment (Some (kept_told c.in_default.field-0)) room
     (c.in_default.ensures.refused table (station_after acted) (events acted) h.ground)) h)

@@ -8,7 +8,7 @@ use Rattle.script_core.specs.Script.{Line}
 use Rattle.run_core.specs.declared.stop.Stop.{Stop}
 use Rattle.run_core.specs.declared.stop.Stop.TheVariants.{Refused, NoMemory}
 use Rattle.fisb_app.specs.declared.making.Making.{Making}
-use Rattle.fisb_app.specs.declared.sent.SentFrame.{SentFrame}
+use Rattle.fisb_app.specs.declared.sent_frame.SentFrame.{SentFrame}
 use Rattle.fisb_app.specs.Past.{station_after, events, sent_frames, receptions, air_of}
 use Rattle.fisb_app.specs.Past.{receiver_clock}
 use Rattle.fisb_app.specs.Reading.{frame_refusal}
@@ -23,7 +23,7 @@ aired_one sent = option_map aired_view sent
 
 -- the ground, the receiver, the frame that was sent last, the receiver's clock and the counts are
 -- those of the lines acted on
-pub record Makes {G E : Type 0} (sends : Sends G) (hears : Hears E) (table : LifeTable)
+pub record MakingHolds {G E : Type 0} (sends : Sends G) (hears : Hears E) (table : LifeTable)
     (acted : List Line) (making : Making G E) : Type 0 where
   pub ground : sends table (station_after acted) (events acted) making.ground
   pub ear : hears table (receptions table acted) making.ear
@@ -33,11 +33,11 @@ pub record Makes {G E : Type 0} (sends : Sends G) (hears : Hears E) (table : Lif
   pub counts : making.counts ≡ counts_of table acted
 
 -- a step was acted on, unless a reason stands against it
-abbrev pub HasTaken : {G E A F : Type 0} → Sends G → Hears E → Making G E → Making G E → Step
+abbrev pub HasStepped : {G E A F : Type 0} → Sends G → Hears E → Making G E → Making G E → Step
     → Result A F → Type 0
-HasTaken sends hears old new step result = (table : LifeTable) (acted : List Line)
-    → Makes sends hears table acted old
-    → OnOk result (Makes sends hears table (after_step table acted step) new)
+HasStepped sends hears old new step result = (table : LifeTable) (acted : List Line)
+    → MakingHolds sends hears table acted old
+    → OnOk result (MakingHolds sends hears table (after_step table acted step) new)
 
 -- what was made with an update more
 abbrev pub with_update : {G E : Type 0} → Making G E → Making G E
