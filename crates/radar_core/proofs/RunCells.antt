@@ -1,7 +1,7 @@
 -- The cells that the bytes of a run record spell.
-use Rattle.std.proofs.Common.{◌≡◌, ℕ, ◌+◌, ◌/◌, ◌%◌, ◌<◌, ◌≤◌, List, [], ◌∷◌, ◌++◌, length, take, drop, replicate, get_or, sym, ap, subst, ◌∙◌, arith, append_assoc}
+use Rattle.std.proofs.Common.{◌≡◌, ℕ, ◌+◌, ◌-◌, ◌/◌, ◌%◌, ◌<◌, ◌≤◌, List, [], ◌∷◌, ◌++◌, length, take, drop, replicate, get_or, sym, ap, subst, ◌∙◌, arith, append_assoc}
 use Rattle.std.specs.List.{All}
-use Rattle.std.proofs.lemmas.List.{append-nil, length-append, length-replicate, length-take-le, take_more, take_at, take-append-drop}
+use Rattle.std.proofs.lemmas.List.{append-nil, length-append, length-replicate, length-take-le, take_more, take_at, take-append-drop, replicate-append-replicate}
 use Rattle.std.proofs.lemmas.List.Elements.{All-append, All-replicate, All-take, All-drop}
 use Rattle.std.proofs.lemmas.Grind.{flat_map-append}
 use Rattle.bit_fields.specs.Bits.{field_at}
@@ -58,47 +58,49 @@ length-cells_in-least (byte ∷ bytes) =
     omega
     (arith, length-append (replicate n (field_at (byte ∷ []) 5 3)) (cells_in bytes), length-replicate n (field_at (byte ∷ []) 5 3))
 
--- a run that is written behind others
+-- runs that are written one after another
 pub record IsPut (bytes new : List ℕ) (i used : ℕ) : Type 0 where
   pub cells : take used new ≡ cells_in (take i bytes)
   pub small : All (λ cell. cell < 8) new
   pub used_is : used ≡ length (cells_in (take i bytes))
-  pub whole : length new ≡ 128
+  pub whole : length new ≡ 160
 
-pub put_more :
-    (bytes old new : List ℕ) (i used : ℕ) → i < length bytes → get_or bytes i 0 < 256 → length (cells_in bytes) ≡ 128 → length new ≡ 128 →
-    IsPut bytes old i used →
-    new ≡ take used old ++ (replicate (get_or bytes i 0 / 8 + 1) (get_or bytes i 0 % 8) ++ drop (used + (get_or bytes i 0 / 8 + 1)) old) →
-    IsPut bytes new (i + 1) (used + (get_or bytes i 0 / 8 + 1))
-put_more bytes old new i used inside fits all long put new_is =
-    let within : used ≤ length old = omega (arith, put.whole, put.used_is, length-cells_in-take bytes i) in
-    let byte : ℕ = get_or bytes i 0 in
-    let n : ℕ = byte / 8 + 1 in
-    let run : List ℕ = replicate n (byte % 8) in
-    let rest : List ℕ = drop (used + n) old in
-    let front : length (take used old ++ run) ≡ used + n =
-    length-append (take used old) run ∙ omega (arith, length-take-le used old within, length-replicate n (byte % 8))
+-- the front of what is written where a run begins that is as long as a run can be
+front_of_longest :
+    (old rest : List ℕ) (used n cell : ℕ) → used ≤ length old → n ≤ 32 →
+    take (used + n) (take used old ++ (replicate 32 cell ++ rest)) ≡ take used old ++ replicate n cell
+front_of_longest old rest used n cell within short =
+    let whole : n + (32 - n) ≡ 32 = omega arith in
+    let longer : replicate n cell ++ replicate (32 - n) cell ≡ replicate 32 cell =
+    replicate-append-replicate n (32 - n) cell ∙ ap (λ k. replicate k cell) whole
     in
+    let front : length (take used old ++ replicate n cell) ≡ used + n =
+    length-append (take used old) (replicate n cell) ∙ omega (arith, length-take-le used old within, length-replicate n cell)
+    in
+    ap (λ (b : List ℕ). take (used + n) (take used old ++ (b ++ rest))) (sym longer)
+    ∙ ap (λ (b : List ℕ). take (used + n) (take used old ++ b)) (append_assoc (replicate n cell) (replicate (32 - n) cell) rest)
+    ∙ ap (take (used + n)) (sym (append_assoc (take used old) (replicate n cell) (replicate (32 - n) cell ++ rest)))
+    ∙ take_at (take used old ++ replicate n cell) (replicate (32 - n) cell ++ rest) (used + n) front
+
+-- one run more, over what is too much of the one before it
+pub put_more :
+    (bytes old new : List ℕ) (i used n : ℕ) → n ≡ get_or bytes i 0 / 8 + 1 → i < length bytes → get_or bytes i 0 < 256 →
+    length (cells_in bytes) ≡ 128 → length new ≡ 160 → IsPut bytes old i used →
+    new ≡ take used old ++ (replicate 32 (get_or bytes i 0 % 8) ++ drop (used + 32) old) → IsPut bytes new (i + 1) (used + n)
+put_more bytes old new i used n n_is inside fits all long put new_is =
+    let within : used ≤ length old = omega (arith, put.whole, put.used_is, length-cells_in-take bytes i) in
+    let cell : ℕ = get_or bytes i 0 % 8 in
+    let rest : List ℕ = drop (used + 32) old in
     record {
       cells =
-          ap (take (used + n)) (new_is ∙ sym (append_assoc (take used old) run rest))
-          ∙ take_at (take used old ++ run) rest (used + n) front ∙ ap (λ (b : List ℕ). b ++ run) put.cells
-          ∙ sym (cells_in-more bytes i inside fits);
+          ap (take (used + n)) new_is ∙ front_of_longest old rest used n cell within (omega arith)
+          ∙ ap (λ (b : List ℕ). b ++ replicate n cell) put.cells
+          ∙ ap (λ k. cells_in (take i bytes) ++ replicate k cell) n_is ∙ sym (cells_in-more bytes i inside fits);
       small =
           subst (λ (b : List ℕ). All (λ cell. cell < 8) b) (sym new_is)
-          (All-append (λ cell. cell < 8) (take used old) (run ++ rest) (All-take (λ cell. cell < 8) used old put.small)
-          (All-append (λ cell. cell < 8) run rest (All-replicate (λ cell. cell < 8) n (byte % 8) (omega arith))
-          (All-drop (λ cell. cell < 8) (used + n) old put.small)));
+          (All-append (λ cell. cell < 8) (take used old) (replicate 32 cell ++ rest) (All-take (λ cell. cell < 8) used old put.small)
+          (All-append (λ cell. cell < 8) (replicate 32 cell) rest (All-replicate (λ cell. cell < 8) 32 cell (omega arith))
+          (All-drop (λ cell. cell < 8) (used + 32) old put.small)));
+      used_is = sym (length-cells_in-more bytes i inside fits ∙ omega (arith, n_is, put.used_is));
       whole = long;
-      used_is = sym (length-cells_in-more bytes i inside fits ∙ ap (λ m. m + n) (sym put.used_is));
     }
-
--- the same for a length that is told otherwise
-pub put_more_by :
-    (bytes old new : List ℕ) (i used n : ℕ) → n ≡ get_or bytes i 0 / 8 + 1 → i < length bytes → get_or bytes i 0 < 256 →
-    length (cells_in bytes) ≡ 128 → length new ≡ 128 → IsPut bytes old i used →
-    new ≡ take used old ++ (replicate n (get_or bytes i 0 % 8) ++ drop (used + n) old) → IsPut bytes new (i + 1) (used + n)
-put_more_by bytes old new i used n n_is inside fits all long put =
-    subst
-    (λ (m : ℕ). new ≡ take used old ++ (replicate m (get_or bytes i 0 % 8) ++ drop (used + m) old) → IsPut bytes new (i + 1) (used + m))
-    (sym n_is) (put_more bytes old new i used inside fits all long put)

@@ -13,6 +13,9 @@ use std::marker::Model;
 /// How many blocks a ring has.
 pub(crate) const RING: u32 = 450;
 
+/// How many cells there is room for while runs are read: those of a block, and behind them those of a longest run.
+const CELL_ROOM: usize = 160;
+
 /// The bytes after the front of a record.
 #[derive(Clone, Copy, Debug)]
 pub(crate) enum Body<'a> {
@@ -77,26 +80,27 @@ fn blank_block(base: BlockKey, offset: u32) -> (BlockKey, Cells)
     (BlockKey { number, ..base }, Cells::blank())
 }
 
-/// The cells that runs spell.
+/// The cells that runs spell. Each run is written as long as a run can be, and the next one over what is too much.
 fn cells_of(runs: &[u8]) -> Cells
     requires { length (cells_in runs.now) ≡ 128 }
     ensures { result ≡ cells_in runs.now }
 {
-    let mut cells = [0; CELLS];
+    let mut room = [0; CELL_ROOM];
     let mut used = 0;
     for run in runs {
-        let length = usize::from(*run / 8) + 1;
-        put_run(&mut cells, used, length, *run % 8);
-        used += length;
+        put_longest(&mut room, used, *run % 8);
+        used += usize::from(*run / 8) + 1;
     }
+    let mut cells = [0; CELLS];
+    cells.copy_from_slice(&room[..CELLS]);
     Cells::of(cells)
 }
 
-/// Writes one intensity over so many cells from a place on.
-fn put_run(cells: &mut [u8; 128], place: usize, length: usize, cell: u8)
-    requires { place + length ≤ 128 }
-    ensures { cells.new ≡ take place cells.old
-        ++ (replicate length cell ++ drop (place + length) cells.old) }
+/// Writes one intensity over the cells of a longest run from a place on.
+fn put_longest(room: &mut [u8; 160], place: usize, cell: u8)
+    requires { place ≤ 128 }
+    ensures { room.new ≡ take place room.old
+        ++ (replicate 32 cell ++ drop (place + 32) room.old) }
 {
-    cells[place..place + length].fill(cell);
+    room[place..place + 32].fill(cell);
 }

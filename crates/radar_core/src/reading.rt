@@ -58,11 +58,11 @@ fn count_cells(runs: &[u8]) -> usize
     if runs.len() > CELLS {
         return 0;
     }
-    let mut count = 0;
+    let mut count = 0u16;
     for run in runs {
-        count += usize::from(*run / 8) + 1;
+        count += u16::from(*run / 8) + 1;
     }
-    count
+    usize::from(count)
 }
 
 /// The blocks of an empty record.

@@ -16,7 +16,7 @@ loop-run-preserved c =
 
 pub returns : goal.returns
 returns c =
-    let all : c.loop-run.count ≡ length (cells_in c.args.runs.now) =
-    c.loop-run.invariant.is ∙ ap (λ b. length (cells_in b)) (take_all c.loop-run.run-index c.args.runs.now (omega arith))
+    let all : c.from-2.result ≡ length (cells_in c.args.runs.now) =
+    c.from-2.ensures ∙ c.loop-run.invariant.is ∙ ap (λ b. length (cells_in b)) (take_all c.loop-run.run-index c.args.runs.now (omega arith))
     in
     (λ e. sym all ∙ e, λ e. all ∙ e)
