@@ -1,17 +1,9 @@
 -- A run that did not begin for want of memory.
-use Rattle.std.proofs.Common.{ℕ, List, [], Option, Some, None, IfSome, inl, refl, sym, append-nil, arith}
-use Rattle.std.specs.Io.KnownBytes.{Consumes, Appends}
+use Rattle.std.proofs.Common.{ℕ, List, [], Option, Some, None, IfSome, inl, refl, arith}
+use Rattle.std.proofs.KnownBytes.{Consumes-nil, Appends-nil}
 use Rattle.fisb_wire.specs.Faults.{Rose}
 use Rattle.run_core.specs.Run.{Task, Ends, HasRun, IsDecided, IsJudged, stopped}
 use Rattle.run_core.specs.declared.status.Status.TheVariants.{NoMemory}
-
-consumes-nothing : (left : Option (List ℕ)) → Consumes left left []
-consumes-nothing None = tt
-consumes-nothing (Some bytes) = refl
-
-appends-nothing : (written : Option (List ℕ)) → Appends written written []
-appends-nothing None = tt
-appends-nothing (Some bytes) = sym (append-nil bytes)
 
 -- it took nothing and wrote nothing
 pub unbegun-run : (task : Task) (e : Ends) → HasRun task e e NoMemory
@@ -21,8 +13,8 @@ unbegun-run task e = (
     [],
     stopped,
     record {
-      took = record { consumed = consumes-nothing e.left; ended = (refl, omega arith) };
-      written = (0, omega arith, appends-nothing e.written);
+      took = record { consumed = Consumes-nil e.left; ended = (refl, omega arith) };
+      written = (0, omega arith, Appends-nil e.written);
     },
   ),
 )

@@ -6,9 +6,11 @@ ghost use Rattle.fisb_app.specs.Command.{command_named};
 ghost use Rattle.fisb_app.specs.declared.command.Command.{Command};
 ghost use Rattle.fisb_app.specs.Origin.{IsOrigin, Origin};
 ghost use Rattle.fisb_app.specs.Make.{HasMade};
-ghost use Rattle.fisb_app.specs.Work.{gdl_work, ground_work, link_work, origin_work, promised_work, receive_work};
+ghost use Rattle.fisb_app.specs.Work.{gdl_work, ground_work, link_work, origin_work, promised_work};
+ghost use Rattle.fisb_app.specs.Work.{receive_work};
 ghost use Rattle.run_core.specs.Run.{HasRun, IsDecided, ends, sink_end, task_of};
-ghost use Rattle.fisb_cli.specs.Ending.{EndsAs, IsGdlAlone, IsGroundAlone, IsLinkAlone, IsReceiveAlone, number_without_words, words_of};
+ghost use Rattle.fisb_cli.specs.Ending.{EndsAs, IsGdlAlone, IsGroundAlone, IsLinkAlone};
+ghost use Rattle.fisb_cli.specs.Ending.{IsReceiveAlone, number_without_words, words_of};
 
 use fisb_app::{Status, run};
 use fisb_wire::{Sink, Source};

@@ -6,11 +6,11 @@ use std::io;
 use std::io::ErrorKind;
 use std::test::Fail;
 
-const SCRIPT: &str =
-    "---\ntext 1700000000 1699999980 METAR KSEA\nturn 1700000001 0\nhear 1700000002 0\nshow 1700000003\n";
+const SCRIPT: &str = "---\ntext 1700000000 1699999980 METAR KSEA\nturn 1700000001 0\n\
+    hear 1700000002 0\nshow 1700000003\n";
 
-const PICTURE: &str =
-    "sent 0 1700000001 0 1 15\nheard 1700000002 0 0 0 0 0 0 0 0\npicture 1700000003 1\ntext METAR KSEA 1699999980 METAR KSEA\n";
+const PICTURE: &str = "sent 0 1700000001 0 1 15\nheard 1700000002 0 0 0 0 0 0 0 0\n\
+    picture 1700000003 1\ntext METAR KSEA 1699999980 METAR KSEA\n";
 
 // A command line of these words, the program's name first.
 fn args(alloc: Global, words: &[&str]) -> Result<Args, AllocError> {

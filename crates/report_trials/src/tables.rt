@@ -113,11 +113,14 @@ fn odd_documents_are_tables_or_have_a_fault(rt: HostRuntime) {
             None,
         ),
         (
-            "version = 1\nlate = 0\ntext = [{ type = \"A\", words = 2, life = 1, form = 1 }, { type = \"B\", as = \"A\" }]\n",
+            "version = 1\nlate = 0\n\
+            text = [{ type = \"A\", words = 2, life = 1, form = 1 }, \
+            { type = \"B\", as = \"A\" }]\n",
             None,
         ),
         (
-            "version = 1\nlate = 600\n[[radar]]\nproduct = 63\nlife = 1\nform = 3\n[[text]]\ntype = \"A./-9\"\nwords = 3\nlife = 2592000\nform = 3\n",
+            "version = 1\nlate = 600\n[[radar]]\nproduct = 63\nlife = 1\nform = 3\n\
+            [[text]]\ntype = \"A./-9\"\nwords = 3\nlife = 2592000\nform = 3\n",
             None,
         ),
         // The first fault of the document's own entries.
@@ -234,7 +237,8 @@ fn rows_are_told_by_their_first_fault(rt: HostRuntime) -> Result<(), Fail> {
         ("type = \"A\"\nas = \"A\"", Some(RowFault::As)),
         ("type = \"A\"\nas = \"SPECI\"", Some(RowFault::As)),
         (
-            "type = \"A\"\nas = \"LATER\"\n[[text]]\ntype = \"LATER\"\nwords = 2\nlife = 1\nform = 0",
+            "type = \"A\"\nas = \"LATER\"\n\
+            [[text]]\ntype = \"LATER\"\nwords = 2\nlife = 1\nform = 0",
             Some(RowFault::As),
         ),
         ("type = \"A\"\nas = \"METAR\"", None),
