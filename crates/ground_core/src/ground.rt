@@ -32,7 +32,6 @@ use fisb_time::Moment;
 use life_table::laws::longest_is_greatest;
 use life_table::{CONUS_RADAR, LifeTable, REGIONAL_RADAR, TEXT_PRODUCT};
 use picture_core::laws::{keys_are_ordered, life_of_entries};
-use radar_core::laws::groups_are_records;
 use radar_core::{BlockKey, Cells, group_blanks};
 use segment_core::{is_segmented, part_count};
 use std::alloc::Global;
@@ -412,7 +411,7 @@ impl Ground {
             (latest_at self.now.newest) (count_at self.now.files) moment
             (blanks_update version area.product area.scale area.south numbers.now))) }
     {
-        groups_are_records();
+        radar_core::laws::groups_are_records();
         let is_named = are_blanks(area.scale, numbers);
         let validity = radar_validity(&self.table, area.product, is_named, moment, version)?;
         if let Some(fault) = self.newest.blocks.age_fault(&area, numbers, version) {
