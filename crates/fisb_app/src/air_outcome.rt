@@ -10,6 +10,7 @@ use run_core::Given;
 use script_core::print_sent;
 use std::alloc::{AllocError, Global};
 use std::marker::Model;
+use uplink_weave::FRAME_BYTES;
 
 /// What was done for a line, with the bytes of a frame.
 #[derive(Drop)]
@@ -19,7 +20,7 @@ pub(crate) enum AirEvent {
     /// A frame was sent.
     Sent { index: u32, frame: AirFrame },
     /// A frame goes on to displays.
-    Relayed { air: [u8; 552] },
+    Relayed { air: [u8; FRAME_BYTES] },
 }
 
 /// What was done for a line. In contracts it is the text of that.

@@ -12,6 +12,7 @@ use life_table::LifeTable;
 use picture_core::Entries;
 use receiver_core::{HearFault, Heard, Receiver, ShowFault};
 use std::alloc::Global;
+use uplink_weave::FRAME_BYTES;
 
 /// A receiver: it hears frames and shows pictures.
 pub trait Ear: Drop {
@@ -23,7 +24,7 @@ pub trait Ear: Drop {
         ensures { stands table [] result };
 
     /// Hears a frame.
-    fn hear(&mut self, moment: Moment, air: &[u8; 552]) -> Result<Heard, HearFault>
+    fn hear(&mut self, moment: Moment, air: &[u8; FRAME_BYTES]) -> Result<Heard, HearFault>
         ensures { (table : Table) (past : List Reception) → stands table past self.old
             → HasHeard (λ heard. stands table heard self.new) table past
             (refusal_of_air past moment air.now) moment (payload_in air.now) (counts_in air.now)
@@ -42,7 +43,7 @@ impl Ear for Receiver {
         Receiver::new(alloc, table)
     }
 
-    fn hear(&mut self, moment: Moment, air: &[u8; 552]) -> Result<Heard, HearFault> {
+    fn hear(&mut self, moment: Moment, air: &[u8; FRAME_BYTES]) -> Result<Heard, HearFault> {
         Receiver::hear(self, moment, air)
     }
 

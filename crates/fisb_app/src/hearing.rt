@@ -16,9 +16,14 @@ use crate::unheard::{answer_unheard, stop_of_show};
 use fisb_time::Moment;
 use run_core::Stop;
 use std::alloc::Global;
+use uplink_weave::FRAME_BYTES;
 
 /// Hears a frame.
-pub(crate) fn receive<E: Ear>(ear: &mut E, moment: Moment, air: &[u8; 552]) -> Result<Outcome, Stop>
+pub(crate) fn receive<E: Ear>(
+    ear: &mut E,
+    moment: Moment,
+    air: &[u8; FRAME_BYTES],
+) -> Result<Outcome, Stop>
     ensures received { (table : Table) (past : List Reception) → E.stands table past ear.old
         → HasTried (receiver_refusal past moment)
         (λ text. (text ≡ heard_text table past moment air.now)

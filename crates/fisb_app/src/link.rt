@@ -30,6 +30,7 @@ use run_core::Stop;
 use script_core::{Line, Reason, Wrong};
 use std::alloc::Global;
 use uplink_frame::StationId;
+use uplink_weave::FRAME_BYTES;
 
 /// What the lines acted on have made.
 #[derive(Drop)]
@@ -175,7 +176,7 @@ impl<G: Sender, E: Ear> Link<G, E> {
     }
 
     /// The bytes on the air of a frame that was sent, in time.
-    fn find(&self, moment: Moment, frame: u32) -> Result<[u8; 552], Reason>
+    fn find(&self, moment: Moment, frame: u32) -> Result<[u8; FRAME_BYTES], Reason>
         ensures { (sent : List Frame) → map sent_view self.now.sent.items ≡ map aired_view sent
             → IsFound self.now.sending.table.late moment (slice_get sent frame) result }
     {
@@ -205,7 +206,7 @@ fn keep(sent: &mut Vec<SentFrame>, frame: &AirFrame)
 }
 
 /// Puts the wrong bytes of a frame in their places.
-fn put_wrong(air: &mut [u8; 552], wrong: &[(u16, u8)])
+fn put_wrong(air: &mut [u8; FRAME_BYTES], wrong: &[(u16, u8)])
     requires { All (λ one. (one.0 < frame_bytes) × (one.1 < 256)) wrong.now }
     ensures { air.new ≡ air_heard wrong.now air.old }
 {

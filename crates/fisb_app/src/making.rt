@@ -25,6 +25,7 @@ use receiver_core::{HearFault, ShowFault};
 use run_core::Stop;
 use std::alloc::{AllocError, Global};
 use uplink_frame::StationId;
+use uplink_weave::FRAME_BYTES;
 use workload::{Changes, Step};
 
 /// The most frames of a run, as a count of turns.
@@ -224,7 +225,7 @@ impl<G: Sender, E: Ear> Making<G, E> {
     }
 
     /// The bytes on the air of the frame that was sent last, in time.
-    fn air_of_last(&self, moment: Moment) -> Option<[u8; 552]>
+    fn air_of_last(&self, moment: Moment) -> Option<[u8; FRAME_BYTES]>
         ensures { (sent : Option Frame) → sent_one self.now.last ≡ aired_one sent
             → IsInAir self.now.late moment sent result }
     {

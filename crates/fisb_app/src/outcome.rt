@@ -12,6 +12,7 @@ use run_core::Given;
 use script_core::{print_heard, print_lost, print_noapp, print_picture, print_sent};
 use std::alloc::{AllocError, Global};
 use std::marker::Model;
+use uplink_weave::FRAME_BYTES;
 
 /// What was done for a line.
 #[derive(Drop)]
@@ -104,7 +105,7 @@ fn print_sent_alone(
         slot,
         bodies,
         used,
-        air: [0; 552],
+        air: [0; FRAME_BYTES],
     };
     print_sent(alloc, index, &frame, false)
 }

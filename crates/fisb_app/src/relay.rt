@@ -18,7 +18,8 @@ use life_table::LifeTable;
 use run_core::Stop;
 use script_core::Line;
 use std::alloc::{AllocError, Global};
-use uplink_weave::unweave;
+use uplink_frame::PAYLOAD_LENGTH;
+use uplink_weave::{FRAME_BYTES, unweave};
 
 /// The time of reception that says that it is not known.
 const UNKNOWN_TIME: u32 = 0x00ff_ffff;
@@ -63,10 +64,10 @@ impl LineActor for Relay {
 }
 
 /// The framed message of the payload of a frame, and nothing where it has none.
-pub(crate) fn display_message(alloc: Global, air: &[u8; 552]) -> Result<Bytes, AllocError>
+pub(crate) fn display_message(alloc: Global, air: &[u8; FRAME_BYTES]) -> Result<Bytes, AllocError>
     ensures { IfOk result (λ bytes. bytes ≡ display_bytes (payload_in air.now)) }
 {
-    let mut payload = [0; 432];
+    let mut payload = [0; PAYLOAD_LENGTH];
     let Ok(_) = unweave(air, &mut payload) else {
         return Ok(no_text(alloc));
     };

@@ -1,5 +1,6 @@
 //! What is printed of a case: its output, which is shortened where it is long, and its status.
-ghost use Rattle.std.specs.Prelude.{◌≡◌, ◌+◌, ◌*◌, ◌%◌, ◌^◌, ◌∷◌, [], ◌++◌, IfOk, codes, decimal, fold, string_bytes};
+ghost use Rattle.std.specs.Prelude.{◌≡◌, ◌+◌, ◌*◌, ◌%◌, ◌^◌, ◌∷◌, [], ◌++◌, IfOk, codes, decimal};
+ghost use Rattle.std.specs.Prelude.{fold, string_bytes};
 ghost use Rattle.run_core.specs.Status.{code_of};
 
 use fisb_app::Status;

@@ -14,6 +14,7 @@ use crate::newest::Newest;
 use crate::place::Place;
 use fisb_time::Moment;
 use picture_core::laws::keys_are_ordered;
+use segment_core::BODY_LIMIT;
 use std::alloc::{AllocError, Global};
 use std::collections::VecDeque;
 use std::rc::Rc;
@@ -138,7 +139,7 @@ impl Line {
         ensures placed { ArePlaced (latest_at newest.old) (pieces_in self.old)
             → ArePlaced (latest_at newest.new) (pieces_in self.new) }
     {
-        let mut room = [0; 422];
+        let mut room = [0; BODY_LIMIT];
         let mut aired = 0;
         for _turn in 0..self.places.len() {
             match self.turn(newest, moment, &mut room, frames) {
@@ -155,7 +156,7 @@ impl Line {
         &mut self,
         newest: &mut Newest,
         moment: Moment,
-        room: &mut [u8; 422],
+        room: &mut [u8; BODY_LIMIT],
         frames: &mut AppData,
     ) -> Turn
         ensures kept { (key : Key)

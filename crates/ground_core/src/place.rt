@@ -9,6 +9,7 @@ use crate::newest::Newest;
 use apdu_core::laws::{apdu_reads_back, shown_fits};
 use apdu_core::{Apdu, Seg, write_apdu};
 use fisb_time::{Moment, fields_of};
+use segment_core::BODY_LIMIT;
 use segment_core::laws::parts_fit_frames;
 use std::rc::Rc;
 use uplink_frame::AppData;
@@ -49,7 +50,7 @@ impl Place {
     }
 
     /// Writes its body at the front of a room, and answers how many bytes it has.
-    fn write_body(&self, room: &mut [u8; 422]) -> usize
+    fn write_body(&self, room: &mut [u8; BODY_LIMIT]) -> usize
         ensures written { room.new ≡ body_of_piece (place_view self.now)
             ++ drop (length (body_of_piece (place_view self.now))) room.old }
         ensures number { result ≡ length (body_of_piece (place_view self.now)) }
@@ -72,7 +73,7 @@ impl Place {
     }
 
     /// Puts its information frame after the others, where it fits, and answers whether it did.
-    pub(crate) fn is_pushed(&self, room: &mut [u8; 422], frames: &mut AppData) -> bool
+    pub(crate) fn is_pushed(&self, room: &mut [u8; BODY_LIMIT], frames: &mut AppData) -> bool
         ensures answer { result
             ≡ nat_le (room_of_piece (place_view self.now))
             (frame_room - length (spelled_frames frames.old)) }

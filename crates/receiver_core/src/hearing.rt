@@ -25,7 +25,7 @@ use picture_core::Picture;
 use segment_core::laws::answers_complete;
 use segment_core::{Arrived, Joiner, Taken};
 use std::alloc::{AllocError, Global};
-use uplink_frame::{InfoFrame, StationId, frames};
+use uplink_frame::{InfoFrame, PAYLOAD_LENGTH, StationId, frames};
 
 /// Takes the information frames of a payload in their order, and lists what is passed on unread.
 /// Where memory runs out, some of them may have been taken.
@@ -34,7 +34,7 @@ pub(crate) fn take_frames(
     table: &LifeTable,
     station: StationId,
     moment: Moment,
-    payload: &[u8; 432],
+    payload: &[u8; PAYLOAD_LENGTH],
     joiner: &mut Joiner,
     picture: &mut Picture,
 ) -> Result<Vec<Unread>, AllocError>

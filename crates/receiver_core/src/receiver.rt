@@ -25,9 +25,9 @@ use picture_core::{Entries, Picture};
 use segment_core::{Joiner, Longest};
 use std::alloc::Global;
 use std::marker::Model;
-use uplink_frame::read_header;
+use uplink_frame::{PAYLOAD_LENGTH, read_header};
 use uplink_weave::laws::functions_of_a_frame;
-use uplink_weave::unweave;
+use uplink_weave::{FRAME_BYTES, unweave};
 
 /// A receiver: it joins the segments that it hears by their stations, and keeps of each key the
 /// newest version that has not ended. After each frame it holds no more than the frames of which
@@ -74,7 +74,7 @@ impl Receiver {
     /// `Clock` where the moment is below that of the last frame that was heard, `Lost` where a
     /// block has no code word near it, and `NoApplication` where the header says so, in this order;
     /// `NoMemory` where memory runs out. The receiver is then as it was.
-    pub fn hear(&mut self, moment: Moment, air: &[u8; 552]) -> Result<Heard, HearFault>
+    pub fn hear(&mut self, moment: Moment, air: &[u8; FRAME_BYTES]) -> Result<Heard, HearFault>
         ensures heard { (table : LifeTable) (past : List Reception)
             → StandsFor table self.old past
             → HasHeard (StandsFor table self.new) table past (refusal_of_air past moment air.now)
@@ -87,7 +87,7 @@ impl Receiver {
             return Err(HearFault::Clock { kept });
         }
         functions_of_a_frame();
-        let mut payload = [0; 432];
+        let mut payload = [0; PAYLOAD_LENGTH];
         let corrected = match unweave(air, &mut payload) {
             Ok(corrected) => corrected,
             Err(lost) => return Err(HearFault::Lost { block: lost.block }),
@@ -100,7 +100,11 @@ impl Receiver {
     /// # Errors
     ///
     /// Those of `hear`, but never `Lost`.
-    pub fn hear_payload(&mut self, moment: Moment, payload: &[u8; 432]) -> Result<Heard, HearFault>
+    pub fn hear_payload(
+        &mut self,
+        moment: Moment,
+        payload: &[u8; PAYLOAD_LENGTH],
+    ) -> Result<Heard, HearFault>
         ensures heard { (table : LifeTable) (past : List Reception)
             → StandsFor table self.old past
             → HasHeard (StandsFor table self.new) table past
@@ -120,7 +124,7 @@ impl Receiver {
     fn take_payload(
         &mut self,
         moment: Moment,
-        payload: &[u8; 432],
+        payload: &[u8; PAYLOAD_LENGTH],
         corrected: [u8; 6],
     ) -> Result<Heard, HearFault>
         requires { IsNotBefore self.old.joiner.store.clock moment }

@@ -17,6 +17,7 @@ use fisb_wire::Numbers;
 use memchr::memchr;
 use radar_core::Cells;
 use std::alloc::Global;
+use uplink_weave::FRAME_BYTES;
 
 /// The first moment of a line, in seconds.
 const FIRST_MOMENT: u64 = 946_684_800;
@@ -184,10 +185,10 @@ pub(crate) fn read_numbers(alloc: Global, field: &[u8]) -> Result<Numbers, LineF
 }
 
 /// The bytes of a frame that a field spells in hexadecimal digits.
-pub(crate) fn read_air(field: &[u8]) -> Option<[u8; 552]>
+pub(crate) fn read_air(field: &[u8]) -> Option<[u8; FRAME_BYTES]>
     ensures { result ≡ air_in field.now }
 {
-    let mut air = [0; 552];
+    let mut air = [0; FRAME_BYTES];
     if field.len() == 2 * air.len() && read_pairs(field, &mut air) {
         Some(air)
     } else {

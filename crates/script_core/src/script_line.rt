@@ -6,6 +6,7 @@ use fisb_wire::Numbers;
 use radar_core::{BlockKey, Cells};
 use thiserror::Error;
 use uplink_frame::StationId;
+use uplink_weave::FRAME_BYTES;
 
 /// What a line of a script says.
 #[derive(Drop)]
@@ -51,7 +52,7 @@ pub enum Line {
     /// The bytes of a frame as they are heard.
     Rx {
         moment: Moment,
-        air: [u8; 552],
+        air: [u8; FRAME_BYTES],
     },
     /// The picture is asked for.
     Show {

@@ -14,3 +14,4 @@ pub use arrived::{Arrived, Longest, Taken};
 pub use cutting::{is_segmented, part_at, part_count};
 pub use joiner::Joiner;
 pub use pieces::{Pieces, split};
+pub use sizes::BODY_LIMIT;

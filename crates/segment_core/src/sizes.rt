@@ -4,6 +4,9 @@ ghost use Rattle.segment_core.specs.File.{segment_limit, whole_limit};
 
 use fisb_time::TimeForm;
 
+/// The most bytes of the body of an information frame that fills a frame alone.
+pub const BODY_LIMIT: usize = 422;
+
 /// The most bytes of a payload that is sent whole.
 pub(crate) fn whole_limit(form: TimeForm) -> usize
     ensures { result ≡ whole_limit form }

@@ -10,6 +10,7 @@ use fisb_time::Moment;
 use picture_core::Entries;
 use receiver_core::Receiver;
 use std::alloc::Global;
+use uplink_weave::FRAME_BYTES;
 
 /// Hears a frame, and gives the picture after it, unless the frame or the picture is refused. It is
 /// the picture of all payloads that were heard, the frame's the newest.
@@ -17,7 +18,7 @@ pub fn picture_after(
     alloc: Global,
     receiver: &mut Receiver,
     moment: Moment,
-    air: &[u8; 552],
+    air: &[u8; FRAME_BYTES],
 ) -> Option<Entries>
     ensures { (table : LifeTable) (past : List Reception) (payload : List ℕ)
         → StandsFor table receiver.old past

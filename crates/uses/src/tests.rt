@@ -5,6 +5,7 @@ use fisb_time::Moment;
 use ground_core::{Ground, Station};
 use life_table::LifeTable;
 use receiver_core::Receiver;
+use uplink_frame::PAYLOAD_LENGTH;
 
 #[test]
 fn a_report_goes_to_the_picture(rt: HostRuntime) {
@@ -38,7 +39,7 @@ fn a_report_goes_to_the_picture(rt: HostRuntime) {
 
 #[test]
 fn a_payload_comes_through(rt: HostRuntime) {
-    let mut payload = [7; 432];
+    let mut payload = [7; PAYLOAD_LENGTH];
     payload[6] = 0xA0;
     assert!(rt; payload_through_air(&payload, 551, 1) == Ok(payload));
 }
