@@ -65,7 +65,7 @@ are_built_on "README.md, definitions of promises" "$(table README.md '## What is
             gsub(/,/, "", parts[i])
             sub(/^Ground::/, "ground_core::", parts[i])
             sub(/^Receiver::/, "receiver_core::", parts[i])
-            sub(/::([A-Z][a-z]*::)?/, " ", parts[i])
+            sub(/::(([A-Z][a-z]*|laws)::)?/, " ", parts[i])
             crate = parts[i]
             sub(/ .*$/, "", crate)
             print parts[i], (file ~ /\//) ? file : crate "/specs/" file
