@@ -9,16 +9,17 @@ use Rattle.std.specs.Int.{bytes_high_first}
 use Rattle.fisb_time.specs.declared.form.TimeForm.{TimeForm}
 use Rattle.fisb_time.specs.declared.form.TimeForm.TheVariants.{Minute, Second, DayMinute, DaySecond}
 use Rattle.fisb_time.specs.declared.form.TimeFields.{TimeFields}
+use Rattle.list_members.specs.Each.{AllByRecursion-front, AllByRecursion-back}
 use Rattle.bit_fields.specs.Bits.{Field, as_number, number_of, field_at}
 use Rattle.apdu_core.specs.declared.apdu.Seg.{Seg}
 use Rattle.apdu_core.specs.declared.fault.ApduFault.{ApduFault}
 use Rattle.apdu_core.specs.declared.fault.ApduFault.TheVariants.{Short, Flagged, BadSegment}
 use Rattle.apdu_core.specs.Apdu.{Apdu, form_number, form_of, time_fields, segment_fields, time_width, header_width, header_length, header_fields, header_with, fill_width, time_in, segmentation_in, form_in, is_segmented_in, is_bad, apdu_of_header, apdu_of}
 use Rattle.apdu_core.specs.Spelling.{FitsTime, FitsSegment, FitsSegmentation, FitsApdu, AreBytes, SpellsApdu, IsReadingOf}
-use Rattle.bit_fields.specs.BytesAsNumbers.{IsByte, number_of-append, number_of-fits}
-use Rattle.apdu_core.proofs.ByteLemmas.{length-bytes_high_first, bytes_high_first-bytes}
-use Rattle.apdu_core.proofs.FieldLemmas.{AreWithin, AreAt, bytes-from_at, at-from_bytes}
-use Rattle.apdu_core.proofs.HeaderLemmas.{fields_with, whole, time-from_at, at-from_time, segment-from_at, at-from_segment, within-back, within-front, within-from_fits, time_in-fits}
+use Rattle.bit_fields.specs.BytesAsNumbers.{IsByte, number_of-append, number_of-fits, bytes_high_first-bytes}
+use Rattle.apdu_core.proofs.ByteLemmas.{length-bytes_high_first}
+use Rattle.apdu_core.proofs.FieldLemmas.{IsWithin, AreWithin, AreAt, bytes-from_at, at-from_bytes}
+use Rattle.apdu_core.proofs.HeaderLemmas.{fields_with, whole, time-from_at, at-from_time, segment-from_at, at-from_segment, within-from_fits, time_in-fits}
 
 -- a field of the front of some bytes is that field of all of them
 pub field_in_front : (xs ys : List ℕ) (place width : ℕ) → AreBytes ys → place + width ≤ 8 * length xs → field_at (xs ++ ys) place width ≡ field_at xs place width
@@ -235,9 +236,9 @@ spelled-from_header a header b payload size h time g =
     let last : List Field = record { width = fill_width a; number = fill } ∷ [] in
     let both = bytes-from_at (fields_with fill a) header b (whole fill a ∙ ap (λ (n : ℕ). 8 * n) (sym size)) (at-from_header a header h) in
     let within : AreWithin (header_fields a ++ last) = both.0 in
-    let front = within-front (header_fields a) last within in
-    let back = within-back (header_fields a) last within in
-    let segment = within-back (time_fields a.form a.time) (segment_fields a.segmentation) front.1.1.1.1 in
+    let front = AllByRecursion-front IsWithin (header_fields a) last within in
+    let back = AllByRecursion-back IsWithin (header_fields a) last within in
+    let segment = AllByRecursion-back IsWithin (time_fields a.form a.time) (segment_fields a.segmentation) front.1.1.1.1 in
     let fits : FitsApdu a = record { product = front.1.0; time = time; segmentation = fits-from_within a.segmentation segment g } in
     let same : header ≡ header_with fill a = both.1 ∙ ap (λ (n : ℕ). bytes_high_first n (as_number 0 (fields_with fill a))) size in
     (fill, record { fits = fits; fill_fits = back.0; payload = payload; bits = ap (λ (bytes : List ℕ). bytes ++ a.payload) same })

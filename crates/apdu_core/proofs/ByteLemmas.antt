@@ -1,12 +1,12 @@
 -- A number as bytes, and bytes as they are read one after another.
 use Rattle.std.proofs.Common.{◌≡◌, ℕ, zero, suc, ◌+◌, ◌*◌, ◌/◌, ◌%◌, ◌^◌, ◌<◌, List, [], ◌∷◌, ◌++◌, length, take, get_or, refl, sym, ap, ◌∙◌, arith}
 use Rattle.std.proofs.Math.Nat.{div-one, pow-suc, mod-eq_of_lt}
-use Rattle.std.proofs.lemmas.Nat.{pow-add, mod-pow-add, mod_below, same_from_place}
+use Rattle.std.proofs.lemmas.Nat.{pow-add, mod-pow-add, same_from_place}
 use Rattle.std.proofs.lemmas.List.{take_more}
-use Rattle.std.proofs.lemmas.List.Elements.{All-nil, All-cons, All-tail}
+use Rattle.std.proofs.lemmas.List.Elements.{All-tail}
 use Rattle.std.specs.Int.{byte_at, bytes_high_first}
 use Rattle.bit_fields.specs.Bits.{number_of}
-use Rattle.bit_fields.specs.BytesAsNumbers.{IsByte, eight_more, number_of-cons, number_of-append, number_of-fits}
+use Rattle.bit_fields.specs.BytesAsNumbers.{IsByte, bytes_high_first-bytes, eight_more, number_of-cons, number_of-append, number_of-fits}
 use Rattle.apdu_core.specs.Spelling.{AreBytes}
 
 pow256 : (n : ℕ) → 256 ^ n ≡ 2 ^ (8 * n)
@@ -25,12 +25,6 @@ length-bytes_high_first (suc n) x = let e = length-bytes_high_first n x in omega
 byte_at-pow : (k x : ℕ) → byte_at k x ≡ x / 2 ^ (8 * k) % 2 ^ 8
 byte_at-pow zero x = ap (λ (y : ℕ). y % 256) (sym (div-one x))
 byte_at-pow (suc k) x = ap (λ (p : ℕ). x / p % 256) (pow256 (suc k))
-
-pub bytes_high_first-bytes : (n x : ℕ) → AreBytes (bytes_high_first n x)
-bytes_high_first-bytes zero x = All-nil IsByte
-bytes_high_first-bytes (suc n) x =
-    let first : byte_at n x < 256 = rw (byte_at-pow n x) (mod_below (x / 2 ^ (8 * n)) 256 (omega arith)) in
-    All-cons IsByte (byte_at n x) (bytes_high_first n x) first (bytes_high_first-bytes n x)
 
 -- the bytes of a number make its lowest part
 pub number_of-bytes : (n x : ℕ) → number_of (bytes_high_first n x) ≡ x % 2 ^ (8 * n)

@@ -3,6 +3,7 @@ use Rattle.std.proofs.Common.{◌≡◌, ℕ, ◌+◌, ◌-◌, ◌*◌, ◌/◌
 use Rattle.std.proofs.Math.Nat.{add-mul, mul_assoc, mul_comm, mod-eq_of_lt}
 use Rattle.std.proofs.lemmas.Nat.{pow-add, mod-pow-add, mod_below, mul-add-lt, same_from_place, pow_pos}
 use Rattle.std.specs.Int.{bytes_high_first}
+use Rattle.std.specs.List.{AllByRecursion}
 use Rattle.bit_fields.specs.Bits.{Field, as_number, number_of, field_at}
 use Rattle.apdu_core.specs.Spelling.{AreBytes}
 use Rattle.bit_fields.specs.BytesAsNumbers.{number_of-fits}
@@ -13,9 +14,11 @@ total_width [] = 0
 total_width (field ∷ more) = field.width + total_width more
 
 -- each number is within its width
+abbrev pub IsWithin : Field → Type 0
+IsWithin field = field.number < 2 ^ field.width
+
 abbrev pub AreWithin : List Field → Type 0
-AreWithin [] = Unit {0}
-AreWithin (field ∷ more) = (field.number < 2 ^ field.width) × AreWithin more
+AreWithin fields = AllByRecursion IsWithin fields
 
 -- each number stands in the number, the last field lowest
 abbrev pub AreIn : ℕ → List Field → Type 0

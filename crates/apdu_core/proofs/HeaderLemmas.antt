@@ -1,5 +1,6 @@
 -- The fields of a header, and what is read at their places.
 use Rattle.std.proofs.Common.{◌≡◌, ℕ, ◌+◌, ◌*◌, ◌^◌, ◌<◌, if◌then◌else◌, Option, None, Some, is_some, List, [], ◌∷◌, ◌++◌, refl, arith, lit<}
+use Rattle.list_members.specs.Each.{AllByRecursion-append}
 use Rattle.fisb_time.specs.declared.form.TimeForm.{TimeForm}
 use Rattle.fisb_time.specs.declared.form.TimeForm.TheVariants.{Minute, Second, DayMinute, DaySecond}
 use Rattle.fisb_time.specs.declared.form.TimeFields.{TimeFields}
@@ -7,7 +8,7 @@ use Rattle.bit_fields.specs.Bits.{Field, field_at}
 use Rattle.apdu_core.specs.declared.apdu.Seg.{Seg}
 use Rattle.apdu_core.specs.Apdu.{Apdu, form_number, time_fields, segment_fields, time_width, header_length, header_fields, fill_width, time_in, segmentation_in}
 use Rattle.apdu_core.specs.Spelling.{FitsTime, FitsSegmentation, FitsApdu}
-use Rattle.apdu_core.proofs.FieldLemmas.{total_width, AreWithin, AreAt}
+use Rattle.apdu_core.proofs.FieldLemmas.{total_width, IsWithin, AreWithin, AreAt}
 
 -- the fields of a header with its fill
 abbrev pub fields_with : ℕ → Apdu → List Field
@@ -75,18 +76,6 @@ at-from_segment DayMinute bytes rest h = (refl, (refl, (refl, h)))
 at-from_segment DaySecond bytes rest h = (refl, (refl, (refl, h)))
 
 -- which numbers are within their widths
-pub within-append : (xs ys : List Field) → AreWithin xs → AreWithin ys → AreWithin (xs ++ ys)
-within-append [] ys h i = i
-within-append (x ∷ xs) ys h i = (h.0, within-append xs ys h.1 i)
-
-pub within-front : (xs ys : List Field) → AreWithin (xs ++ ys) → AreWithin xs
-within-front [] ys h = tt
-within-front (x ∷ xs) ys h = (h.0, within-front xs ys h.1)
-
-pub within-back : (xs ys : List Field) → AreWithin (xs ++ ys) → AreWithin ys
-within-back [] ys h = h
-within-back (x ∷ xs) ys h = within-back xs ys h.1
-
 pub within-from_time : (form : TimeForm) (t : TimeFields) → FitsTime form t → AreWithin (time_fields form t)
 within-from_time Minute t h = (h.hours, (h.minutes, tt))
 within-from_time Second t h = (h.hours, (h.minutes, (h.seconds, tt)))
@@ -157,6 +146,6 @@ form_within DaySecond = omega arith
 pub within-from_fits : (fill : ℕ) (a : Apdu) → FitsApdu a → fill < 2 ^ fill_width a → AreWithin (fields_with fill a)
 within-from_fits fill a fits h =
     let back : AreWithin (record { width = fill_width a; number = fill } ∷ []) = (h, tt) in
-    let rest = within-append (time_fields a.form a.time) (segment_fields a.segmentation) (within-from_time a.form a.time fits.time) (within-from_segment a.segmentation fits.segmentation) in
+    let rest = AllByRecursion-append IsWithin (time_fields a.form a.time) (segment_fields a.segmentation) (within-from_time a.form a.time fits.time) (within-from_segment a.segmentation fits.segmentation) in
     let front : AreWithin (header_fields a) = (lit< tt, (fits.product, (bit_within a.segmentation, (form_within a.form, rest)))) in
-    within-append (header_fields a) (record { width = fill_width a; number = fill } ∷ []) front back
+    AllByRecursion-append IsWithin (header_fields a) (record { width = fill_width a; number = fill } ∷ []) front back

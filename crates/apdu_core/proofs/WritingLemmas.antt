@@ -6,10 +6,10 @@ use Rattle.std.proofs.lemmas.List.Elements.{All-append}
 use Rattle.std.specs.Int.{bytes_high_first}
 use Rattle.fisb_time.specs.declared.form.TimeForm.{TimeForm}
 use Rattle.bit_fields.specs.Bits.{Field, as_number}
-use Rattle.bit_fields.specs.BytesAsNumbers.{IsByte}
+use Rattle.bit_fields.specs.BytesAsNumbers.{IsByte, bytes_high_first-bytes}
 use Rattle.apdu_core.specs.Apdu.{Apdu, header_width, header_length, header_fields, fill_width, apdu_header, apdu_bytes, apdu_of}
 use Rattle.apdu_core.specs.Spelling.{FitsApdu, AreBytes, SpellsApdu}
-use Rattle.apdu_core.proofs.ByteLemmas.{length-bytes_high_first, bytes_high_first-bytes}
+use Rattle.apdu_core.proofs.ByteLemmas.{length-bytes_high_first}
 use Rattle.apdu_core.proofs.HeaderLemmas.{fields_with}
 use Rattle.apdu_core.proofs.ApduLemmas.{header_most, read-from_spelled}
 

@@ -1,10 +1,11 @@
 -- Bytes as one number: what stands before others counts by their length, and the number fits its
 -- bytes.
-use Rattle.std.proofs.Common.{◌≡◌, ℕ, suc, ◌+◌, ◌*◌, ◌^◌, ◌<◌, List, [], ◌∷◌, ◌++◌, length, fold}
+use Rattle.std.proofs.Common.{◌≡◌, ℕ, zero, suc, ◌+◌, ◌*◌, ◌^◌, ◌<◌, List, [], ◌∷◌, ◌++◌, length, fold}
 use Rattle.std.proofs.Common.{sym, ap, ◌∙◌, arith}
+use Rattle.std.specs.Int.{byte_at, bytes_high_first}
 use Rattle.std.proofs.Math.Nat.{add-mul, mul_comm}
 use Rattle.std.proofs.lemmas.Nat.{pow-add, mul-add-lt}
-use Rattle.std.proofs.lemmas.List.Elements.{All-head, All-tail}
+use Rattle.std.proofs.lemmas.List.Elements.{All-nil, All-cons, All-head, All-tail}
 use Rattle.bit_fields.specs.Bits.{AreBytes, number_of}
 
 abbrev pub IsByte : ℕ → Type 0
@@ -51,3 +52,14 @@ number_of-fits (x ∷ xs) h =
     rw (number_of-cons x xs, eight_more (length xs), mul_comm 256 (2 ^ (8 * length xs)))
     (mul-add-lt x (2 ^ (8 * length xs)) (number_of xs) 256
     (All-head IsByte x xs h) (number_of-fits xs (All-tail IsByte x xs h)))
+
+byte_below : (k n : ℕ) → byte_at k n < 256
+byte_below zero n = omega arith
+byte_below (suc k) n = omega arith
+
+-- the bytes of a number are bytes
+pub bytes_high_first-bytes : (k n : ℕ) → AreBytes (bytes_high_first k n)
+bytes_high_first-bytes zero n = All-nil IsByte
+bytes_high_first-bytes (suc k) n =
+    All-cons IsByte (byte_at k n) (bytes_high_first k n) (byte_below k n)
+    (bytes_high_first-bytes k n)

@@ -35,7 +35,7 @@ first_cause None false = None
 unfoldable pub text_refusal : List ℕ → Option TextRefusal
 text_refusal text = first_cause (first_bad text) (nat_lt longest_text (length text))
 
--- what a fault tells of the text: want of memory tells nothing
+-- what a fault tells of the text: out of memory tells nothing
 abbrev pub told_of_text : TextFault → Option TextRefusal
 told_of_text (BadCharacter place) = Some (bad_character place)
 told_of_text TooLong = Some too_long

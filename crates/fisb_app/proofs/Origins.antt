@@ -7,6 +7,7 @@ use Rattle.life_table.specs.LifeTable.{LifeTable}
 use Rattle.life_table.specs.Rules.{IsTable}
 use Rattle.ground_core.specs.Airing.{Frame}
 use Rattle.ground_core.specs.Broadcast.{frames}
+use Rattle.segment_core.specs.Store.{IsNotBefore}
 use Rattle.receiver_core.specs.Reception.{received_picture}
 use Rattle.fisb_link.specs.Hearing.{IsInTime, IsAfterHearings, AreHeard, receptions_of, payload_sent}
 use Rattle.script_core.specs.Script.{Line, empty, rx, show}
@@ -17,13 +18,13 @@ use Rattle.fisb_app.specs.Reading.{refusal_of, own_refusal}
 use Rattle.fisb_app.specs.Damage.{has_near_blocks}
 use Rattle.fisb_app.specs.Origin.{Origin, IsOrigin, numbered_hearings, is_sent_frame, all_sent, origin_picture}
 use Rattle.fisb_app.proofs.Judging.{or-none, IsClear, clear}
-use Rattle.fisb_app.proofs.Sound.{Laws, IsNotBehind, not-behind, behind-past, received-near}
+use Rattle.fisb_app.proofs.Sound.{Laws, not-behind, behind-past, received-near}
 
 pub record IsHeardFrom (origin : Origin) (table : LifeTable) (acted : List Line) : Type 0 where
   pub heard : all_sent origin table acted ≡ true → AreHeard table.late (frames table (origin.broadcast table)) (numbered_hearings origin.numbers acted)
   pub received_is : all_sent origin table acted ≡ true
       → receptions table acted ≡ receptions_of (frames table (origin.broadcast table)) (numbered_hearings origin.numbers acted)
-  pub heard_before : (moment : ℕ) → IsNotBehind moment (receiver_clock acted) → IsAfterHearings moment (numbered_hearings origin.numbers acted)
+  pub heard_before : (moment : ℕ) → IsNotBefore (receiver_clock acted) moment → IsAfterHearings moment (numbered_hearings origin.numbers acted)
 
 pub heard-start : (origin : Origin) (table : LifeTable) → IsHeardFrom origin table []
 heard-start origin table = record { heard = λ all. tt; received_is = λ all. refl; heard_before = λ moment is. tt }

@@ -15,14 +15,15 @@ use Rattle.life_table.specs.LifeTable.{LifeTable}
 use Rattle.life_table.specs.Rules.{IsTable}
 use Rattle.ground_core.specs.Update as updates
 use Rattle.ground_core.specs.Update.{IsUpdate}
-use Rattle.ground_core.specs.History.{Event, accepted, fill, event_moment}
-use Rattle.ground_core.specs.OnAir.{history_clock}
+use Rattle.ground_core.specs.History.{Event, accepted, fill}
+use Rattle.ground_core.specs.InTime.{not_before}
 use Rattle.ground_core.specs.Airing.{Frame, frame_payload}
-use Rattle.ground_core.specs.Broadcast.{StationEvent, IsBroadcast, IsNext, IsNotBeforeLast, frames}
+use Rattle.ground_core.specs.Broadcast.{StationEvent, IsBroadcast, IsNext, frames}
 use Rattle.ground_core.specs.Sent.{FramesReadBack}
 use Rattle.receiver_core.specs.Reception.{Reception, received_picture}
 use Rattle.receiver_core.specs.Hearing.{clock_of, is_valid, payload_refusal, refusal_of_air, clock, lost, no_application}
-use Rattle.segment_core.specs.Store.{last_above}
+use Rattle.segment_core.specs.InTime as stores
+use Rattle.segment_core.specs.Store.{IsNotBefore, last_above}
 use Rattle.fisb_link.specs.LinkPicture.{link_picture}
 use Rattle.fisb_link.specs.Hearing.{IsInTime, IsAfterHearings, AreHeard, receptions_of, payload_sent}
 use Rattle.fisb_link.specs.PicturesAgree.{PicturesAgree, HearingsStay}
@@ -43,16 +44,12 @@ pub record Laws : Type 0 where
   pub stay : HearingsStay
   pub agree : PicturesAgree
 
-abbrev pub IsNotBehind : ℕ → Option ℕ → Type 0
-IsNotBehind moment None = Unit {0}
-IsNotBehind moment (Some kept) = kept ≤ moment
-
 pub record IsSound (table : LifeTable) (acted : List Line) : Type 0 where
   pub station : FitsStation (station_after acted)
   pub is_broadcast : IsBroadcast table (broadcast acted)
   pub heard : AreHeard table.late (sent_frames table acted) (hearings acted)
   pub received_is : all_near table acted ≡ true → receptions table acted ≡ receptions_of (sent_frames table acted) (hearings acted)
-  pub heard_before : (moment : ℕ) → IsNotBehind moment (receiver_clock acted) → IsAfterHearings moment (hearings acted)
+  pub heard_before : (moment : ℕ) → IsNotBefore (receiver_clock acted) moment → IsAfterHearings moment (hearings acted)
 
 pub sound-start : (table : LifeTable) → IsSound table []
 sound-start table = record {
@@ -63,19 +60,11 @@ sound-start table = record {
   heard_before = λ moment is. tt;
 }
 
--- a moment that is not behind a line is behind none before it
-pub not-behind : (moment : ℕ) (last : Option ℕ) → option_map Clock (earlier_than (Some moment) last) ≡ None → IsNotBehind moment last
-not-behind moment None e = tt
-not-behind moment (Some kept) e = elim (cases_Bool (nat_lt moment kept)) [
-  | inl early ↦ absurd (if-some (nat_lt moment kept) kept early e)
-  | inr later ↦ grind (arith, nat_tests)
-]
-  where
-    if-some : (test : Bool) (kept : ℕ) → test ≡ true → option_map Clock (if test then Some kept else None) ≡ None → ⊥
-    if-some true kept is e = cc
-    if-some false kept is e = cc
+-- a moment that the clock of the receiver lets pass is not before it, nor is a later one
+pub not-behind : (moment : ℕ) (last : Option ℕ) → option_map Clock (earlier_than (Some moment) last) ≡ None → IsNotBefore last moment
+not-behind moment last e = stores.not_before last moment (none_mapped Clock (last_above last moment) e)
 
-pub behind-past : (moment own : ℕ) (last : Option ℕ) → own ≤ moment → IsNotBehind own last → IsNotBehind moment last
+pub behind-past : (moment own : ℕ) (last : Option ℕ) → own ≤ moment → IsNotBefore last own → IsNotBefore last moment
 behind-past moment own None after is = tt
 behind-past moment own (Some kept) after is = omega (arith, after, is)
 
@@ -115,15 +104,6 @@ in-time : (allowed moment : ℕ) (found : Option Frame) → frame_refusal allowe
 in-time allowed moment None e = cc
 in-time allowed moment (Some frame) e = time-none allowed moment frame.moment (nat_lt moment frame.moment) refl e
 
--- an event that the clock of its station lets pass is not before the last one
-past-last : (moment : ℕ) (past : List Event) → option_map Clock (last_above (history_clock past) moment) ≡ None → IsNotBeforeLast moment past
-past-last moment [] e = tt
-past-last moment (event ∷ past) e = passed (nat_lt moment (event_moment event)) refl e
-  where
-    passed : (early : Bool) → nat_lt moment (event_moment event) ≡ early → option_map Clock (if early then Some (event_moment event) else None) ≡ None → event_moment event ≤ moment
-    passed true is e = cc
-    passed false is e = grind (arith, nat_tests)
-
 -- the reception of a line that is heard
 reception-heard : Laws → (table : LifeTable) (acted : List Line) (past : List Reception) (moment place : ℕ) (wrong : List (ℕ × ℕ)) (found : Option Frame) → IsTable table
     → IsBroadcast table (broadcast acted) → receiver_refusal past moment ≡ None → slice_get (sent_frames table acted) place ≡ found → IsInTime table.late found moment
@@ -158,7 +138,7 @@ sound-update laws table acted moment update timely is own s =
     sound-event laws table acted (accepted moment update) (record {
       is_accepted = (is, none_mapped reason_of_update _ both.1);
       moment_is = timely;
-      not_before = past-last moment (events acted) both.0;
+      not_before = not_before (events acted) moment (none_mapped Clock _ both.0);
     }) s
 
 sound-turn : Laws → (table : LifeTable) (acted : List Line) (moment slot : ℕ) → IsMoment moment → slot < 32
@@ -169,7 +149,7 @@ sound-turn laws table acted moment slot timely below own s =
     sound-event laws table acted (fill moment slot) (record {
       is_accepted = below;
       moment_is = timely;
-      not_before = past-last moment (events acted) both.0;
+      not_before = not_before (events acted) moment (none_mapped Clock _ both.0);
     }) s
 
 sound-hear : Laws → (table : LifeTable) (acted : List Line) (moment number size : ℕ) (wrong : List (ℕ × ℕ)) → IsTable table → HasRanges size (hear moment number wrong)

@@ -1,13 +1,11 @@
 -- A turn, a hearing and a picture of a workload: what was made with one more.
-use Rattle.std.proofs.Common.{◌≡◌, ◌≢◌, ℕ, ◌+◌, ◌-◌, ◌<◌, ◌≤◌, nat_lt, true, false, if◌then◌else◌, Bool, List, [], ◌∷◌, ◌++◌, length, Option, Some, None, option_map, Ok, refl, sym, ap, subst, ◌∙◌, arith, rules, tests, slice_get, get_or, ◌%◌, ◌/◌}
+use Rattle.std.proofs.Common.{◌≡◌, ◌≢◌, ℕ, ◌+◌, ◌-◌, ◌<◌, ◌≤◌, nat_lt, true, false, if◌then◌else◌, Bool, List, [], ◌∷◌, ◌++◌, length, Option, Some, None, option_map, Ok, refl, sym, ap, subst, ◌∙◌, arith, rules, tests, slice_get}
 use Rattle.std.specs.Option.{option_or}
 use Rattle.std.specs.List.{cons_option}
 use Rattle.std.proofs.lemmas.List.{length-map, length_push}
 use Rattle.list_members.specs.ListMembers.{slice_get_after}
 use Rattle.list_members.specs.Tests.{or_none, zero_more}
-use Rattle.uplink_weave.specs.Functions.{part, woven_frame, payload_in, counts_in}
-use Rattle.rs_code.specs.Functions.{encoded_word}
-use Rattle.std.proofs.lemmas.List.FromFn.{length-map-range_with_len}
+use Rattle.uplink_weave.specs.Functions.{length-woven_frame, payload_in, counts_in}
 use Rattle.ground_core.specs.Sent.{HistoriesGrow}
 use Rattle.life_table.specs.LifeTable.{LifeTable}
 use Rattle.segment_core.specs.Store.{last_above}
@@ -122,12 +120,6 @@ show-made sends hears table acted moment old entries sum h shown is =
           (is ∙ ap (λ (c : Counts). c.entries + length entries) h.counts ∙ ap (λ n. total entries_by table acted + n) many);
     }
 
--- a frame on the air has 552 bytes
-pub length-aired : (frame : Frame) → length (air_of frame) ≡ 552
-unfolding woven_frame
-length-aired frame =
-    length-map-range_with_len (λ (place : ℕ). get_or (encoded_word 92 20 120 (part (place % 6) (frame_payload frame))) (place / 6) 0) 0 552
-
 -- what is heard of the frame that was sent last, with its changes
 heard-air : (changes : List (ℕ × ℕ)) (found : Option Frame) (frame : Frame) → found ≡ Some frame → length (air_of frame) ≡ 552
     → air_heard (wrong_in changes found) (air_of frame) ≡ changed_frame changes (air_of frame)
@@ -208,7 +200,7 @@ pub unreceived-made : {G E : Type 0} (sends : Sends G) (hears : Hears E) (table 
     → MakingHolds sends hears table after (record old { ear = ear; clock = Some moment })
 unreceived-made sends hears table acted after moment changes old ear frame air is free early none s h found put =
     acted-step sends hears table acted after _ _ _ is (ap (λ r. option_or r (receiver_refusal (receptions table acted) moment)) free ∙ early)
-    (heard-made sends hears table acted moment changes old ear frame air None old.counts.heard old.counts.corrected h found (length-aired frame) put none s
+    (heard-made sends hears table acted moment changes old ear frame air None old.counts.heard old.counts.corrected h found (length-woven_frame (frame_payload frame)) put none s
     (ap (λ (c : Counts). c.heard) h.counts) (omega arith))
 
 -- a frame before the last reception

@@ -61,8 +61,7 @@ is_update line = false
 -- Moments of the receiver never fall, and those of one station do not; each has a clock of its own.
 abbrev pub earlier_than : Option ℕ → Option ℕ → Option ℕ
 earlier_than None last = None
-earlier_than (Some moment) None = None
-earlier_than (Some moment) (Some last) = if nat_lt moment last then Some last else None
+earlier_than (Some moment) last = last_above last moment
 
 abbrev pub earlier_refusal : Option ℕ → Option ℕ → Option Reason
 earlier_refusal own last = option_map Clock (earlier_than own last)

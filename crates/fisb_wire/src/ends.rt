@@ -59,6 +59,6 @@ pub trait Sink {
     // The count fits 64 bits, and stands still at their end.
     ghost bounded: { (sink : Self) → faults sink ≤ 2 ^ 64 - 1 };
 
-    // Where there is a reach, the bytes are told, and there are faults only once so many were taken.
+    // Where there is a reach, the bytes are known, and there are faults only once so many were taken.
     ghost reached: { (sink : Self) → IsReached (reach sink) (written sink) (faults sink) };
 }

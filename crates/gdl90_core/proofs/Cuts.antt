@@ -1,4 +1,5 @@
 -- The pieces of a stream that goes on, and of one that is put together.
+use Rattle.std.specs.List.{AllByRecursion}
 use Rattle.std.specs.Prelude.{◌==◌, if◌then◌else◌, Option, Some, None}
 use Rattle.std.specs.Option.{option_map, option_or, option_to_list}
 use Rattle.std.proofs.Common.{◌≡◌, ◌≢◌, ℕ, Bool, true, false, List, [], ◌∷◌, ◌++◌, refl, sym, ◌∙◌, ap}
@@ -119,8 +120,7 @@ pieces_go_on (x ∷ more) byte =
 
 -- no byte is a flag
 abbrev pub NoFlag : List ℕ → Type 0
-NoFlag [] = Unit {0}
-NoFlag (byte ∷ more) = (byte ≢ 0x7E) × NoFlag more
+NoFlag bytes = AllByRecursion (λ byte. byte ≢ 0x7E) bytes
 
 pub before_flag-piece : (piece more : List ℕ) → NoFlag piece → before_flag (piece ++ 0x7E ∷ more) ≡ Some piece
 before_flag-piece [] more none = refl

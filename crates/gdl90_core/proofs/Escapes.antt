@@ -7,6 +7,7 @@ use Rattle.std.proofs.lemmas.Bool.{ne_eqb, cases_eq}
 use Rattle.std.proofs.lemmas.List.{append_assoc}
 use Rattle.std.proofs.lemmas.List.Elements.{All-head, All-tail, All-cons}
 use Rattle.bit_fields.specs.Bits.{AreBytes}
+use Rattle.list_members.specs.Each.{AllByRecursion-append}
 use Rattle.gdl90_core.specs.Framing.{escaped_byte, escaped_bytes}
 use Rattle.gdl90_core.specs.Reading.{EscapesNothing, HasBadEscape}
 use Rattle.gdl90_core.proofs.Cuts.{NoFlag}
@@ -98,14 +99,10 @@ escaped_bytes-good piece bytes e bad =
     ap has_good_escapes bad.escape ∙ good-front bad.front (0x7D ∷ bad.rest) ∙ bad-rest bad.rest bad.bad in
     cc
 
-NoFlag-append : (xs ys : List ℕ) → NoFlag xs → NoFlag ys → NoFlag (xs ++ ys)
-NoFlag-append [] ys none others = others
-NoFlag-append (x ∷ xs) ys none others = (none.0, NoFlag-append xs ys none.1 others)
-
 pub escaped_bytes-NoFlag : (bytes : List ℕ) → NoFlag (escaped_bytes bytes)
 escaped_bytes-NoFlag [] = tt
 escaped_bytes-NoFlag (byte ∷ more) =
-    NoFlag-append (escaped_byte byte) (escaped_bytes more)
+    AllByRecursion-append (λ b. b ≢ 0x7E) (escaped_byte byte) (escaped_bytes more)
     (by_form byte (λ b bytes. NoFlag bytes)
     ((λ e. omega (arith, e)), ((λ e. omega (arith, e)), tt))
     ((λ e. omega (arith, e)), ((λ e. omega (arith, e)), tt))

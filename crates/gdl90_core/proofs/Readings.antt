@@ -8,7 +8,7 @@ use Rattle.std.proofs.Math.Nat.{mod-add-div}
 use Rattle.std.proofs.lemmas.Bool.{cases_eq, cases_lt}
 use Rattle.std.proofs.lemmas.List.{append_assoc, append_cancel_left}
 use Rattle.std.proofs.Math.Seq.{take-append_seam, drop-append_seam}
-use Rattle.std.proofs.lemmas.List.Elements.{All-head, All-tail, All-drop}
+use Rattle.std.proofs.lemmas.List.Elements.{All-head, All-tail, All-drop, recursion_from_All}
 use Rattle.bit_fields.specs.Bits.{AreBytes}
 use Rattle.gdl90_core.specs.declared.pieces.Damage.TheVariants.{BadEscape, Short, TooLong, BadFcs}
 use Rattle.gdl90_core.specs.CheckSequence.{remainder}
@@ -156,14 +156,8 @@ say_some bytes all = elim (cases_lt (length bytes) 3) [
       )
     ]
 
-all_NoFlag : (piece : List ℕ) → All (λ byte. byte ≢ 0x7E) piece → NoFlag piece
-all_NoFlag [] all = tt
-all_NoFlag (byte ∷ more) all =
-    let P : ℕ → Type 0 = λ b. b ≢ 0x7E in
-    (All-head P byte more all, all_NoFlag more (All-tail P byte more all))
-
 pub one_reading : OneReading
-one_reading piece bytes none = elim (read_piece piece (all_NoFlag piece none)) [
+one_reading piece bytes none = elim (read_piece piece (recursion_from_All (λ byte. byte ≢ 0x7E) piece none)) [
   | inl read ↦
       let P : List ℕ → Type 0 = λ xs. AreBytes xs in
       let say = say_some read.0 (escaped_bytes-AreBytes read.0 (subst P read.1 bytes)) in

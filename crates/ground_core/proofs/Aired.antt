@@ -5,6 +5,7 @@ use Rattle.std.proofs.lemmas.List.Sums.{sum_by-cons}
 use Rattle.life_table.specs.LifeTable.{LifeTable}
 use Rattle.life_table.specs.Rules.{IsTable}
 use Rattle.uplink_frame.specs.declared.station.StationId.{StationId}
+use Rattle.list_members.specs.Each.{AllByRecursion-at}
 use Rattle.list_members.specs.Membership.{IsIn}
 use Rattle.list_members.specs.Members.{IsIn-either, IsIn-from_filter}
 use Rattle.list_members.specs.ListMembers.{in_map, map_has}
@@ -15,7 +16,6 @@ use Rattle.ground_core.specs.History.{Event, accepted, fill, item_of, items_made
 use Rattle.ground_core.specs.Airing.{Touch, is_live, is_touched, last_touches, waiting_segments, longest_fitting, airing, log}
 use Rattle.ground_core.specs.Broadcast.{IsNotBeforeLast, IsHistory}
 use Rattle.ground_core.specs.Sound.{AreGiven, AcceptedIsGiven}
-use Rattle.ground_core.proofs.ListLemmas.{AllByRecursion-at}
 use Rattle.ground_core.proofs.Order.{touched_segments}
 use Rattle.ground_core.proofs.Serials.{IsLogged, segments-logged}
 

@@ -1,6 +1,6 @@
 -- The items of groups of blocks.
-use Rattle.std.proofs.Common.{◌≡◌, Bool, true, false, if◌then◌else◌, ℕ, ◌+◌, ◌-◌, ◌<◌, ◌≤◌, List, [], ◌∷◌, ◌++◌, length, map, take, drop, flat_map, get_or, Some, refl, sym, ap, subst, ◌∙◌, arith}
-use Rattle.std.proofs.lemmas.List.{take_more, take_all, append-nil}
+use Rattle.std.proofs.Common.{◌≡◌, Bool, true, false, if◌then◌else◌, ℕ, ◌+◌, ◌<◌, ◌≤◌, List, [], ◌∷◌, ◌++◌, length, map, take, drop, flat_map, get_or, Some, refl, sym, ap, subst, ◌∙◌, arith}
+use Rattle.std.proofs.lemmas.List.{take_more, append-nil}
 use Rattle.std.proofs.lemmas.Grind.{flat_map-append}
 use Rattle.std.proofs.lemmas.Option.{get_or_from_slice_get}
 use Rattle.std.specs.List.{slice_get}
@@ -42,10 +42,3 @@ more_groups f groups k g e below =
 pub zero_both : (b : Bool) → ◌≡◌ {A = ℕ} 0 (if b then 0 else 0)
 zero_both true = refl
 zero_both false = refl
-
--- what stands behind the first number
-pub rest_is : (group : List ℕ) → take (length group - 1) (drop 1 group) ≡ drop 1 group
-rest_is [] = refl
-rest_is (n ∷ more) =
-    let size : length (n ∷ more) - 1 ≡ length more = omega arith in
-    ap (λ k. take k more) size ∙ take_all (length more) more (omega arith)

@@ -7,9 +7,10 @@ use Rattle.std.proofs.lemmas.List.Folds.{list_any-append}
 use Rattle.std.specs.List.{AllByRecursion, list_any}
 use Rattle.uplink_frame.specs.Station.{same_flag, same_station}
 use Rattle.uplink_frame.specs.Laws.{StationsAreTold}
+use Rattle.list_members.specs.Each.{AllByRecursion-front, AllByRecursion-back, AllByRecursion-weaker, filter_all, filter_none}
 use Rattle.ground_core.specs.Item.{Item, Segment, same_item, same_segment}
 use Rattle.ground_core.specs.Airing.{Touch, is_touched, last_touches, is_live, waiting_segments}
-use Rattle.ground_core.proofs.ListLemmas.{AllByRecursion-weaker, AllByRecursion-front, AllByRecursion-back, filter_all, filter_none, filter_swap, filter-map, list_any-map}
+use Rattle.ground_core.proofs.ListLemmas.{filter_swap, filter-map, list_any-map}
 
 -- the segments of a log, each at its last place
 abbrev pub stands_in : List Segment → Segment → Bool

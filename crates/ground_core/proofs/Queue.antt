@@ -10,6 +10,7 @@ use Rattle.uplink_frame.specs.declared.station.StationId.{StationId}
 use Rattle.uplink_frame.specs.Station.{same_station}
 use Rattle.uplink_frame.specs.Laws.{StationsAreTold}
 use Rattle.picture_core.specs.Key.{Key}
+use Rattle.list_members.specs.Each.{AllByRecursion-append, AllByRecursion-weaker, filter_same, filter_all}
 use Rattle.ground_core.specs.Item.{Item, Segment, segments_of, segment_of, same_item, same_segment, room_of}
 use Rattle.ground_core.specs.History.{Event, accepted, fill, items, new_items}
 use Rattle.ground_core.specs.Update.{Update, weather_of}
@@ -17,7 +18,7 @@ use Rattle.ground_core.specs.Airing.{log, airing, waiting_segments, longest_fitt
 use Rattle.ground_core.specs.Piece.{Piece, Latest, piece_of, lives_as, live_by, fitting_pieces, left_pieces}
 use Rattle.ground_core.specs.StandsFor.{latest_of, latest_of_item}
 use Rattle.ground_core.proofs.KeyLemmas.{KeyLaws}
-use Rattle.ground_core.proofs.ListLemmas.{AllByRecursion-append, AllByRecursion-weaker, AllByRecursion-in, AllByRecursion-all, AllByRecursion-map, filter_same, filter_all, filter_less, filter-map, list_any-weaker}
+use Rattle.ground_core.proofs.ListLemmas.{AllByRecursion-in, AllByRecursion-all, AllByRecursion-map, filter_less, filter-map, list_any-weaker}
 use Rattle.ground_core.proofs.Order.{last_places, touched_segments, stands_in, waiting_is, front-turned, Once, last_places-append, last_places_once}
 use Rattle.ground_core.proofs.Segments.{is_segment_of}
 use Rattle.ground_core.proofs.Serials.{Numbered, Numbered-append, numbered_items, numbered_made, serial_in, IsLogged, segments-logged, logged_more, logged_new, log_given, log_filled, AllByRecursion-last_places, live_same, latest_push}

@@ -3,9 +3,9 @@ use Rattle.std.proofs.Common.{◌≡◌, ℕ, zero, suc, ◌+◌, ◌<◌, Bool,
 use Rattle.std.specs.List.{AllByRecursion}
 use Rattle.std.specs.List.Sorted.{IsStrictlyIncreasing}
 use Rattle.std.proofs.lemmas.Bool.{and_parts, ltb-true}
+use Rattle.list_members.specs.Each.{AllByRecursion-back, AllByRecursion-weaker, AllByRecursion-at}
 use Rattle.list_members.specs.Membership.{IsIn}
 use Rattle.ground_core.specs.Refusal.{rise, rise_above}
-use Rattle.ground_core.proofs.ListLemmas.{AllByRecursion-weaker, AllByRecursion-back, AllByRecursion-at}
 
 abbrev pub Rises : List ℕ → Type 0
 Rises [] = Unit {0}

@@ -4,7 +4,7 @@ use Rattle.std.proofs.lemmas.List.{map-append, take_more}
 use Rattle.std.proofs.Math.Seq.{drop-cons}
 use Rattle.std.specs.declared.rc.Rc.{Rc}
 use Rattle.radar_core.specs.declared.key.BlockKey.{BlockKey}
-use Rattle.ground_core.specs.Putting.{AreWhole, values_of}
+use Rattle.ground_core.specs.Putting.{values_of}
 use Rattle.ground_core.specs.Rooms.{HasRoom, HaveRoomFor, HaveRoomForAll}
 use Rattle.ground_core.specs.declared.item.SentItem.{SentItem}
 use Rattle.ground_core.specs.declared.item_keys.ItemKeys.{ItemKeys}
@@ -25,14 +25,6 @@ rooms_stay old new stays (item ∷ more) h = (room_stays old new stays item.keys
 pub rooms_behind : (newest : Newest) (items : List SentItem) (item : SentItem) → HaveRoomForAll newest items → HaveRoomFor newest item.keys → HaveRoomForAll newest (items ++ item ∷ [])
 rooms_behind newest [] item h k = (k, tt)
 rooms_behind newest (first ∷ more) item h k = (h.0, rooms_behind newest more item h.1 k)
-
-pub whole_front : (items : List SentItem) (item : SentItem) → AreWhole (items ++ item ∷ []) → AreWhole items
-whole_front [] item h = tt
-whole_front (first ∷ more) item h = (h.0, whole_front more item h.1)
-
-pub whole_last : (items : List SentItem) (item : SentItem) → AreWhole (items ++ item ∷ []) → AreWhole (item ∷ [])
-whole_last [] item h = h
-whole_last (first ∷ more) item h = whole_last more item h.1
 
 -- the items at the front, and those behind
 pub values_more : {Z : Type 0} (items : List (Rc SentItem Z)) (k : ℕ) (d : Rc SentItem Z) → k < length items → d ≡ get_or items k d

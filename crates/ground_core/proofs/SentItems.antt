@@ -218,10 +218,6 @@ items_behind serial (w ∷ ws) more (item ∷ items) further i j =
     let e : serial + length (item ∷ items) ≡ (serial + 1) + length items = omega arith in
     (i.0, items_behind (serial + 1) ws more items further i.1 (subst (λ n. AreItemsFrom n more further) e j))
 
-pub whole_behind : (items further : List SentItem) → AreWhole items → AreWhole further → AreWhole (items ++ further)
-whole_behind [] further h k = k
-whole_behind (item ∷ items) further h k = (h.0, whole_behind items further h.1 k)
-
 -- no item that is sent whole is counted
 not_counted : (b v p : Bool) → b ≡ false → (b && v && p) ≡ false
 not_counted true v p e = absurd (cc)

@@ -5,6 +5,7 @@ use Rattle.std.proofs.Math.Bool.{and-false}
 use Rattle.std.proofs.lemmas.Bool.{cases_Bool, lt-ltb}
 use Rattle.std.proofs.lemmas.Bool.Decides.{nat_tests}
 use Rattle.std.proofs.lemmas.List.{map-append}
+use Rattle.list_members.specs.Each.{AllByRecursion-append, AllByRecursion-weaker}
 use Rattle.list_members.specs.Membership.{IsIn}
 use Rattle.list_members.specs.Members.{IsIn-before, IsIn-after}
 use Rattle.list_members.specs.ListMembers.{in_flat_map, in_any}
@@ -21,7 +22,7 @@ use Rattle.ground_core.specs.Airing.{Touch, touch, log, airing, waiting_segments
 use Rattle.ground_core.specs.Piece.{Latest, piece_of, lives_as, live_by}
 use Rattle.ground_core.specs.StandsFor.{latest_after, latest_of, latest_of_item}
 use Rattle.ground_core.proofs.KeyLemmas.{KeyLaws}
-use Rattle.ground_core.proofs.ListLemmas.{AllByRecursion-append, AllByRecursion-weaker, AllByRecursion-filter, AllByRecursion-in, list_any-map}
+use Rattle.ground_core.proofs.ListLemmas.{AllByRecursion-filter, AllByRecursion-in, list_any-map}
 use Rattle.ground_core.proofs.Segments.{is_segment_of}
 use Rattle.ground_core.proofs.Order.{last_places, touched_segments, stands_in, waiting_is}
 

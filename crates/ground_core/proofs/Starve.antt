@@ -3,6 +3,7 @@ use Rattle.std.proofs.Common.{◌≡◌, ℕ, ◌+◌, ◌-◌, ◌*◌, ◌/◌
 use Rattle.std.specs.List.{AllByRecursion}
 use Rattle.std.proofs.lemmas.Bool.{cases_Bool, leb-true, leb-false, le-leb, lt-ltb, ltb-true, and_parts, and_from}
 use Rattle.std.proofs.lemmas.List.Elements.{filter-append}
+use Rattle.list_members.specs.Each.{AllByRecursion-weaker, AllByRecursion-at}
 use Rattle.list_members.specs.Membership.{IsIn}
 use Rattle.list_members.specs.Members.{IsIn-before, IsIn-after, IsIn-from_filter}
 use Rattle.list_members.specs.ListMembers.{heads}
@@ -18,7 +19,7 @@ use Rattle.ground_core.specs.Airing.{log, longest_fitting, is_live}
 use Rattle.ground_core.specs.Broadcast.{IsHistory, IsNotBeforeLast}
 use Rattle.ground_core.specs.Starving.{bytes_of, waiting_after, fills, WaitsStill, AreFrom, NoStarvation}
 use Rattle.ground_core.proofs.KeyLemmas.{KeyLaws}
-use Rattle.ground_core.proofs.ListLemmas.{AllByRecursion-weaker, AllByRecursion-all, AllByRecursion-at, filter_less}
+use Rattle.ground_core.proofs.ListLemmas.{AllByRecursion-all, filter_less}
 use Rattle.ground_core.proofs.Order.{last_places, touched_segments, waiting_is}
 use Rattle.ground_core.proofs.Serials.{Numbered, numbered_items, serial_in, IsLogged, segments-logged, logged_more, AllByRecursion-waiting, live_same}
 use Rattle.ground_core.proofs.Segments.{is_segment_of}

@@ -1,7 +1,8 @@
 -- What the object stands for behind each call.
 use Rattle.std.proofs.Common.{◌≡◌, ℕ, ◌+◌, ◌<◌, ◌≤◌, true, nat_lt, if◌then◌else◌, List, [], ◌∷◌, ◌++◌, length, map, filter, flat_map, Some, None, refl, sym, ap, subst, ◌∙◌, inl, inr, arith, length-append, append-nil}
 use Rattle.std.proofs.Math.Path.{fun_ext}
-use Rattle.std.proofs.lemmas.Bool.{cases_Bool, lt-ltb, ltb-true, ltb-false}
+use Rattle.std.proofs.lemmas.Bool.{cases_Bool, lt-ltb, ltb-true}
+use Rattle.list_members.specs.Each.{AllByRecursion-at}
 use Rattle.list_members.specs.Membership.{IsIn}
 use Rattle.list_members.specs.Members.{IsIn-before, IsIn-after, IsIn-either}
 use Rattle.list_members.specs.ListMembers.{in_map}
@@ -13,9 +14,10 @@ use Rattle.uplink_frame.specs.Laws.{StationsAreTold}
 use Rattle.picture_core.specs.Key.{Key}
 use Rattle.ground_core.specs.Item.{Item, segments_of}
 use Rattle.ground_core.specs.Update.{Update, weather_of}
-use Rattle.ground_core.specs.History.{Event, accepted, fill, event_moment, items}
+use Rattle.ground_core.specs.History.{Event, accepted, fill, items}
 use Rattle.ground_core.specs.Airing.{log, waiting_segments}
-use Rattle.ground_core.specs.Broadcast.{IsAccepted, IsNotBeforeLast}
+use Rattle.ground_core.specs.Broadcast.{IsAccepted}
+use Rattle.ground_core.specs.InTime.{not_before}
 use Rattle.ground_core.specs.Refusal.{give_refusal}
 use Rattle.ground_core.specs.Piece.{Piece, IsLastOrEnded, HasPlace, ArePlaced, piece_of, live_by, left_pieces, fitting_pieces}
 use Rattle.ground_core.specs.Putting.{IsPut, IsAsBefore, AreItemsOf, count_put}
@@ -26,7 +28,7 @@ use Rattle.ground_core.specs.Views.{latest_at, count_at, pieces_in}
 use Rattle.ground_core.specs.declared.item.SentItem.{SentItem}
 use Rattle.ground_core.specs.declared.ground.Ground.{Ground}
 use Rattle.ground_core.proofs.Kept.{kept_later, kept_then, live_kept}
-use Rattle.ground_core.proofs.ListLemmas.{AllByRecursion-in, AllByRecursion-at}
+use Rattle.ground_core.proofs.ListLemmas.{AllByRecursion-in}
 use Rattle.ground_core.proofs.KeyLemmas.{KeyLaws}
 use Rattle.ground_core.proofs.Order.{touched_segments}
 use Rattle.ground_core.proofs.Serials.{segments-logged, log_given, log_filled, numbered_items, serial_in, latest_after-append}
@@ -36,19 +38,9 @@ use Rattle.ground_core.proofs.Placed.{placed_put}
 use Rattle.ground_core.proofs.Queue.{IsFilled, line-filled, given_line, made_items}
 use Rattle.ground_core.proofs.SentItems.{AreSent, are_sent, latest_same, after_kept, count_same, pieces_same, length_same}
 
-pub not_early : (last moment : ℕ) → last_above (Some last) moment ≡ None → last ≤ moment
-not_early last moment h = elim (cases_Bool (nat_lt moment last)) [
-  | inl t ↦ (let bad : Some last ≡ None = ap (λ b. if b then Some last else None) (sym t) ∙ h in absurd (cc))
-  | inr f ↦ ltb-false moment last f
-]
-
-pub not_before : (history : List Event) (moment : ℕ) → last_above (history_clock history) moment ≡ None → IsNotBeforeLast moment history
-not_before [] moment h = tt
-not_before (event ∷ past) moment h = not_early (event_moment event) moment h
-
 pub clock_below : (history : List Event) (moment : ℕ) → last_above (history_clock history) moment ≡ None → history_moment history ≤ moment
 clock_below [] moment h = omega arith
-clock_below (event ∷ past) moment h = not_early (event_moment event) moment h
+clock_below (event ∷ past) moment h = not_before (event ∷ past) moment h
 
 -- what is kept counts at each later moment as all that was given
 pub kept_at : (table : LifeTable) (station : StationId) (history : List Event) (moment : ℕ) (sender : Ground) → StandsFor table station sender history

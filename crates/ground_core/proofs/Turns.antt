@@ -5,6 +5,7 @@ use Rattle.std.proofs.lemmas.Bool.{cases_Bool, leb-true}
 use Rattle.std.proofs.lemmas.List.{map-append, length-map, length-take, nil_from_length, take-append-le}
 use Rattle.std.proofs.lemmas.List.FromFn.{map-range_with_len_more}
 use Rattle.std.proofs.lemmas.List.Elements.{filter-append, filter_passes, recursion_from_All}
+use Rattle.list_members.specs.Each.{filter_all}
 use Rattle.list_members.specs.Membership.{IsIn}
 use Rattle.list_members.specs.Members.{IsIn-before, IsIn-after, IsIn-either, IsIn-from_filter}
 use Rattle.list_members.specs.ListMembers.{heads}
@@ -14,7 +15,6 @@ use Rattle.ground_core.specs.Turn.{HasFront, IsDropped, IsFrontAired, IsTooLong,
 use Rattle.ground_core.specs.Views.{place_view, piece_at}
 use Rattle.ground_core.specs.declared.item.SentItem.{SentItem}
 use Rattle.ground_core.specs.declared.place.Place.{Place}
-use Rattle.ground_core.proofs.ListLemmas.{filter_all}
 
 pub front_of : (xs : List Place) (x : Place) → 0 < length xs → x ≡ get_or xs 0 x → xs ≡ x ∷ drop 1 xs
 front_of [] x lt e = absurd (omega arith)

@@ -15,6 +15,7 @@ pub mod Turn
 pub mod Rooms
 pub mod Putting
 pub mod OnAir
+pub mod InTime
 pub mod StandsFor
 pub mod Told
 pub mod Starving

@@ -2,7 +2,7 @@
 use Rattle.std.specs.Prelude.{◌≡◌, ℕ, ◌+◌, ◌<◌, Bool, true, false, ◌&&◌, ◌==◌, nat_lt}
 use Rattle.std.specs.Prelude.{if◌then◌else◌, List, [], ◌∷◌, ◌++◌, length, map, flat_map, Option}
 use Rattle.std.specs.Prelude.{Some}
-use Rattle.std.specs.List.{list_any, range_with_len}
+use Rattle.std.specs.List.{AllByRecursion, list_any, range_with_len}
 use Rattle.std.specs.declared.rc.Rc.{Rc}
 use Rattle.apdu_core.specs.Apdu.{file_numbers}
 use Rattle.segment_core.specs.File as of_file
@@ -108,5 +108,4 @@ pub record IsUncut (item : SentItem) : Type 0 where
   pub whole : of_file.is_segmented item.form item.payload ≡ false
 
 abbrev pub AreWhole : List SentItem → Type 0
-AreWhole [] = Unit {0}
-AreWhole (item ∷ more) = IsUncut item × AreWhole more
+AreWhole items = AllByRecursion IsUncut items

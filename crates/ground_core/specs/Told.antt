@@ -26,13 +26,13 @@ use Rattle.ground_core.specs.declared.fault.GiveFault.TheVariants.{Ahead}
 use Rattle.ground_core.specs.declared.fault.GiveFault.TheVariants.{Expired, NotNewer, NoFile}
 use Rattle.ground_core.specs.declared.fault.GiveFault.TheVariants.{NoMemory}
 
--- want of memory is never told as a fault of the text
+-- out of memory is never told as a fault of the text
 abbrev pub IsToldOfText : Option GiveRefusal → TextFault → Type 0
 IsToldOfText refusal (BadCharacter place) = refusal ≡ Some (bad_text (bad_character place))
 IsToldOfText refusal TooLong = refusal ≡ Some (bad_text too_long)
 IsToldOfText refusal NoMemoryForText = ⊥
 
--- the fault is the one of this refusal; want of memory may come at any
+-- the fault is the one of this refusal; out of memory may come at any
 abbrev pub IsTold : Option GiveRefusal → GiveFault → Type 0
 IsTold refusal (Clock kept) = ⊥
 IsTold refusal (BadText fault) = IsToldOfText refusal fault

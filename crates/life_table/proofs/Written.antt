@@ -21,7 +21,7 @@ fault_followed NotToml answer go is = ap (and_then go) is
 fault_followed (BadRow row reason) answer go is = ap (and_then go) is
 fault_followed NoMemory answer go is = tt
 
--- but for want of memory a fault is told
+-- but for out of memory a fault is told
 pub any_fault : {A : Type 0} (fault : TableFault) (answer : Result A Fault) → (fault ≢ NoMemory → IsFault fault answer) → IsFault fault answer
 any_fault NotToml answer is = is (λ e. cc)
 any_fault (BadRow row reason) answer is = is (λ e. cc)

@@ -38,7 +38,7 @@ head_view head =
       radars = items_view head.radars.now;
     }
 
--- the fault is the one of the answer; want of memory may come at any answer
+-- the fault is the one of the answer; out of memory may come at any answer
 abbrev pub IsFault : {A : Type 0} → TableFault → Result A Fault → Type 0
 IsFault NotToml answer = answer ≡ Err not_toml
 IsFault (BadRow row reason) answer = answer ≡ Err (bad_row row reason)

@@ -1,3 +1,4 @@
+pub mod Each
 pub mod Finding
 pub mod ListMembers
 pub mod Members

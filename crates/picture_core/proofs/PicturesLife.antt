@@ -1,5 +1,5 @@
 -- The life of what a receiver learns is that of its key.
-use Rattle.std.proofs.Common.{◌≡◌, ℕ, ◌+◌, ◌==◌, List, [], ◌∷◌, flat_map, Option, Some, None, Result, Ok, Err, refl, sym}
+use Rattle.std.proofs.Common.{◌≡◌, ℕ, ◌+◌, ◌==◌, List, Option, Some, None, Result, Ok, Err, refl, sym}
 use Rattle.std.proofs.Common.{ap, ◌∙◌, inl, inr}
 use Rattle.std.proofs.lemmas.Bool.{cases_Bool}
 use Rattle.dlac_text.specs.Reports.{reports_of}
@@ -11,17 +11,8 @@ use Rattle.list_members.specs.Membership.{IsIn}
 use Rattle.picture_core.specs.Contents.{entry_by_row, entry_by_key, report_entries, payload_entries, life_of, life_of_row}
 use Rattle.life_table.specs.Products.{text_product}
 use Rattle.picture_core.specs.Kept.{HaveLife}
-use Rattle.list_members.specs.Members.{IsIn-either}
+use Rattle.picture_core.specs.Lives.{HaveLife-flat_map}
 use Rattle.picture_core.proofs.RadarLife.{radar-HaveLife}
-
-HaveLife-flat_map :
-    {X : Type 0} (life : Key → ℕ) (f : X → List Entry) (xs : List X) → ((x : X) → HaveLife life (f x))
-    → HaveLife life (flat_map f xs)
-HaveLife-flat_map life f [] each e here = absurd here
-HaveLife-flat_map life f (x ∷ xs) each e here = elim (IsIn-either e (f x) (flat_map f xs) here) [
-  | inl now ↦ each x e now
-  | inr later ↦ HaveLife-flat_map life f xs each e later
-]
 
 by_row :
     (life : ℕ) (key : TextKey) (version : ℕ) (text : List ℕ) (row : Option TextRow) (e : Entry) → life ≡ life_of_row row

@@ -7,3 +7,4 @@ pub mod Shown
 pub mod Marked
 pub mod Views
 pub mod Changes
+pub mod Lives

@@ -1,15 +1,18 @@
 -- The empty record of a group reads back.
-use Rattle.std.proofs.Common.{◌≡◌, ℕ, zero, suc, ◌+◌, ◌-◌, ◌*◌, ◌/◌, ◌%◌, ◌<◌, ◌≤◌, Bool, false, ◌==◌, cond, List, [], ◌∷◌, length, get_or, map, Ok, refl, sym, ap, ◌∙◌, arith, inl, inr}
+use Rattle.std.proofs.Common.{◌≡◌, ℕ, zero, suc, ◌+◌, ◌-◌, ◌*◌, ◌/◌, ◌%◌, ◌<◌, ◌≤◌, Bool, false, ◌==◌, List, [], ◌∷◌, length, get_or, map, Ok, refl, sym, ap, ◌∙◌, arith, inl, inr}
 use Rattle.std.specs.Int.{bit_at}
-use Rattle.std.specs.List.{filter, list_any, range_with_len}
+use Rattle.std.specs.List.{AllByRecursion, filter, list_any, range_with_len}
 use Rattle.std.specs.List.Sorted.{IsStrictlyIncreasing}
 use Rattle.std.proofs.lemmas.Bool.{cond-true, cond-false, cases_eq, cases_lt, eq-eqb, ne_eqb, or_left, le-ltb, lt-leb}
 use Rattle.std.proofs.lemmas.List.{take_all, length-append, length-map, get_or-map, get_or_past}
+use Rattle.std.proofs.lemmas.List.Elements.{filter_agree}
 use Rattle.std.proofs.lemmas.List.FromFn.{length-range_with_len, get_or-range_with_len, length-map-range_with_len, get_or-map-range_with_len}
 use Rattle.std.proofs.lemmas.List.Kept.{AllPairs-from_increasing}
 use Rattle.std.proofs.lemmas.Nat.Bits.{bit_at-zero}
 use Rattle.std.proofs.lemmas.Simd.{map-map}
 use Rattle.bit_fields.specs.Bits.{field_at}
+use Rattle.list_members.specs.Each.{AllByRecursion-at, filter_same}
+use Rattle.list_members.specs.Ranges.{map_same}
 use Rattle.radar_core.specs.declared.key.BlockKey.{BlockKey}
 use Rattle.bit_fields.specs.Bits.{bit}
 use Rattle.bit_fields.specs.BitsBack.{bit_below, bit_back}
@@ -17,21 +20,10 @@ use Rattle.radar_core.specs.Keys.{front_bytes}
 use Rattle.radar_core.specs.Cells.{blank_cells}
 use Rattle.radar_core.specs.Blanks.{IsGroup, block_in_ring, bitmap_length, is_named, named_offsets, key_beside, length_for, first_bitmap_byte, bitmap_byte, bitmap_of, blank_record}
 use Rattle.radar_core.specs.Radar.{Block, radar_blocks, named_blocks, blank_block, blank_blocks}
+use Rattle.radar_core.proofs.GroupLemmas.{each_from}
 use Rattle.radar_core.proofs.MarkLemmas.{above_base, near_base, last-of_group}
 use Rattle.radar_core.proofs.RankLemmas.{below_eight, named_by, or_skip}
 use Rattle.radar_core.proofs.ReadBack.{bitmap_record_read}
-
--- tests and functions that agree place by place
-filter_same_at : (p q : ℕ → Bool) (xs : List ℕ) → ((k : ℕ) → k < length xs → p (get_or xs k 0) ≡ q (get_or xs k 0)) → filter p xs ≡ filter q xs
-filter_same_at p q [] same = refl
-filter_same_at p q (x ∷ xs) same =
-    ap (λ b. cond b (x ∷ filter p xs) (filter p xs)) (same 0 (omega arith))
-    ∙ ap (λ (r : List ℕ). cond (q x) (x ∷ r) r) (filter_same_at p q xs (λ k below. same (suc k) (omega arith)))
-
-map_same_at : {A : Type 0} (f g : ℕ → A) (xs : List ℕ) → ((k : ℕ) → k < length xs → f (get_or xs k 0) ≡ g (get_or xs k 0)) → map f xs ≡ map g xs
-map_same_at f g [] same = refl
-map_same_at f g (x ∷ xs) same =
-    ap (λ y. y ∷ map f xs) (same 0 (omega arith)) ∙ ap (λ ys. g x ∷ ys) (map_same_at f g xs (λ k below. same (suc k) (omega arith)))
 
 -- whether a number is among some
 abbrev has : List ℕ → ℕ → Bool
@@ -66,11 +58,11 @@ offsets_back base (x ∷ xs) a (suc n) rises least most =
     elim (cases_eq x (base + a)) [
       | inl same ↦
           let later : filter p rest ≡ filter (λ o. has xs (base + o)) rest =
-          filter_same_at p (λ o. has xs (base + o)) rest
-          (λ k below.
+          filter_same p (λ o. has xs (base + o)) rest
+          (each_from (λ o. p o ≡ has xs (base + o)) rest (λ k below.
           let size = length-range_with_len (a + 1) n in
           let value = get_or-range_with_len (a + 1) n k 0 (omega arith) in
-          or_skip (x == base + get_or rest k 0) (has xs (base + get_or rest k 0)) (ne_eqb x (base + get_or rest k 0) (λ e. absurd (omega (arith, e, value, same)))))
+          or_skip (x == base + get_or rest k 0) (has xs (base + get_or rest k 0)) (ne_eqb x (base + get_or rest k 0) (λ e. absurd (omega (arith, e, value, same))))))
           in
           ap (map (λ o. base + o)) (cond-true (p a) (a ∷ filter p rest) (filter p rest) (or_left (x == base + a) (has xs (base + a)) (eq-eqb x (base + a) same)))
           ∙ ap (λ n. n ∷ map (λ o. base + o) (filter p rest)) (sym same)
@@ -246,8 +238,7 @@ offsets_are base further group =
     let at : (n : ℕ) → 117 ≡ n → map (λ o. base + o) (filter (is_named bitmap) (range_with_len 0 n)) ≡ base ∷ further =
     λ n n_is.
     ap (map (λ o. base + o))
-    (filter_same_at (is_named bitmap) (λ o. has (base ∷ further) (base + o)) (range_with_len 0 n)
-    (λ k below. named_is base further (get_or (range_with_len 0 n) k 0) group))
+    (filter_agree (is_named bitmap) (λ o. has (base ∷ further) (base + o)) (λ o. named_is base further o group) (range_with_len 0 n))
     ∙ offsets_back base (base ∷ further) 0 n group.rises (group_least base further group) (group_most base further n group (sym n_is))
     in
     at 117 refl
@@ -262,8 +253,8 @@ blocks_are base further group =
     let offsets : List ℕ = named_offsets (bitmap_of base.number further) in
     let all : map (λ o. base.number + o) offsets ≡ base.number ∷ further = offsets_are base.number further group in
     let block : ℕ → Block = λ number. (key_beside base number, blank_cells) in
-    map_same_at (blank_block base) (λ o. block (base.number + o)) offsets
-    (λ k below.
+    let ring_keeps : AllByRecursion (λ o. blank_block base o ≡ block (base.number + o)) offsets =
+    each_from (λ o. blank_block base o ≡ block (base.number + o)) offsets (λ k below.
     let size : length (map (λ o. base.number + o) offsets) ≡ length (base.number ∷ further) = ap length all in
     let sizes : length (map (λ o. base.number + o) offsets) ≡ length offsets = length-map offsets (λ o. base.number + o) in
     let at : base.number + get_or offsets k 0 ≡ get_or (base.number ∷ further) k 0 =
@@ -273,6 +264,9 @@ blocks_are base further group =
     ap (λ n. n / 450) at ∙ group_ring base.number further group k (omega (arith, size, sizes))
     in
     ap block (in_ring base.number (get_or offsets k 0) ring))
+    in
+    map_same (blank_block base) (λ o. block (base.number + o)) offsets
+    (λ o there. AllByRecursion-at (λ o. blank_block base o ≡ block (base.number + o)) offsets o ring_keeps there)
     ∙ sym (map-map block (λ o. base.number + o) offsets) ∙ ap (map block) all
 
 -- the empty record of a group reads back as its blocks

@@ -1,11 +1,12 @@
 -- The groups of rising numbers, each cut off the front.
 use Rattle.std.proofs.Common.{◌≡◌, ℕ, zero, suc, ◌+◌, ◌/◌, ◌<◌, ◌≤◌, Bool, true, false, not, ◌==◌, nat_le, List, [], ◌∷◌, ◌++◌, length, take, drop, get_or, refl, sym, ap, subst, ◌∙◌, arith, append_assoc, inl, inr}
-use Rattle.std.specs.List.{All, filter}
+use Rattle.std.specs.List.{All, AllByRecursion, filter}
 use Rattle.std.specs.List.Sorted.{IsStrictlyIncreasing}
-use Rattle.std.proofs.lemmas.Bool.{cond-true, cond-false, and_from, and_parts, and_cases, and_left, and_right, eq-eqb, ne_eqb, eqb-true, eqb-false, le-leb, lt-leb, leb-true, leb-false, cases_eq}
+use Rattle.std.proofs.lemmas.Bool.{and_from, and_parts, and_cases, and_left, and_right, eq-eqb, ne_eqb, eqb-true, eqb-false, le-leb, lt-leb, leb-true, leb-false, cases_eq}
 use Rattle.std.proofs.lemmas.List.{append-nil, length-drop, get_or-drop, take-append-drop, get_or-take, length-take-le}
-use Rattle.std.proofs.lemmas.List.Elements.{filter-append, All-drop}
+use Rattle.std.proofs.lemmas.List.Elements.{filter-append, All-drop, All-from_get_or, recursion_from_All}
 use Rattle.std.proofs.lemmas.List.Kept.{AllPairs-from_increasing}
+use Rattle.list_members.specs.Each.{filter_all, filter_none}
 use Rattle.list_members.specs.ListMembers.{filter_shorter}
 use Rattle.radar_core.specs.Groups.{is_joined, groups_at_most, blank_groups}
 
@@ -38,17 +39,9 @@ none_above base low number above rises apart =
           other_ring base number (λ same. differs (omega arith))
     ]
 
--- a test that each number passes, and one that none does
-kept_all : (p : ℕ → Bool) (xs : List ℕ) → ((k : ℕ) → k < length xs → p (get_or xs k 0) ≡ true) → filter p xs ≡ xs
-kept_all p [] passes = refl
-kept_all p (x ∷ xs) passes =
-    cond-true (p x) (x ∷ filter p xs) (filter p xs) (passes 0 (omega arith))
-    ∙ ap (λ (b : List ℕ). x ∷ b) (kept_all p xs (λ k below. passes (suc k) (omega arith)))
-
-kept_none : (p : ℕ → Bool) (xs : List ℕ) → ((k : ℕ) → k < length xs → p (get_or xs k 0) ≡ false) → filter p xs ≡ []
-kept_none p [] fails = refl
-kept_none p (x ∷ xs) fails =
-    cond-false (p x) (x ∷ filter p xs) (filter p xs) (fails 0 (omega arith)) ∙ kept_none p xs (λ k below. fails (suc k) (omega arith))
+-- what holds at each place of numbers holds of each of them
+pub each_from : (P : ℕ → Type 0) (xs : List ℕ) → ((k : ℕ) → k < length xs → P (get_or xs k 0)) → AllByRecursion P xs
+each_from P xs h = recursion_from_All P xs (All-from_get_or P xs 0 h)
 
 -- the first numbers are joined, and the others are not
 pub record IsSplit (base : ℕ) (more : List ℕ) (m : ℕ) : Type 0 where
@@ -62,11 +55,12 @@ joined_front base more m split =
     ap (filter (is_joined base)) (sym (take-append-drop m more))
     ∙ filter-append (is_joined base) (take m more) (drop m more)
     ∙ ap (λ (b : List ℕ). b ++ filter (is_joined base) (drop m more))
-    (kept_all (is_joined base) (take m more) (λ k below.
+    (filter_all (is_joined base) (take m more) (each_from (λ n. is_joined base n ≡ true) (take m more) (λ k below.
     let short = length-take-le m more split.most in
-    ap (is_joined base) (get_or-take m more k 0 (omega arith)) ∙ split.joined k (omega arith)))
+    ap (is_joined base) (get_or-take m more k 0 (omega arith)) ∙ split.joined k (omega arith))))
     ∙ ap (λ (b : List ℕ). take m more ++ b)
-    (kept_none (is_joined base) (drop m more) (λ k below. ap (is_joined base) (get_or-drop m more k 0) ∙ split.apart (m + k) (omega arith) (omega arith)))
+    (filter_none (is_joined base) (drop m more) (each_from (λ n. is_joined base n ≡ false) (drop m more)
+    (λ k below. ap (is_joined base) (get_or-drop m more k 0) ∙ split.apart (m + k) (omega arith) (omega arith))))
     ∙ append-nil (take m more)
 
 pub apart_back : (base : ℕ) (more : List ℕ) (m : ℕ) → IsSplit base more m → filter (λ n. not (is_joined base n)) more ≡ drop m more
@@ -75,10 +69,11 @@ apart_back base more m split =
     let p : ℕ → Bool = λ n. not (is_joined base n) in
     ap (filter p) (sym (take-append-drop m more)) ∙ filter-append p (take m more) (drop m more)
     ∙ ap (λ (b : List ℕ). b ++ filter p (drop m more))
-    (kept_none p (take m more) (λ k below.
+    (filter_none p (take m more) (each_from (λ n. p n ≡ false) (take m more) (λ k below.
     let short = length-take-le m more split.most in
-    ap p (get_or-take m more k 0 (omega arith)) ∙ ap not (split.joined k (omega arith))))
-    ∙ kept_all p (drop m more) (λ k below. ap p (get_or-drop m more k 0) ∙ ap not (split.apart (m + k) (omega arith) (omega arith)))
+    ap p (get_or-take m more k 0 (omega arith)) ∙ ap not (split.joined k (omega arith)))))
+    ∙ filter_all p (drop m more) (each_from (λ n. p n ≡ true) (drop m more)
+    (λ k below. ap p (get_or-drop m more k 0) ∙ ap not (split.apart (m + k) (omega arith) (omega arith))))
 
 -- more groups than numbers change nothing
 enough : (most other : ℕ) (numbers : List ℕ) → length numbers ≤ most → length numbers ≤ other → groups_at_most most numbers ≡ groups_at_most other numbers

@@ -1,9 +1,9 @@
 -- What is written of a record are bytes.
-use Rattle.std.proofs.Common.{ℕ, ◌+◌, ◌-◌, ◌*◌, ◌<◌, Bool, List, [], ◌∷◌, map, true, false, arith}
+use Rattle.std.proofs.Common.{ℕ, ◌+◌, ◌-◌, ◌*◌, ◌<◌, List, [], ◌∷◌, map, true, false, arith}
 use Rattle.std.specs.List.{All, range_with_len}
 use Rattle.std.proofs.lemmas.List.Elements.{All-nil, All-cons, All-head, All-tail, All-append}
 use Rattle.bit_fields.specs.Bits.{AreBytes}
-use Rattle.bit_fields.specs.BytesAsNumbers.{IsByte}
+use Rattle.bit_fields.specs.BytesAsNumbers.{IsByte, bytes_high_first-bytes}
 use Rattle.bit_fields.specs.BitsBack.{bit_below}
 use Rattle.radar_core.specs.declared.key.BlockKey.{BlockKey}
 use Rattle.radar_core.specs.declared.run.Run.{Run}
@@ -13,12 +13,6 @@ use Rattle.radar_core.specs.Runs.{FitsRun, run_byte, longest_runs, run_record}
 use Rattle.radar_core.specs.Blanks.{IsGroup, mark, length_for, first_bitmap_byte, bitmap_byte, bitmap_of, blank_record}
 use Rattle.radar_core.proofs.ReadBack.{longest_runs-cells}
 use Rattle.radar_core.proofs.MarkLemmas.{last-of_group}
-
-three_are : (a b c : ℕ) → a < 256 → b < 256 → c < 256 → AreBytes (a ∷ b ∷ c ∷ [])
-three_are a b c p q r = All-cons IsByte a (b ∷ c ∷ []) p (All-cons IsByte b (c ∷ []) q (All-cons IsByte c [] r (All-nil IsByte)))
-
-front-bytes : (is_run : Bool) (key : BlockKey) → AreBytes (front_bytes is_run key)
-front-bytes is_run key = three_are _ _ _ (omega arith) (omega arith) (omega arith)
 
 run-byte : (run : Run) → FitsRun run → run_byte run < 256
 run-byte run fits = omega (arith, fits.some, fits.length, fits.intensity)
@@ -32,7 +26,7 @@ runs-bytes (run ∷ runs) fits =
 pub run_record-bytes : (key : BlockKey) (cells : List ℕ) → IsCells cells → AreBytes (run_record key cells)
 unfolding run_record
 run_record-bytes key cells are =
-    All-append IsByte (front_bytes true key) (map run_byte (longest_runs cells)) (front-bytes true key)
+    All-append IsByte (front_bytes true key) (map run_byte (longest_runs cells)) (bytes_high_first-bytes 3 _)
     (runs-bytes (longest_runs cells) (longest_runs-cells cells are.intensities).fit)
 
 -- eight bits, and four bits before a number of four
@@ -68,6 +62,6 @@ unfolding blank_record
 blank_record-bytes base further group =
     let last = last-of_group base.number further group in
     let fits : length_for base.number further < 16 = omega (arith, last.most) in
-    All-append IsByte (front_bytes false base) (bitmap_of base.number further) (front-bytes false base)
+    All-append IsByte (front_bytes false base) (bitmap_of base.number further) (bytes_high_first-bytes 3 _)
     (All-cons IsByte (first_bitmap_byte base.number further) _ (first-byte base.number further fits)
     (places-bytes base.number further (range_with_len 1 (length_for base.number further - 1))))

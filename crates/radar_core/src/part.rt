@@ -13,7 +13,7 @@ use std::marker::Model;
 /// How many blocks a ring has.
 pub(crate) const RING: u32 = 450;
 
-/// How many cells there is room for while runs are read: those of a block, and behind them those of a longest run.
+/// How many cells there is room for while runs are read: those of a block, and after them those of a longest run.
 const CELL_ROOM: usize = 160;
 
 /// The bytes after the front of a record.

@@ -1,7 +1,7 @@
 -- The payloads that arrivals complete take no more room together than the arrivals: each file is completed once, and only
 -- by its own arrivals. The room of a payload is its bytes, and the six at least that stand before one in a frame.
 use Rattle.std.proofs.Common.{◌≡◌, ℕ, ◌+◌, ◌≤◌, Bool, true, false, cond, ◌==◌, List, [], ◌∷◌, ◌++◌, length, filter_map, Option, Some, None, refl, sym, ap, ◌∙◌, inl, inr, arith}
-use Rattle.std.specs.List.{list_all, sum_by, range_with_len}
+use Rattle.std.specs.List.{AllByRecursion, list_all, sum_by, range_with_len}
 use Rattle.std.proofs.lemmas.Bool.{cases_Bool, and_parts, and_from, or_left, or_right, eqb-true, eq-eqb, false_from_ne_true, cond-true, cond-false}
 use Rattle.std.proofs.lemmas.List.{append_assoc, append-nil}
 use Rattle.std.proofs.lemmas.List.Folds.{list_any-append}
@@ -93,8 +93,7 @@ IsNumbered None = Unit {0}
 IsNumbered (Some s) = (1 ≤ s.number) × (s.number ≤ s.count)
 
 abbrev pub AreNumbered : List Arrival → Type 0
-AreNumbered [] = Unit {0}
-AreNumbered (a ∷ more) = IsNumbered a.segmentation × AreNumbered more
+AreNumbered came = AllByRecursion (λ (a : Arrival). IsNumbered a.segmentation) came
 
 -- its number is new, and each other number had arrived
 record IsLast (came : List Arrival) (a : Arrival) (s : Seg) : Type 0 where

@@ -1,12 +1,12 @@
 -- A receiver that hears one more frame.
-use Rattle.std.proofs.Common.{◌≡◌, ℕ, ◌≤◌, Bool, true, if◌then◌else◌, List, ◌∷◌, Option, Some, None, Ok, length, refl, sym, ap, subst, ◌∙◌, arith}
+use Rattle.std.proofs.Common.{◌≡◌, ℕ, ◌≤◌, Bool, true, if◌then◌else◌, List, ◌∷◌, Option, Some, None, Ok, length, sym, ap, subst, ◌∙◌, arith}
 use Rattle.std.specs.Option.{option_or, option_map, option_and_then, unwrap_or}
-use Rattle.std.proofs.lemmas.Bool.Decides.{nat_tests}
 use Rattle.bit_fields.specs.Bits.{AreBytes}
 use Rattle.fisb_time.specs.Moment.{IsMoment}
 use Rattle.life_table.specs.LifeTable.{LifeTable}
 use Rattle.uplink_weave.specs.Functions.{payload_in, lost_block_in}
-use Rattle.segment_core.specs.Store.{IsNotBefore, StandsFor as StandsForArrivals, last_above}
+use Rattle.segment_core.specs.InTime.{in_time}
+use Rattle.segment_core.specs.Store.{IsNotBefore, StandsFor as StandsForArrivals}
 use Rattle.picture_core.specs.Kept.{IsStore, live_entries, put_all}
 use Rattle.receiver_core.specs.Answers.{HasHeard}
 use Rattle.receiver_core.specs.Hearing.{HearRefusal, IsHeardOf, clock_of, clock, is_valid, lost, no_application, payload_refusal, refusal_of_air}
@@ -14,14 +14,6 @@ use Rattle.receiver_core.specs.Laws.{FramesAreReception, KeepsReception, arrival
 use Rattle.receiver_core.specs.Reception.{Reception, contents}
 use Rattle.receiver_core.specs.StandsFor.{Held, StandsFor, moment_now}
 use Rattle.receiver_core.specs.declared.heard.Heard.{Heard}
-
-pub in_time : (clock : Option ℕ) (moment : ℕ) → IsNotBefore clock moment → last_above clock moment ≡ None
-in_time None moment below = refl
-in_time (Some kept) moment below = grind (arith, nat_tests)
-
-pub not_before : (clock : Option ℕ) (moment : ℕ) → last_above clock moment ≡ None → IsNotBefore clock moment
-not_before None moment none = tt
-not_before (Some kept) moment none = grind (arith, nat_tests)
 
 last_below : (clock : Option ℕ) (moment : ℕ) → IsNotBefore clock moment → unwrap_or clock 0 ≤ moment
 last_below None moment below = omega arith

@@ -1,11 +1,12 @@
 -- What the arrivals of receptions weigh together: of each reception no more than its payload has room for, and nothing where
 -- nothing of it can live.
-use Rattle.std.proofs.Common.{◌≡◌, ℕ, ◌+◌, ◌*◌, ◌≤◌, Bool, true, false, cond, List, [], ◌∷◌, ◌++◌, length, filter, filter_map, max, Option, Some, None, is_some, Result, Ok, Err, refl, ap, inl, inr, arith}
+use Rattle.std.proofs.Common.{◌≡◌, ℕ, ◌+◌, ◌*◌, ◌≤◌, Bool, true, false, cond, List, [], ◌∷◌, length, filter, filter_map, max, Option, Some, None, is_some, Result, Ok, Err, refl, ap, inl, inr, arith}
 use Rattle.std.specs.Prelude.{◌==◌}
 use Rattle.std.specs.List.{cons_option, sum_by}
 use Rattle.std.specs.Result.{result_ok}
 use Rattle.std.proofs.lemmas.Bool.{cases_Bool, cond-true, cond-false, ltb-true, lt-ltb}
 use Rattle.std.proofs.lemmas.List.Sums.{sum_by-append, sum_by-cons}
+use Rattle.list_members.specs.Each.{AllByRecursion-append}
 use Rattle.life_table.specs.LifeTable.{LifeTable, greatest_life}
 use Rattle.uplink_frame.specs.UplinkFrame.{InformationFrame, information_frames}
 use Rattle.segment_core.specs.Arrival.{Arrival}
@@ -151,10 +152,6 @@ module _ (laws : ReadsFrames) (table : LifeTable) (moment : ℕ) where
       front_of_segment (is_some a.segmentation) (length frame.body) long)))
 
 -- the numbers of segments are from 1 to the count
-numbered_joined : (xs ys : List Arrival) → AreNumbered xs → AreNumbered ys → AreNumbered (xs ++ ys)
-numbered_joined [] ys p q = q
-numbered_joined (x ∷ xs) ys p q = (p.0, numbered_joined xs ys p.1 q)
-
 numbered_one : (o : Option Arrival) (rest : List Arrival) → ((a : Arrival) → o ≡ Some a → IsNumbered a.segmentation)
     → AreNumbered rest → AreNumbered (cons_option o rest)
 numbered_one None rest each later = later
@@ -168,7 +165,7 @@ numbered_made f (x ∷ xs) each = numbered_one (f x) (filter_map f xs) (each x) 
 pub are_numbered : ReadsFrames → (table : LifeTable) (past : List Reception) → AreNumbered (arrivals table past)
 are_numbered laws table [] = tt
 are_numbered laws table (heard ∷ past) =
-    numbered_joined (arrivals table past) (arrivals_in table heard) (are_numbered laws table past)
+    AllByRecursion-append (λ (a : Arrival). IsNumbered a.segmentation) (arrivals table past) (arrivals_in table heard) (are_numbered laws table past)
     (numbered_made (λ frame. result_ok (arrival_in table (station_heard heard) heard.moment frame))
     (information_frames heard.payload) (λ frame a is.
     (arrives_of_frame laws (station_heard heard) heard.moment frame a table

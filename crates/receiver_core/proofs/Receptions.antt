@@ -1,19 +1,17 @@
 -- What one more reception brings.
-use Rattle.std.proofs.Common.{◌≡◌, ℕ, List, [], ◌∷◌, ◌++◌, flat_map, filter_map, Option, Some, None, Result, Ok, Err, refl, sym, ap, subst, ◌∙◌, inl, inr}
+use Rattle.std.proofs.Common.{◌≡◌, ℕ, List, [], ◌∷◌, ◌++◌, flat_map, filter_map, Option, Some, None, Result, Ok, Err, refl, sym, ap, subst, ◌∙◌}
 use Rattle.std.specs.List.{cons_option}
 use Rattle.std.specs.Result.{result_ok}
 use Rattle.std.proofs.lemmas.List.{append_assoc, append-nil}
 use Rattle.std.proofs.lemmas.Grind.{flat_map-append}
-use Rattle.list_members.specs.Members.{IsIn-either}
 use Rattle.life_table.specs.LifeTable.{LifeTable}
 use Rattle.uplink_frame.specs.declared.station.StationId.{StationId}
 use Rattle.uplink_frame.specs.UplinkFrame.{InformationFrame, information_frames}
 use Rattle.segment_core.specs.Arrival.{Arrival, Whole, whole_payloads, completed_after, completes}
 use Rattle.segment_core.specs.Joining.{CompletedGrows}
 use Rattle.picture_core.specs.Contents.{life_of, payload_entries}
-use Rattle.picture_core.specs.Entry.{Entry}
-use Rattle.picture_core.specs.Key.{Key}
 use Rattle.picture_core.specs.Kept.{HaveLife}
+use Rattle.picture_core.specs.Lives.{HaveLife-flat_map}
 use Rattle.receiver_core.specs.Laws.{entries_heard}
 use Rattle.receiver_core.specs.Reception.{Reception, arrival_in, arrivals, arrivals_in, contents, station_heard, whole_entries}
 use Rattle.receiver_core.specs.Steps.{arrivals_after, arrived_with, entries_after, entries_of_whole, frame_entries}
@@ -80,9 +78,6 @@ contents_added grows table past heard =
     (completed_after (arrivals table past) (arrivals_in table heard)))
     ∙ ap (flat_map (whole_entries table)) (sym (grows (arrivals table past) (arrivals_in table heard)))
 
-lives_joined : (life : Key → ℕ) (xs ys : List Entry) → HaveLife life xs → HaveLife life ys → HaveLife life (xs ++ ys)
-lives_joined life xs ys p q = λ entry here. elim (IsIn-either entry xs ys here) [ inl l ↦ p entry l | inr r ↦ q entry r ]
-
 -- what is known of the entries of payloads
 abbrev pub PayloadsLive : Type 0
 PayloadsLive = (table : LifeTable) (product version : ℕ) (payload : List ℕ) → HaveLife (life_of table)
@@ -90,10 +85,9 @@ PayloadsLive = (table : LifeTable) (product version : ℕ) (payload : List ℕ) 
 
 lives_whole : PayloadsLive → (table : LifeTable) (wholes : List Whole) → HaveLife (life_of table)
     (flat_map (whole_entries table) wholes)
-lives_whole payloads table [] = λ entry here. absurd here
-lives_whole payloads table (whole ∷ more) =
-    lives_joined (life_of table) (whole_entries table whole) (flat_map (whole_entries table) more)
-    (payloads table whole.product whole.version whole.payload) (lives_whole payloads table more)
+lives_whole payloads table wholes =
+    HaveLife-flat_map (life_of table) (whole_entries table) wholes
+    (λ whole. payloads table whole.product whole.version whole.payload)
 
 pub lives_contents : PayloadsLive → (table : LifeTable) (past : List Reception) → HaveLife (life_of table) (contents table past)
 lives_contents payloads table past = lives_whole payloads table (whole_payloads (arrivals table past))

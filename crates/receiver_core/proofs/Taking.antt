@@ -5,7 +5,7 @@ use Rattle.std.specs.List.{list_all}
 use Rattle.std.specs.Option.{option_map}
 use Rattle.apdu_core.specs.declared.apdu.Seg.{Seg}
 use Rattle.life_table.specs.LifeTable.{LifeTable}
-use Rattle.segment_core.specs.Arrival.{Arrival, completes, has_piece, joined_payload, other_numbers, whole_with}
+use Rattle.segment_core.specs.Arrival.{Arrival, has_piece, joined_payload, other_numbers, whole_with}
 use Rattle.segment_core.specs.Bound.{AnswersComplete, payload_made_whole}
 use Rattle.segment_core.specs.Store.{StandsFor, Store, answer_of, is_in_life, live_answer, taken_with}
 use Rattle.segment_core.specs.Views.{arrival_view}

@@ -2,7 +2,7 @@
 use Rattle.std.proofs.Common.{◌≡◌, ℕ, ◌+◌, ◌≤◌, List, [], ◌++◌, Option, None, Result, Ok, Err, length, take, refl, sym, ap, subst, ◌∙◌, arith, append-nil, append_assoc, length-append}
 use Rattle.std.proofs.lemmas.List.{take-append-le}
 use Rattle.std.proofs.Math.Seq.{take-append-add}
-use Rattle.std.proofs.KnownBytes.{Appends-trans, Appends-nil}
+use Rattle.std.proofs.KnownBytes.{Appends-trans}
 use Rattle.std.specs.Io.KnownBytes.{Consumes, Appends}
 use Rattle.refusal_core.specs.declared.reason.Reason.{Reason}
 use Rattle.run_core.specs.declared.status.Status.{Status}
@@ -14,10 +14,6 @@ use Rattle.run_core.specs.Run.{Ends, ends, sink_end, Ending, at_end, failed, ful
 use Rattle.run_core.specs.Acting.{HasStoppedOn, text_by}
 use Rattle.run_core.specs.Laws.{Begins}
 use Rattle.run_core.proofs.Parts.{part-within}
-
--- nothing of a piece was written
-pub front-nothing : (known : Option (List ℕ)) (piece : List ℕ) → AppendsFront known known piece
-front-nothing known piece = (0, omega arith, Appends-nil known)
 
 -- a prefix of the piece after what was given is a prefix of the whole
 pub front-behind : (before mid after : Option (List ℕ)) (so_far piece whole : List ℕ) → Appends before mid so_far
@@ -173,21 +169,4 @@ done-answer work old now ending taken so_far status took none gives written unfa
         ∙ gives)) written;
     unfailed = unfailed;
   },
-)
-
--- a run for which memory was not found wrote a prefix
-pub no-memory-run : (work : Work) (old now : Ends) (taken : List ℕ) → HasTaken old now taken stopped
-    → now.written ≡ old.written → now.writes ≡ old.writes
-    → HasRun (task_of work) old now NoMemory
-no-memory-run work old now taken took written writes = (
-  writes,
-  (
-    taken,
-    stopped,
-    record {
-      took = took;
-      written = subst (λ w. AppendsFront old.written w (taken_output (task_of work) taken stopped)) (sym written)
-          (front-nothing old.written _);
-    },
-  ),
 )

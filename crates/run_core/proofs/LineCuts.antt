@@ -1,9 +1,10 @@
 -- The lines of bytes and their part line, by the first newline.
 use Rattle.std.proofs.Common.{◌≡◌, ℕ, zero, suc, ◌+◌, ◌<◌, ◌≤◌, ◌⊎◌, Bool, true, false, nat_lt, List, [], ◌∷◌, ◌++◌, Option, Some, None, length, take, drop, sym, ap, ◌∙◌, arith, refl, inl, inr, append-nil, length-append, length-drop, length-take}
 use Rattle.std.proofs.lemmas.Bool.Decides.{nat_tests}
+use Rattle.byte_search.specs.FirstByte.{found_at, past_end}
 use Rattle.run_core.specs.Reading.{newline_in}
 use Rattle.run_core.specs.Lines.{lines_in, part_line, parts_of, lines_of_parts, last_part}
-use Rattle.run_core.proofs.Newlines.{parts-cut, parts-none, some-parts, found-at, none-at, past-append}
+use Rattle.run_core.proofs.Newlines.{parts-cut, parts-none, some-parts, past-append}
 
 lines-more : (ended : Bool) (line : List ℕ) (parts : List (List ℕ)) → 0 < length parts
     → lines_of_parts ended (line ∷ parts) ≡ line ∷ lines_of_parts ended parts
@@ -51,7 +52,7 @@ FirstLine ended xs more =
 line-found : (ended : Bool) (e : ℕ) (text : List ℕ) → newline_in text ≡ Some e
     → (line : List ℕ) × (later : List (List ℕ)) × (lines_in ended text ≡ line ∷ later) × (length line ≡ e)
 line-found ended e text found =
-    let at = found-at e text found in
+    let at = found_at 10 e text (sym found) in
     let whole = append-nil text in (
       take e text,
       lines_in ended (drop (e + 1) text ++ []),
@@ -70,8 +71,8 @@ line-by : (ended : Bool) (xs more : List ℕ) (found : Option ℕ) → newline_i
     → newline_in (xs ++ more) ≡ found → FirstLine ended xs more
 line-by ended xs more None none some is = line-none ended xs more some is
 line-by ended xs more (Some e) none some is =
-    let at = found-at e (xs ++ more) is in
-    let past = past-append xs more (none-at xs none) in
+    let at = found_at 10 e (xs ++ more) (sym is) in
+    let past = past-append xs more (past_end 10 xs (sym none)) in
     let line = line-found ended e (xs ++ more) is in
     inr (line.0, line.1, line.2, (let a = at.0 in let l = line.3 in omega (arith, a, past, l)))
 
@@ -112,7 +113,7 @@ split-by n front None within is deeper = (
   },
 )
 split-by n front (Some e) within is deeper =
-    let at = found-at e front is in
+    let at = found_at 10 e front (sym is) in
     let rest = drop (e + 1) front in
     let short = length-drop (e + 1) front in
     let more = deeper rest (let a = at.0 in let b = at.1 in omega (arith, a, b, short, within)) in

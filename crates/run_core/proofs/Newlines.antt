@@ -1,32 +1,19 @@
 -- Bytes, cut at their first newline.
-use Rattle.std.proofs.Common.{◌≡◌, ◌==◌, ℕ, ◌+◌, ◌-◌, ◌<◌, ◌≤◌, nat_lt, nat_le, min, true, false, List, [], ◌∷◌, ◌++◌, Option, Some, None, slice_index, length, take, drop, sym, ap, ◌∙◌, arith, inl, inr, refl, length-append}
+use Rattle.std.proofs.Common.{◌≡◌, ◌==◌, ℕ, ◌+◌, ◌-◌, ◌<◌, ◌≤◌, nat_lt, nat_le, min, true, false, List, [], ◌∷◌, ◌++◌, Some, None, length, take, drop, sym, ap, ◌∙◌, arith, inl, inr, refl, length-append}
 use Rattle.std.proofs.lemmas.Bool.{cases_Bool}
 use Rattle.std.proofs.lemmas.Bool.Decides.{nat_tests}
 use Rattle.std.proofs.lemmas.List.{take-append-le, drop-append-le, drop_all}
 use Rattle.std.proofs.Math.Seq.{drop-append-add}
 use Rattle.std.proofs.lemmas.List.Splits.{slice_split_first, slice_split_none, length-slice_split}
-use Rattle.std.proofs.lemmas.List.Sums.{fails_before_first, position_or_len_is}
+use Rattle.std.proofs.lemmas.List.Sums.{fails_before_first}
 use Rattle.std.specs.List.{position_or_len}
+use Rattle.byte_search.specs.FirstByte.{found_at, past_end}
 use Rattle.run_core.specs.Reading.{newline_in}
 use Rattle.run_core.specs.Lines.{parts_of}
 
 -- how many bytes stand before the first newline, or all where there is none
 abbrev pub clean_len : List ℕ → ℕ
 clean_len xs = position_or_len (λ b. b == 10) xs
-
-pub found-at : (e : ℕ) (xs : List ℕ) → newline_in xs ≡ Some e → (e ≡ clean_len xs) × (clean_len xs < length xs)
-found-at e xs found =
-    elim (cases_Bool (nat_lt (clean_len xs) (length xs))) [
-      | inl within ↦ (let same = rw within at found in cc, grind (arith, nat_tests))
-      | inr outside ↦ absurd (let none = rw outside at found in cc)
-    ]
-
-pub none-at : (xs : List ℕ) → newline_in xs ≡ None → length xs ≤ clean_len xs
-none-at xs none =
-    elim (cases_Bool (nat_lt (clean_len xs) (length xs))) [
-      | inl within ↦ absurd (let some = rw within at none in cc)
-      | inr outside ↦ grind (arith, nat_tests)
-    ]
 
 pub at-found : (xs : List ℕ) → clean_len xs < length xs → newline_in xs ≡ Some (clean_len xs)
 at-found xs within = let test : nat_lt (clean_len xs) (length xs) ≡ true = grind (arith, nat_tests) in rw test refl
@@ -56,15 +43,15 @@ past-append (x ∷ xs) more past =
 
 pub none-append : (xs more : List ℕ) → newline_in xs ≡ None → newline_in more ≡ None → newline_in (xs ++ more) ≡ None
 none-append xs more one other =
-    let same = past-append xs more (none-at xs one) in
-    let past = none-at more other in
+    let same = past-append xs more (past_end 10 xs (sym one)) in
+    let past = past_end 10 more (sym other) in
     let size = length-append xs more in
     at-none (xs ++ more) (omega (arith, same, past, size))
 
 -- the first newline of bytes in two parts
 pub front-newline : (e : ℕ) (xs more : List ℕ) → newline_in xs ≡ Some e → newline_in (xs ++ more) ≡ Some e
 front-newline e xs more found =
-    let at = found-at e xs found in
+    let at = found_at 10 e xs (sym found) in
     let same = first-append xs more at.1 in
     let size = length-append xs more in
     let w = at.1 in
@@ -73,8 +60,8 @@ front-newline e xs more found =
 pub back-newline : (e : ℕ) (xs more : List ℕ) → newline_in xs ≡ None → newline_in more ≡ Some e
     → newline_in (xs ++ more) ≡ Some (length xs + e)
 back-newline e xs more none found =
-    let at = found-at e more found in
-    let same = past-append xs more (none-at xs none) in
+    let at = found_at 10 e more (sym found) in
+    let same = past-append xs more (past_end 10 xs (sym none)) in
     let size = length-append xs more in
     let w = at.1 in
     at-found (xs ++ more) (omega (arith, same, w, size)) ∙ ap Some (same ∙ ap (λ n. length xs + n) (sym at.0))
@@ -100,7 +87,7 @@ parts-dropped from skipped xs ys is =
 pub parts-cut : (e : ℕ) (xs more : List ℕ) → newline_in xs ≡ Some e
     → parts_of (xs ++ more) ≡ take e xs ∷ parts_of (drop (e + 1) xs ++ more)
 parts-cut e xs more found =
-    let at = found-at e xs found in
+    let at = found_at 10 e xs (sym found) in
     let same = first-append xs more at.1 in
     let is : clean_len (xs ++ more) ≡ e = same ∙ sym at.0 in
     let size = length-append xs more in
@@ -114,7 +101,7 @@ parts-cut e xs more found =
 -- without a newline all bytes are the one part
 pub parts-none : (xs : List ℕ) → newline_in xs ≡ None → parts_of xs ≡ xs ∷ []
 parts-none xs none = slice_split_none (λ b. b == 10) xs
-    (λ k d within. fails_before_first (λ b. b == 10) xs k d (let past = none-at xs none in omega (arith, past, within)))
+    (λ k d within. fails_before_first (λ b. b == 10) xs k d (let past = past_end 10 xs (sym none) in omega (arith, past, within)))
 
 pub some-parts : (xs : List ℕ) → 0 < length (parts_of xs)
 some-parts xs = let counted = length-slice_split (λ b. b == 10) xs in omega arith

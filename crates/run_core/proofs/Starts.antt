@@ -2,13 +2,13 @@
 use Rattle.std.proofs.Common.{◌≡◌, ℕ, ◌+◌, ◌<◌, ◌≤◌, nat_le, Bool, true, false, List, [], ◌++◌, Option, Some, None, Err, length, take, drop, refl, sym, ap, subst, ◌∙◌, arith, append-nil, length-drop}
 use Rattle.std.proofs.lemmas.Bool.Decides.{nat_tests}
 use Rattle.std.proofs.lemmas.List.{take-append-le}
-use Rattle.std.proofs.KnownBytes.{Appends-nil, Consumes-nil}
+use Rattle.std.proofs.KnownBytes.{Appends-nil}
 use Rattle.std.specs.Io.KnownBytes.{Consumes, Appends, IsAtEnd}
 use Rattle.fisb_wire.specs.Faults.{Rose}
 use Rattle.refusal_core.specs.declared.reason.Reason.{Reason}
 use Rattle.refusal_core.specs.declared.reason.Reason.TheVariants.{NoTable, TableLong}
 use Rattle.run_core.specs.declared.input.Input.{Input}
-use Rattle.run_core.specs.declared.status.Status.TheVariants.{Done, ReadFault, NoMemory}
+use Rattle.run_core.specs.declared.status.Status.TheVariants.{Done, ReadFault}
 use Rattle.run_core.specs.Limits.{input_limit, ring_limit}
 use Rattle.run_core.specs.Work.{Work}
 use Rattle.run_core.specs.Lines.{lines_in, part_line}
@@ -18,7 +18,7 @@ use Rattle.run_core.specs.Run.{Ends, ends, source_end, at_end, failed, stopped, 
 use Rattle.run_core.specs.Running.{IsAt, IsFilled}
 use Rattle.run_core.specs.Searched.{IsTable, IsHeld, IsLast}
 use Rattle.run_core.proofs.Parts.{part-within}
-use Rattle.run_core.proofs.Ends.{IsStop, done-answer, no-memory-run}
+use Rattle.run_core.proofs.Ends.{IsStop, done-answer}
 
 -- the ring holds what was taken
 pub filled-as : (lb la : Option (List ℕ)) (rb ra : ℕ) (written : Option (List ℕ)) (writes : ℕ) (input : Input)
@@ -218,8 +218,3 @@ failed-answer work old now input taken consumed written writes rose none short w
     (ap (first_fault work false) part ∙ fault-of-opening work false input.ring.items None none ∙ rw test refl)
     (ap (acted_text work false) part ∙ given-of-opening work false input.ring.items None none)
     (nothing-written old.written now.written written) writes refl
-
--- memory was not found before the first read
-pub unread-no-memory : (work : Work) (old : Ends) → HasRun (task_of work) old old NoMemory
-unread-no-memory work old = no-memory-run work old old []
-    (record { consumed = Consumes-nil old.left; ended = (refl, omega arith) }) refl refl

@@ -5,6 +5,7 @@ use Rattle.std.proofs.KnownBytes.{Appends-trans, Consumes-trans}
 use Rattle.std.specs.Io.KnownBytes.{Consumes, IsAtEnd}
 use Rattle.fisb_wire.specs.Faults.{Rose}
 use Rattle.refusal_core.specs.declared.reason.Reason.TheVariants.{LineLong}
+use Rattle.byte_search.specs.FirstByte.{found_at}
 use Rattle.run_core.specs.declared.input.Input.{Input}
 use Rattle.run_core.specs.declared.status.Status.TheVariants.{Done, ReadFault, TooLong}
 use Rattle.run_core.specs.Limits.{input_limit, line_limit, ring_limit}
@@ -16,7 +17,6 @@ use Rattle.run_core.specs.Acting.{HasActedAs}
 use Rattle.run_core.specs.Run.{Ends, ends, sink_end, source_end, at_end, failed, full, stopped, HasRun, task_of}
 use Rattle.run_core.specs.Running.{IsAt}
 use Rattle.run_core.proofs.LineCuts.{lines-cut, part-cut, no-line, only-part, last-line, no-last}
-use Rattle.run_core.proofs.Newlines.{found-at}
 use Rattle.run_core.proofs.Parts.{part-within, part-one-over}
 use Rattle.run_core.proofs.Ends.{IsStop, done-answer}
 
@@ -70,7 +70,7 @@ module _ (work : Work) (table : List ℕ) (number : ℕ) (old : Ends) where
       → after.ring.items ≡ drop (e + 1) input.ring.items → after.taken ≡ input.taken
       → IsAt work table stands' (number + 1) old (ends left reads written writes) after
   at-line stands stands' left reads before written wb writes input after e line text a found is acted items taken =
-      let at = found-at e input.ring.items found in
+      let at = found_at 10 e input.ring.items (sym found) in
       let same : (more : List ℕ) → drop (e + 1) input.ring.items ++ more ≡ after.ring.items ++ more =
       (λ more. ap (λ xs. xs ++ more) (sym items)) in record {
         past = line ∷ a.past;

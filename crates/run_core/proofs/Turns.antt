@@ -1,9 +1,10 @@
 -- What the two loops keep, and how a read and a line keep it.
 use Rattle.std.proofs.Common.{◌≡◌, ℕ, zero, suc, ◌+◌, ◌-◌, ◌≤◌, Bool, true, false, List, [], ◌∷◌, ◌++◌, Option, Some, None, option_map, length, take, drop, refl, sym, ap, subst, ◌∙◌, arith, append-nil, append_assoc, length-append, length-take, length-drop}
-use Rattle.std.proofs.lemmas.List.{drop-append-le, drop-drop, take_all}
+use Rattle.std.proofs.lemmas.List.{drop-append-le, drop-drop}
 use Rattle.std.proofs.KnownBytes.{Consumes-trans}
 use Rattle.list_members.specs.Places.{take-rest}
 use Rattle.std.specs.Io.KnownBytes.{Consumes}
+use Rattle.byte_search.specs.FirstByte.{found_at}
 use Rattle.run_core.specs.declared.input.Input.{Input}
 use Rattle.run_core.specs.Limits.{ring_limit}
 use Rattle.run_core.specs.Work.{Work}
@@ -14,7 +15,7 @@ use Rattle.run_core.specs.Run.{Ends, SourceEnd, ends, source_end}
 use Rattle.run_core.specs.Running.{IsAt, IsSought}
 use Rattle.run_core.specs.Searched.{IsHeld, IsTable, IsLast, is_end_here}
 use Rattle.run_core.proofs.LineCuts.{lines-cut, part-cut, no-line, last-line, no-last}
-use Rattle.run_core.proofs.Newlines.{found-at, none-append}
+use Rattle.run_core.proofs.Newlines.{none-append}
 use Rattle.run_core.proofs.Openings.{opening-pass, opening-here, opening-long}
 
 -- what the loop over lines keeps beside where it stands
@@ -92,7 +93,7 @@ pub count-less : (number limit : ℕ) (input after : Input) (e : ℕ)
     → number + length input.ring.items ≤ input.taken + limit → number + 1 + length after.ring.items ≤ after.taken + limit
 count-less number limit input after e found dropped taken count =
     let size = ap length dropped ∙ length-drop (e + 1) input.ring.items in
-    let at = found-at e input.ring.items found in
+    let at = found_at 10 e input.ring.items (sym found) in
     let a = at.0 in
     let b = at.1 in
     omega (arith, size, taken, count, a, b)
@@ -141,7 +142,7 @@ rest-drop text more place k =
 pub sought-line : (text : List ℕ) (place number k : ℕ) → IsSought text place number
     → newline_in (drop place text) ≡ Some k → is_end_here text place k ≡ false → IsSought text (place + k + 1) (number + 1)
 sought-line text place number k s found other =
-    let at = found-at k (drop place text) found in
+    let at = found_at 10 k (drop place text) (sym found) in
     let size = length-drop place text in
     let line = length-take k (drop place text) in
     let a = at.0 in
@@ -165,7 +166,7 @@ sought-line text place number k s found other =
 pub sought-found : (text : List ℕ) (place number k : ℕ) → IsSought text place number
     → newline_in (drop place text) ≡ Some k → is_end_here text place k ≡ true → IsTable text place number
 sought-found text place number k s found matched =
-    let at = found-at k (drop place text) found in
+    let at = found_at 10 k (drop place text) (sym found) in
     let size = length-drop place text in
     let line = length-take k (drop place text) in
     let three = (opening-here place number (take k (drop place text)) [] matched).1 in

@@ -11,3 +11,4 @@ pub mod Reading
 pub mod Acting
 pub mod Running
 pub mod Searched
+pub mod Unbegun

@@ -1,20 +1,13 @@
 -- A list of bytes, cut at each byte that is c: its first part, by where `position` finds the first such byte.
-use Rattle.std.proofs.Common.{◌≡◌, ◌==◌, ℕ, ◌+◌, ◌<◌, ◌≤◌, nat_lt, true, false, List, [], ◌∷◌, Option, Some, None, slice_index, length, take, drop, refl, sym, ap, ◌∙◌, arith, inl, inr}
+use Rattle.std.proofs.Common.{◌≡◌, ◌==◌, ℕ, ◌+◌, ◌≤◌, nat_lt, List, [], ◌∷◌, Some, None, length, take, drop, sym, ap, ◌∙◌, arith, inl, inr}
 use Rattle.std.proofs.lemmas.Bool.{cases_Bool}
 use Rattle.std.proofs.lemmas.Bool.Decides.{nat_tests}
 use Rattle.std.proofs.lemmas.Grind.{common_steps}
 use Rattle.std.proofs.lemmas.List.{drop-drop, take_all}
 use Rattle.std.proofs.lemmas.List.Splits.{slice_split_first, slice_split_none}
-use Rattle.std.proofs.lemmas.List.Sums.{fails_before_first, position_or_len_is}
+use Rattle.std.proofs.lemmas.List.Sums.{fails_before_first}
 use Rattle.std.specs.List.{slice_split, position_or_len, position, before_first, after_first}
-
-pub found_at : (c place : ℕ) (xs : List ℕ) → Some place ≡ position (λ b. b == c) xs
-    → (place ≡ position_or_len (λ b. b == c) xs) × (position_or_len (λ b. b == c) xs < length xs)
-found_at c place xs found =
-    elim (cases_Bool (nat_lt (position_or_len (λ b. b == c) xs) (length xs))) [
-      | inl within ↦ (let same = rw within at found in cc, grind (arith, nat_tests))
-      | inr outside ↦ absurd (let none = rw outside at found in cc)
-    ]
+use Rattle.byte_search.specs.FirstByte.{found_at, past_end}
 
 -- where a byte is found, the first part ends in front of it, and the others are those of what stands behind it
 pub cut_found : (c place : ℕ) (xs front back rest : List ℕ) → Some place ≡ position (λ b. b == c) xs
@@ -44,13 +37,6 @@ pub behind_found : (c place : ℕ) (xs back rest : List ℕ) → Some place ≡ 
     → rest ≡ after_first (λ b. b == c) xs
 behind_found c place xs back rest found is_back is_rest =
     is_rest ∙ ap (drop 1) is_back ∙ drop-drop 1 place xs ∙ ap (λ n. drop (n + 1) xs) (found_at c place xs found).0
-
-past_end : (c : ℕ) (xs : List ℕ) → None ≡ position (λ b. b == c) xs → length xs ≤ position_or_len (λ b. b == c) xs
-past_end c xs found =
-    elim (cases_Bool (nat_lt (position_or_len (λ b. b == c) xs) (length xs))) [
-      | inl within ↦ absurd (let some = rw within at found in cc)
-      | inr outside ↦ grind (arith, nat_tests)
-    ]
 
 drop_whole : (n : ℕ) (xs : List ℕ) → length xs ≤ n → [] ≡ drop (n + 1) xs
 drop_whole n xs past = grind (arith, common_steps)

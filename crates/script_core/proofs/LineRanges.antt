@@ -19,7 +19,7 @@ use Rattle.dlac_text.specs.Plain.{text_of_plain}
 use Rattle.script_core.specs.Fields.{◌>>=◌, fields, is_word, number_within, moment_in, report_in, hex_digit, byte_in, wrong_byte_in, wrong_from, air_in, rx_line, station_at, station_line, text_line, turn_line, hear_line, show_line, other_line, line_of_fields, line_of}
 use Rattle.script_core.specs.Laws.{LinesHaveRanges}
 use Rattle.script_core.specs.LineView.{IsAir}
-use Rattle.script_core.specs.Script.{Line, station, text, turn, hear, rx, show}
+use Rattle.script_core.specs.Script.{Line, station, turn, hear, rx, show}
 use Rattle.script_core.specs.Fields.{radar_line, blank_line}
 use Rattle.script_core.proofs.FieldRanges.{IsRanged, number_bounds, number_below, moment_range, joined_behind}
 use Rattle.script_core.proofs.RadarRanges.{radar_ranged, blank_ranged}

@@ -6,5 +6,6 @@ pub mod Views
 pub mod Kept
 pub mod HeldPieces
 pub mod Store
+pub mod InTime
 pub mod Bound
 pub mod Ends

@@ -1,9 +1,9 @@
 -- Blanks at the front of a text, and the word in front of a blank.
 use Rattle.std.proofs.Common.{◌≡◌, ℕ, zero, suc, ◌<◌, ◌≤◌, nat_lt, Bool, true, false, ◌==◌, List, [], ◌∷◌, length, get_or, take, drop, filter, refl, arith, inl, inr, add-one, length-take}
-use Rattle.std.proofs.lemmas.Bool.{or_cases, eqb-true, lt-ltb, cases_lt}
+use Rattle.std.proofs.lemmas.Bool.{or_cases, eqb-true, lt-ltb}
 use Rattle.std.specs.List.{slice_split}
 use Rattle.std.specs.Str.{IsUtf8, IsCharBoundary}
-use Rattle.std.proofs.lemmas.Str.{IsCharBoundary-start, IsCharBoundary-end, IsCharBoundary-after_ascii, IsCharBoundary-before_ascii}
+use Rattle.std.proofs.lemmas.Str.{IsCharBoundary-start, IsCharBoundary-after_ascii}
 use Rattle.text_reports.specs.TextKey.{is_blank, words_of}
 
 blank_is_ascii : (c : ℕ) → is_blank c ≡ true → c < 128

@@ -9,7 +9,7 @@ use Rattle.text_reports.specs.declared.key.KeyFault.TheVariants.{FewWords, Unlis
 abbrev pub key_view : Key → TextKey
 key_view key = record { kind = key.kind; place = key.place; third = key.third }
 
--- the fault is the one of the answer; want of memory may come at any answer
+-- the fault is the one of the answer; out of memory may come at any answer
 abbrev pub IsFault : Fault → Result TextKey KeyFault → Type 0
 IsFault FewWords answer = answer ≡ Err few_words
 IsFault Unlisted answer = answer ≡ Err unlisted

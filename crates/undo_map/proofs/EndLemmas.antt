@@ -17,6 +17,7 @@ use Rattle.std.proofs.lemmas.Map.{lookup-none}
 use Rattle.std.proofs.lemmas.Map.Entries.{none_below_head}
 use Rattle.std.proofs.lemmas.Map.Keys.{sorted_tail}
 use Rattle.std.proofs.lemmas.Map.Steps.{set_value_same}
+use Rattle.list_members.specs.Each.{AllByRecursion-weaker}
 use Rattle.list_members.specs.Tests.{none_from}
 use Rattle.undo_map.specs.Ends.{HavePlaces, HavePlacesBy, KeepsPlacesBy, has_place, has_place_by, with_newer}
 use Rattle.undo_map.specs.Marked.{with_all}
@@ -128,11 +129,6 @@ module _ {K V : Type 0} where
   newer-back R key false old value new es steps later found is more =
       rw (more, is) (ap (before_all R steps) (set_value_same (is_at (R key)) es old found))
 
-  pub all-weaker :
-      (P Q : K × V → Type 0) (es : List (K × V)) → ((e : K × V) → P e → Q e) → AllByRecursion P es → AllByRecursion Q es
-  all-weaker P Q [] weaker all = tt
-  all-weaker P Q (e ∷ es) weaker all = (weaker e all.0, all-weaker P Q es weaker all.1)
-
   -- what holds of each entry, where one value is written over another
   all-set :
       (test : K → Bool) (P Q : K × V → Type 0) (old v : V) (es : List (K × V)) → lookup test es ≡ Some old
@@ -144,7 +140,7 @@ module _ {K V : Type 0} where
         let same : Some e.1 ≡ Some old = rw passes at found in
         let value : e.1 ≡ old = cc in
         let first : P (e.0, old) = subst (λ (x : V). P (e.0, x)) value all.0 in
-        rw passes (own e.0 passes first, all-weaker P Q es weaker all.1)
+        rw passes (own e.0 passes first, AllByRecursion-weaker P Q weaker es all.1)
     | inr fails ↦
         let later : lookup test es ≡ Some old = rw fails at found in
         rw fails (weaker e all.0, all-set test P Q old v es later weaker own all.1)
@@ -169,8 +165,8 @@ module _ {K V : Type 0} where
       (R : K → K → Ordering) (end : K × V → ℕ) (old new : List (ℕ × K)) (es : List (K × V)) → KeepsPlacesBy R old new
       → HavePlacesBy R end old es → HavePlacesBy R end new es
   places-kept R end old new es kept all =
-      all-weaker (λ e. has_place_by R old e.0 (end e) ≡ true) (λ e. has_place_by R new e.0 (end e) ≡ true) es
-      (λ e some. kept e.0 (end e) some) all
+      AllByRecursion-weaker (λ e. has_place_by R old e.0 (end e) ≡ true) (λ e. has_place_by R new e.0 (end e) ≡ true)
+      (λ e some. kept e.0 (end e) some) es all
 
   pub places-set :
       (R : K → K → Ordering) (end : V → ℕ) (old new : List (ℕ × K)) (key : K) (was v : V) (es : List (K × V))

@@ -1,9 +1,7 @@
 -- The bits of a header: the fields that its bytes spell, and that they read back.
-use Rattle.std.proofs.Common.{◌≡◌, ℕ, zero, suc, ◌+◌, ◌-◌, ◌*◌, ◌/◌, ◌%◌, ◌^◌, ◌<◌, ◌≤◌, ◌==◌, List, [], ◌∷◌, length, take, get_or, refl, sym, ap, ◌∙◌, arith}
-use Rattle.std.specs.List.{All}
-use Rattle.std.specs.Int.{w64, byte_at, bytes_high_first, from_be_bytes, to_be_bytes}
+use Rattle.std.proofs.Common.{◌≡◌, ℕ, ◌+◌, ◌-◌, ◌*◌, ◌/◌, ◌%◌, ◌^◌, ◌<◌, ◌≤◌, ◌==◌, List, [], ◌∷◌, length, take, get_or, refl, sym, ap, ◌∙◌, arith}
+use Rattle.std.specs.Int.{w64, bytes_high_first, from_be_bytes, to_be_bytes}
 use Rattle.std.proofs.lemmas.List.{length-take, length-take-le}
-use Rattle.std.proofs.lemmas.List.Elements.{All-nil, All-cons}
 use Rattle.std.proofs.lemmas.Nat.{from_be_bytes-to_be_bytes_8}
 use Rattle.bit_fields.specs.Bits.{bit, number_of}
 use Rattle.bit_fields.specs.BitsBack.{bit_below, bit_back}
@@ -146,11 +144,3 @@ header_in-written h payload fits front =
 -- eight bytes
 pub length-header_bytes : (h : UplinkHeader) → length (header_bytes h) ≡ 8
 length-header_bytes h = refl
-
-byte_below : (k n : ℕ) → byte_at k n < 256
-byte_below zero n = omega arith
-byte_below (suc k) n = omega arith
-
-pub All-bytes_high_first : (k n : ℕ) → All (λ byte. byte < 256) (bytes_high_first k n)
-All-bytes_high_first zero n = All-nil (λ byte. byte < 256)
-All-bytes_high_first (suc k) n = All-cons (λ byte. byte < 256) (byte_at k n) (bytes_high_first k n) (byte_below k n) (All-bytes_high_first k n)

@@ -6,10 +6,11 @@ use Rattle.std.proofs.lemmas.List.Elements.{All-nil, All-head, All-tail, All-app
 use Rattle.uplink_frame.specs.declared.header.UplinkHeader.{UplinkHeader}
 use Rattle.uplink_frame.specs.UplinkFrame.{FitsHeader, InformationFrame, FitsFrame, header_bytes, frame_front, information_frame, frames_in, spelled_frames, application_data, payload_of}
 use Rattle.bit_fields.specs.Bits.{AreBytes}
+use Rattle.bit_fields.specs.BytesAsNumbers.{bytes_high_first-bytes}
 use Rattle.uplink_frame.specs.Laws.{ReadsBack}
 use Rattle.uplink_frame.proofs.FrameList.{information_frames-frames_in}
 use Rattle.uplink_frame.proofs.Spelled.{frames_in-written}
-use Rattle.uplink_frame.proofs.HeaderBits.{header_in-written, length-header_bytes, All-bytes_high_first}
+use Rattle.uplink_frame.proofs.HeaderBits.{header_in-written, length-header_bytes}
 
 length-payload_of :
     (h : UplinkHeader) (frames : List InformationFrame) → length (spelled_frames frames) ≤ 424 → length (payload_of h frames) ≡ 432
@@ -43,7 +44,7 @@ All-spelled_frames (frame ∷ frames) bodies =
     let P : ℕ → Type 0 = λ byte. byte < 256 in
     let Q : InformationFrame → Type 0 = λ frame. AreBytes frame.body in
     All-append P (information_frame frame) (spelled_frames frames)
-    (All-append P (frame_front (length frame.body) 0 frame.kind) frame.body (All-bytes_high_first 2 _) (All-head Q frame frames bodies))
+    (All-append P (frame_front (length frame.body) 0 frame.kind) frame.body (bytes_high_first-bytes 2 _) (All-head Q frame frames bodies))
     (All-spelled_frames frames (All-tail Q frame frames bodies))
 
 All-payload_of :
@@ -52,7 +53,7 @@ unfolding payload_of
 All-payload_of h frames bodies =
     let P : ℕ → Type 0 = λ byte. byte < 256 in
     let spelled = spelled_frames frames in
-    All-append P (header_bytes h) (application_data frames) (All-bytes_high_first 8 _)
+    All-append P (header_bytes h) (application_data frames) (bytes_high_first-bytes 8 _)
     (All-append P spelled (replicate (424 - length spelled) 0) (All-spelled_frames frames bodies) (All-replicate P (424 - length spelled) 0 (lit< tt)))
 
 pub reads_back :

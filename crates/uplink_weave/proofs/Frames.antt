@@ -1,8 +1,8 @@
 -- Woven frames, payloads and counts.
-use Rattle.std.proofs.Common.{◌≡◌, ℕ, ◌+◌, ◌*◌, ◌-◌, ◌/◌, ◌%◌, ◌<◌, List, IsTrue, get_or, map, refl, sym, ◌∙◌, ap, arith, inl, inr}
+use Rattle.std.proofs.Common.{◌≡◌, ℕ, ◌+◌, ◌*◌, ◌-◌, ◌/◌, ◌%◌, ◌<◌, List, IsTrue, get_or, map, sym, ◌∙◌, ap, arith, inl, inr}
 use Rattle.std.proofs.lemmas.Bool.{cases_lt, le-leb}
 use Rattle.std.proofs.lemmas.List.{ext_get_or, length-replicate, get_or-replicate}
-use Rattle.rs_code.specs.CodeWord.{IsInstance, are_near, bound, differences}
+use Rattle.rs_code.specs.CodeWord.{are_near, bound, differences}
 use Rattle.rs_code.specs.Laws.{CountsDifferences, HasOneNearest}
 use Rattle.rs_code.specs.Instances.{uplink_instance}
 use Rattle.std.specs.List.{range_with_len}

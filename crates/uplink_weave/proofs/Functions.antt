@@ -10,18 +10,13 @@ use Rattle.rs_code.specs.Functions.{encoded_word}
 use Rattle.rs_code.specs.Laws.{HasOneEncoded, IsCorrected}
 use Rattle.rs_code.specs.Instances.{uplink_instance}
 use Rattle.uplink_weave.specs.Woven.{block, IsWoven, AllCorrectable, HasPayload, HasCounts, IsLostBlock}
-use Rattle.uplink_weave.specs.Functions.{part, woven_frame, corrected_block, payload_in, counts_in, lost_block_in}
+use Rattle.uplink_weave.specs.Functions.{part, woven_frame, length-woven_frame, corrected_block, payload_in, counts_in, lost_block_in}
 use Rattle.uplink_weave.specs.Laws.{IsTheFrame, GivesPayload, FrameGivesPayload, WovenGivesPayload, NearFrameGivesPayload, BurstIsSpread, BurstGivesPayload}
 use Rattle.uplink_weave.proofs.Places.{length-block, is_block, same_frame}
 use Rattle.uplink_weave.proofs.Frames.{near_gives_payload, near_counts}
 use Rattle.uplink_weave.proofs.Parts.{length-part, part_from, part_to, joined_to, joined_from, first_from, first_to, none_from, none_to, word_there, no_word, cases_option, joined_none}
 
 -- frames that are woven
-
-length-woven_frame : (payload : List ℕ) → length (woven_frame payload) ≡ 552
-unfolding woven_frame
-length-woven_frame payload =
-    length-map-range_with_len (λ (place : ℕ). get_or (encoded_word 92 20 120 (part (place % 6) payload)) (place / 6) 0) 0 552
 
 get_or-woven_frame :
     (payload : List ℕ) (place : ℕ) → place < 552

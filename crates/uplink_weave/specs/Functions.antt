@@ -1,8 +1,9 @@
 -- Frames as functions, for definitions that stand above: the frame of a payload, and the payload of
 -- a frame.
-use Rattle.std.specs.Prelude.{ℕ, ◌*◌, ◌/◌, ◌%◌, List, [], ◌∷◌, ◌++◌, slice_index, take, drop, map}
-use Rattle.std.specs.Prelude.{find, Option, Some, None, option_map, unwrap_or, is_none}
+use Rattle.std.specs.Prelude.{◌≡◌, ℕ, ◌*◌, ◌/◌, ◌%◌, List, [], ◌∷◌, ◌++◌, slice_index, take, drop, map}
+use Rattle.std.specs.Prelude.{length, find, Option, Some, None, option_map, unwrap_or, is_none}
 use Rattle.std.specs.List.{range_with_len}
+use Rattle.std.proofs.lemmas.List.FromFn.{length-map-range_with_len}
 use Rattle.rs_code.specs.CodeWord.{differences}
 use Rattle.rs_code.specs.Functions.{encoded_word, corrected_word}
 use Rattle.uplink_weave.specs.Woven.{block, block_bytes, block_roots, first_root, frame_bytes}
@@ -18,6 +19,14 @@ woven_frame payload =
     slice_index (encoded_word block_bytes block_roots first_root (part (place % 6) payload))
     (place / 6))
     (range_with_len 0 frame_bytes)
+
+-- it has the bytes of a frame, whatever the payload is
+pub length-woven_frame : (payload : List ℕ) → length (woven_frame payload) ≡ frame_bytes
+unfolding woven_frame
+length-woven_frame payload =
+    length-map-range_with_len (λ (place : ℕ).
+    slice_index (encoded_word block_bytes block_roots first_root (part (place % 6) payload))
+    (place / 6)) 0 frame_bytes
 
 -- the code word near a block, where there is one
 unfoldable pub corrected_block : List ℕ → ℕ → Option (List ℕ)

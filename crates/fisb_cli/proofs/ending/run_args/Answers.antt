@@ -4,7 +4,8 @@ use Rattle.fisb_app.specs.declared.command.Command.TheVariants.{Make, Receive}
 use Rattle.run_core.specs.Run.{ends, task_of}
 use Rattle.fisb_app.specs.Work.{link_work, ground_work, promised_work, receive_work, origin_work, gdl_work}
 use Rattle.run_core.specs.declared.status.Status.TheVariants.{NoMemory}
-use Rattle.fisb_cli.proofs.NoMemory.{unbegun-run, decided-without-memory}
+use Rattle.run_core.specs.Unbegun.{unbegun-run}
+use Rattle.fisb_cli.proofs.NoMemory.{decided-without-memory}
 use Rattle.fisb_cli.proofs.ending.run_args.Goals as goal
 
 pub returns-in-Ok-words-clause-make : goal.returns-in-Ok-words-clause-make

@@ -4,12 +4,13 @@ use Rattle.picture_core.specs.Key.{radar_block}
 use Rattle.radar_core.specs.Blanks.{blank_record}
 use Rattle.radar_core.specs.Radar.{blank_blocks}
 use Rattle.radar_core.specs.declared.key.BlockKey.{BlockKey}
+use Rattle.list_members.specs.Places.{take-rest}
 use Rattle.ground_core.specs.Item.{Weather, is_segmented}
 use Rattle.ground_core.specs.Update.{radar_weather}
 use Rattle.ground_core.specs.Views.{area_keys, keys_in}
 use Rattle.ground_core.specs.declared.area.Area.{Area}
 use Rattle.ground_core.proofs.Areas.{key_in_area}
-use Rattle.ground_core.proofs.GroupItems.{group_keys, group_parts, one_of_group, rest_is, zero_both}
+use Rattle.ground_core.proofs.GroupItems.{group_keys, group_parts, one_of_group, zero_both}
 use Rattle.ground_core.proofs.radar_items.group_item.Goals as goal
 
 pub returns-clause-item : goal.returns-clause-item
@@ -32,7 +33,7 @@ returns-clause-item c =
       until = c.whole_item.ensures.until;
       product = c.whole_item.ensures.product;
       form = c.whole_item.ensures.form;
-      payload = c.whole_item.ensures.payload ∙ c.in_ok-payload.ensures.record ∙ ap (blank_record c.key_of.result) (rest_is group) ∙ ap (λ (key : BlockKey). blank_record key further) c.key_of.ensures;
+      payload = c.whole_item.ensures.payload ∙ c.in_ok-payload.ensures.record ∙ ap (blank_record c.key_of.result) (take-rest 1 group) ∙ ap (λ (key : BlockKey). blank_record key further) c.key_of.ensures;
       few = λ t. omega arith;
       file = c.whole_item.ensures.whole ∙ zero_both (is_segmented w);
     })

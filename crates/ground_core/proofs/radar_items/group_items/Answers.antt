@@ -1,13 +1,14 @@
 use Rattle.std.proofs.Common.{◌≡◌, ◌+◌, ◌<◌, [], ◌∷◌, ◌++◌, length, sym, ap, subst, ◌∙◌, arith, length-append}
 use Rattle.std.proofs.lemmas.List.{map-append}
 use Rattle.life_table.specs.LifeTable.{RadarRow, radar}
+use Rattle.list_members.specs.Each.{AllByRecursion-append}
 use Rattle.ground_core.specs.Update.{group_weather}
-use Rattle.ground_core.specs.Putting.{AreItemsFrom, AreWhole, values_of}
+use Rattle.ground_core.specs.Putting.{AreItemsFrom, IsUncut, AreWhole, values_of}
 use Rattle.ground_core.specs.declared.area.Area.{Area}
 use Rattle.ground_core.specs.declared.item.SentItem.{SentItem}
 use Rattle.ground_core.proofs.Areas.{key_in_area}
 use Rattle.ground_core.proofs.GroupItems.{more_groups}
-use Rattle.ground_core.proofs.SentItems.{items_behind, whole_behind}
+use Rattle.ground_core.proofs.SentItems.{items_behind}
 use Rattle.ground_core.proofs.radar_items.group_items.Goals as goal
 
 pub loop-place-preserved : goal.loop-place-preserved
@@ -33,5 +34,5 @@ loop-place-preserved c =
           (items_behind c.args.first _ (f c.at.result.now) before (item ∷ []) c.loop-place.invariant.items
           (subst (λ n. AreItemsFrom n (f c.at.result.now) (item ∷ [])) serial c.in_ok-item.ensures.item)));
       count = ap length values ∙ size ∙ ap (λ n. n + 1) c.loop-place.invariant.count;
-      whole = subst AreWhole (sym values) (whole_behind before (item ∷ []) c.loop-place.invariant.whole (c.in_ok-item.ensures.whole, tt));
+      whole = subst AreWhole (sym values) (AllByRecursion-append IsUncut before (item ∷ []) c.loop-place.invariant.whole (c.in_ok-item.ensures.whole, tt));
     }

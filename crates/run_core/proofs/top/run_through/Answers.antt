@@ -2,13 +2,14 @@ use Rattle.std.proofs.Common.{◌≡◌, ℕ, false, List, [], None, Err, refl, 
 use Rattle.refusal_core.specs.declared.reason.Reason.TheVariants.{NoTable, TableLong}
 use Rattle.run_core.specs.Lines.{lines_in}
 use Rattle.run_core.specs.Opening.{opening_at}
-use Rattle.run_core.specs.Run.{at_end, stopped}
+use Rattle.run_core.specs.Run.{at_end, stopped, task_of}
+use Rattle.run_core.specs.Unbegun.{unbegun-run}
 use Rattle.run_core.proofs.Ends.{stop-run}
-use Rattle.run_core.proofs.Starts.{missing-stop, long-stop, failed-answer, unread-no-memory, filled-as}
+use Rattle.run_core.proofs.Starts.{missing-stop, long-stop, failed-answer, filled-as}
 use Rattle.run_core.proofs.top.run_through.Goals as goal
 
 pub returns-in_default-clause-ran : goal.returns-in_default-clause-ran
-returns-in_default-clause-ran g c = unread-no-memory g.A.Actor.work _
+returns-in_default-clause-ran g c = unbegun-run (task_of g.A.Actor.work) _
 
 pub returns-in-Last-clause-ran : goal.returns-in-Last-clause-ran
 returns-in-Last-clause-ran g c =

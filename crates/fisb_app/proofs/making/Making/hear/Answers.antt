@@ -1,5 +1,7 @@
 use Rattle.std.proofs.Common.{◌≡◌, ◌≢◌, ◌+◌, None, Some, ap, sym, refl, subst, fold, arith, ◌∙◌}
 use Rattle.std.specs.Option.{option_or}
+use Rattle.uplink_weave.specs.Functions.{length-woven_frame}
+use Rattle.ground_core.specs.Airing.{frame_payload}
 use Rattle.receiver_core.specs.Hearing.{IsHearFault, refusal_of_air}
 use Rattle.workload.specs.Hearings.{frame_with_changes as changed_frame}
 use Rattle.workload.specs.declared.step.Step.TheVariants.{Hear}
@@ -9,7 +11,7 @@ use Rattle.fisb_app.specs.Reading.{frame_refusal, receiver_refusal}
 use Rattle.fisb_app.specs.Make.{last_frame}
 use Rattle.fisb_app.proofs.Steps.{unheard-clock, unheard-lost, unheard-invalid}
 use Rattle.fisb_app.proofs.Stepping.{early-step, timely-step, refused-step, acted-step}
-use Rattle.fisb_app.proofs.StepKinds.{hear-step, heard-made, received, unheard-refused, unreceived-made, early-made, length-aired}
+use Rattle.fisb_app.proofs.StepKinds.{hear-step, heard-made, received, unheard-refused, unreceived-made, early-made}
 use Rattle.fisb_app.proofs.making.Making.hear.Goals as goal
 
 pub returns-then-is_early : goal.returns-then-is_early
@@ -42,7 +44,7 @@ returns-in_ok-self-in-Ok-2 g c = λ table acted h.
     let counted = c.in_ok-self-in-Ok.ensures in
     acted-step g.G.Sender.stands g.E.Ear.stands table acted _ _ _ _ after
     (ap (λ r. option_or r (receiver_refusal past c.args.moment)) free_by_table ∙ got.free)
-    (heard-made g.G.Sender.stands g.E.Ear.stands table acted c.args.moment c.args.changes.now c.args.self.now c.hear.new.self frame c.add_to.new.frame (Some got.one) _ _ h found (length-aired frame) put got.is got.newest
+    (heard-made g.G.Sender.stands g.E.Ear.stands table acted c.args.moment c.args.changes.now c.args.self.now c.hear.new.self frame c.add_to.new.frame (Some got.one) _ _ h found (length-woven_frame (frame_payload frame)) put got.is got.newest
     (omega (arith, before, counted))
     (c.in_ok-self-in-Ok-2.ensures ∙ ap (λ n. c.args.self.now.counts.corrected + n) (c.sum_of.ensures ∙ ap (fold (λ sum count. sum + count) 0) got.counts)))
 
