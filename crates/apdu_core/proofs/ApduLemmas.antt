@@ -16,6 +16,7 @@ use Rattle.apdu_core.specs.declared.fault.ApduFault.{ApduFault}
 use Rattle.apdu_core.specs.declared.fault.ApduFault.TheVariants.{Short, Flagged, BadSegment}
 use Rattle.apdu_core.specs.Apdu.{Apdu, form_number, form_of, time_fields, segment_fields, time_width, header_width, header_length, header_fields, header_with, fill_width, time_in, segmentation_in, form_in, is_segmented_in, is_bad, apdu_of_header, apdu_of}
 use Rattle.apdu_core.specs.Spelling.{FitsTime, FitsSegment, FitsSegmentation, FitsApdu, AreBytes, SpellsApdu, IsReadingOf}
+use Rattle.bit_fields.specs.BitsBack.{bit_back, bit_of_test}
 use Rattle.bit_fields.specs.BytesAsNumbers.{IsByte, number_of-append, number_of-fits, bytes_high_first-bytes}
 use Rattle.apdu_core.proofs.ByteLemmas.{length-bytes_high_first}
 use Rattle.apdu_core.proofs.FieldLemmas.{IsWithin, AreWithin, AreAt, bytes-from_at, at-from_bytes}
@@ -145,10 +146,6 @@ read-from_header a header h fits =
     cond-false (is_some a.segmentation && is_bad (segmentation_in a.form header)) (Err BadSegment) (Ok value) (not_bad a.segmentation (segmentation_in a.form header) fits h.segmentation)
     ∙ ap (λ (x : Apdu). Ok x) (sym same)
 
-bit_back : (s : Option Seg) → ((if is_some s then 1 else 0) == 1) ≡ is_some s
-bit_back None = refl
-bit_back (Some s) = refl
-
 -- a body whose header has these values is read as them
 apdu_of-header : (a : Apdu) (header : List ℕ) → AreBytes header → length header ≡ header_length a.form (is_some a.segmentation) → IsHeaderOf a header → FitsSegmentation a.segmentation
     → apdu_of (header ++ a.payload) ≡ Ok a
@@ -164,7 +161,7 @@ apdu_of-header a header b size h fits =
     let no_flags : not (field_at (take 4 body) 0 3 == 0) ≡ false = ap (λ (n : ℕ). not (n == 0)) flags_are in
     let form : form_in body ≡ a.form = ap form_of (field_in_four header a.payload 15 2 b enough (omega arith) ∙ sym h.form) ∙ form_back a.form in
     let segmented : is_segmented_in body ≡ is_some a.segmentation =
-    ap (λ (n : ℕ). n == 1) (field_in_four header a.payload 14 1 b enough (omega arith) ∙ sym h.segmented) ∙ bit_back a.segmentation in
+    ap (λ (n : ℕ). n == 1) (field_in_four header a.payload 14 1 b enough (omega arith) ∙ sym h.segmented) ∙ bit_back (is_some a.segmentation) _ refl in
     let same_size : header_length (form_in body) (is_segmented_in body) ≡ header_length a.form (is_some a.segmentation) =
     ap (λ (f : TimeForm). header_length f (is_segmented_in body)) form ∙ ap (header_length a.form) segmented in
     let there_whole : nat_lt (length body) (header_length (form_in body) (is_segmented_in body)) ≡ false =
@@ -277,9 +274,6 @@ form_number_back n h =
       ]
     ]
 
-bit_of : (n : ℕ) → n < 2 → (if n == 1 then 1 else 0) ≡ n
-bit_of n h = grind (arith, nat_tests)
-
 -- a body that is read as an APDU spells that APDU
 pub spelled-from_body : (body : List ℕ) (a : Apdu) → AreBytes body → apdu_of body ≡ Ok a → SpellsApdu body a
 unfolding apdu_of
@@ -299,7 +293,7 @@ spelled-from_body body a b e =
     ap (λ (bytes : List ℕ). field_at (take 4 bytes) place width) (sym whole_body) ∙ field_in_four header payload place width header_bytes (omega arith) fits in
     let flags : 0 ≡ field_at header 0 3 =
     sym (eqb-true (field_at (take 4 body) 0 3) 0 (not-false (field_at (take 4 body) 0 3 == 0) tests.1)) ∙ same 0 3 (omega arith) in
-    let segmented : (if s then 1 else 0) ≡ field_at header 14 1 = bit_of (field_at (take 4 body) 14 1) (omega arith) ∙ same 14 1 (omega arith) in
+    let segmented : (if s then 1 else 0) ≡ field_at header 14 1 = bit_of_test (field_at (take 4 body) 14 1) (omega arith) ∙ same 14 1 (omega arith) in
     let number : form_number form ≡ field_at header 15 2 = form_number_back (field_at (take 4 body) 15 2) (omega arith) ∙ same 15 2 (omega arith) in
     subst (λ (bytes : List ℕ). SpellsApdu bytes a) whole_body
     (spelled-from_read form s header payload header_bytes (All-drop IsByte n body b) size flags segmented number a tests.3)

@@ -1,12 +1,12 @@
 -- Fields side by side, and the fields that are read at their places: the one undoes the other, for any list of fields.
 use Rattle.std.proofs.Common.{◌≡◌, ℕ, ◌+◌, ◌-◌, ◌*◌, ◌/◌, ◌%◌, ◌^◌, ◌<◌, List, [], ◌∷◌, length, sym, ap, ◌∙◌, arith}
-use Rattle.std.proofs.Math.Nat.{add-mul, mul_assoc, mul_comm, mod-eq_of_lt}
+use Rattle.std.proofs.Math.Nat.{mul_comm, mod-eq_of_lt}
 use Rattle.std.proofs.lemmas.Nat.{pow-add, mod-pow-add, mod_below, mul-add-lt, same_from_place, pow_pos}
 use Rattle.std.specs.Int.{bytes_high_first}
 use Rattle.std.specs.List.{AllByRecursion}
 use Rattle.bit_fields.specs.Bits.{Field, as_number, number_of, field_at}
 use Rattle.apdu_core.specs.Spelling.{AreBytes}
-use Rattle.bit_fields.specs.BytesAsNumbers.{number_of-fits}
+use Rattle.bit_fields.specs.BytesAsNumbers.{joined_step, number_of-fits}
 use Rattle.apdu_core.proofs.ByteLemmas.{bytes_from_number, number_of-bytes}
 
 abbrev pub total_width : List Field → ℕ
@@ -29,13 +29,6 @@ AreIn n (field ∷ more) = (field.number ≡ n / 2 ^ total_width more % 2 ^ fiel
 abbrev pub AreAt : List ℕ → ℕ → List Field → Type 0
 AreAt bytes place [] = Unit {0}
 AreAt bytes place (field ∷ more) = (field.number ≡ field_at bytes place field.width) × AreAt bytes (place + field.width) more
-
-joined_step : (bits p w n q j b c : ℕ) → b ≡ (bits * p + n) * w + j → c ≡ (0 * p + n) * w + j → q ≡ p * w → b ≡ bits * q + c
-joined_step bits p w n q j b c first second product =
-    let split = add-mul (bits * p) n w in
-    let front = mul_assoc bits p w in
-    let whole : bits * q ≡ bits * (p * w) = ap (λ (x : ℕ). bits * x) product in
-    omega arith
 
 pub joined-behind : (fields : List Field) (bits : ℕ) → as_number bits fields ≡ bits * 2 ^ total_width fields + as_number 0 fields
 joined-behind [] bits = omega arith

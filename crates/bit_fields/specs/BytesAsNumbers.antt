@@ -1,10 +1,12 @@
 -- Bytes as one number: what stands before others counts by their length, and the number fits its
 -- bytes.
 use Rattle.std.proofs.Common.{◌≡◌, ℕ, zero, suc, ◌+◌, ◌*◌, ◌^◌, ◌<◌, List, [], ◌∷◌, ◌++◌, length, fold}
-use Rattle.std.proofs.Common.{sym, ap, ◌∙◌, arith}
+use Rattle.std.proofs.Common.{get_or, sym, ap, ◌∙◌, inl, inr, arith}
 use Rattle.std.specs.Int.{byte_at, bytes_high_first}
-use Rattle.std.proofs.Math.Nat.{add-mul, mul_comm}
+use Rattle.std.proofs.Math.Nat.{add-mul, mul_assoc, mul_comm}
 use Rattle.std.proofs.lemmas.Nat.{pow-add, mul-add-lt}
+use Rattle.std.proofs.lemmas.Bool.{cases_lt}
+use Rattle.std.proofs.lemmas.List.{get_or_past}
 use Rattle.std.proofs.lemmas.List.Elements.{All-nil, All-cons, All-head, All-tail}
 use Rattle.bit_fields.specs.Bits.{AreBytes, number_of}
 
@@ -20,20 +22,33 @@ eight_more n =
     let e : 8 * suc n ≡ 8 + 8 * n = omega arith in
     ap (λ (k : ℕ). 2 ^ k) e ∙ pow-add 2 8 (8 * n)
 
-behind_step : (start x p n b c : ℕ) → b ≡ (256 * start + x) * p + n → c ≡ (256 * 0 + x) * p + n
-    → b ≡ start * (256 * p) + c
-behind_step start x p n b c first second =
-    let split = add-mul (256 * start) x p in
-    let front : 256 * start * p ≡ start * (256 * p) = grind arith in
+-- one number more side by side, by what stands before it, its width and what stands behind it
+pub joined_step : (bits p w n q j b c : ℕ) → b ≡ (bits * p + n) * w + j → c ≡ (0 * p + n) * w + j
+    → q ≡ p * w → b ≡ bits * q + c
+joined_step bits p w n q j b c first second product =
+    let split = add-mul (bits * p) n w in
+    let front = mul_assoc bits p w in
+    let whole : bits * q ≡ bits * (p * w) = ap (λ (x : ℕ). bits * x) product in
     omega arith
 
 pub behind_is : (bytes : List ℕ) (start : ℕ)
     → behind start bytes ≡ start * 2 ^ (8 * length bytes) + number_of bytes
 behind_is [] start = omega arith
 behind_is (x ∷ xs) start =
-    behind_step start x (2 ^ (8 * length xs)) (number_of xs) (behind (256 * start + x) xs)
-    (behind (256 * 0 + x) xs) (behind_is xs (256 * start + x)) (behind_is xs (256 * 0 + x))
-    ∙ ap (λ (p : ℕ). start * p + behind (256 * 0 + x) xs) (sym (eight_more (length xs)))
+    let low = 2 ^ (8 * length xs) in
+    let turned : (n : ℕ) → (256 * n + x) * low + number_of xs ≡ (n * 256 + x) * low + number_of xs
+        = λ n. ap (λ m. (m + x) * low + number_of xs) (mul_comm 256 n) in
+    joined_step start 256 low x (2 ^ (8 * suc (length xs))) (number_of xs)
+    (behind (256 * start + x) xs) (behind (256 * 0 + x) xs)
+    (behind_is xs (256 * start + x) ∙ turned start) (behind_is xs (256 * 0 + x) ∙ turned 0)
+    (eight_more (length xs))
+
+-- each number of a list of bytes is one, by its place
+pub AreBytes-at : (bytes : List ℕ) → AreBytes bytes → (place : ℕ) → get_or bytes place 0 < 256
+AreBytes-at bytes are place = elim (cases_lt place (length bytes)) [
+  | inl inside ↦ are place 0 inside
+  | inr past ↦ let none = get_or_past bytes place 0 past in omega (arith, none)
+]
 
 pub number_of-cons : (x : ℕ) (xs : List ℕ)
     → number_of (x ∷ xs) ≡ x * 2 ^ (8 * length xs) + number_of xs

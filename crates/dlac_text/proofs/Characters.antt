@@ -1,5 +1,5 @@
 -- Texts of the alphabet: their first character outside it, and that their characters are their bytes.
-use Rattle.std.proofs.Common.{ap, ◌≡◌, ℕ, ◌<◌, ◌≤◌, Bool, true, false, not, cond, ltb, Some, None, List, length, get_or, refl, sym, subst, ◌∙◌, arith}
+use Rattle.std.proofs.Common.{ap, ◌≡◌, ℕ, ◌<◌, ◌≤◌, Bool, true, false, not, ltb, Some, None, List, length, get_or, sym, subst, ◌∙◌, arith}
 use Rattle.std.proofs.lemmas.Bool.{not-false, not-true}
 use Rattle.std.proofs.lemmas.Bool.Decides.{nat_tests}
 use Rattle.std.proofs.lemmas.List.Folds.{list_all_at}
@@ -10,19 +10,16 @@ use Rattle.std.proofs.lemmas.Str.Ascii.{IsAscii-from_all}
 use Rattle.std.proofs.lemmas.List.Elements.{All-weaker}
 use Rattle.std.specs.List.{list_all, position_or_len}
 use Rattle.std.specs.Str.{chars, IsUtf8, IsAscii}
+use Rattle.list_members.specs.Tests.{none_past_test}
 use Rattle.dlac_text.specs.Alphabet.{is_in_alphabet, IsDlac}
 use Rattle.dlac_text.specs.Refusal.{bad_character, too_long, first_bad, first_cause, longest_text, text_refusal}
 
 abbrev is_bad : ℕ → Bool
 is_bad character = not (is_in_alphabet character)
 
-none_by_test : (b : Bool) (n : ℕ) → cond b (Some n) None ≡ None → b ≡ false
-none_by_test true n h = cc
-none_by_test false n h = refl
-
 pub first_bad-None : (text : List ℕ) → first_bad text ≡ None → IsDlac text
 first_bad-None text h =
-    let none : ltb (position_or_len is_bad text) (length text) ≡ false = none_by_test _ (position_or_len is_bad text) h in
+    let none : ltb (position_or_len is_bad text) (length text) ≡ false = (none_past_test _ (position_or_len is_bad text) None h).0 in
     let past : length text ≤ position_or_len is_bad text = grind (arith, nat_tests) in
     list_all-from_AllPass is_in_alphabet text
     (λ k d l. not-false (is_in_alphabet (get_or text k d)) (fails_before_first is_bad text k d (omega arith)))

@@ -1,6 +1,7 @@
 -- What the first elements of a list are, and what is behind them.
-use Rattle.std.proofs.Common.{Bool, true, false, ◌&&◌, IsTrue, ◌≡◌, ℕ, ◌-◌, ◌≤◌, List, [], ◌∷◌, ◌++◌, length, get_or, take, drop, map, arith, sym, ap, ◌∙◌, subst, append_assoc}
+use Rattle.std.proofs.Common.{Bool, true, false, ◌&&◌, IsTrue, ◌≡◌, ℕ, ◌-◌, ◌≤◌, List, [], ◌∷◌, ◌++◌, length, get_or, take, drop, map, arith, sym, ap, ◌∙◌, subst}
 use Rattle.std.proofs.lemmas.List.{take_all}
+use Rattle.list_members.specs.Places.{append_on}
 use Rattle.dlac_text.specs.Alphabet.{IsDlac, code_of}
 use Rattle.dlac_text.specs.SixBits.{packed_bytes}
 
@@ -43,14 +44,11 @@ IsDlac-behind_four (a ∷ b ∷ c ∷ d ∷ more) l h =
     let third = IsDlac-tail b (c ∷ d ∷ more) (IsDlac-tail a (b ∷ c ∷ d ∷ more) h) in
     subst IsDlac (sym cut) (IsDlac-tail d more (IsDlac-tail c (d ∷ more) third))
 
--- one more group, by what it adds to the bytes or codes so far
-join_step :
-    (all so_far rest front more group new : List ℕ) → all ≡ so_far ++ rest → rest ≡ front ++ more → group ≡ front → new ≡ so_far ++ group → all ≡ new ++ more
-join_step all so_far rest front more group new e f g h =
-    e ∙ ap (λ t. so_far ++ t) f ∙ sym (append_assoc so_far front more) ∙ ap (λ t. t ++ more) (ap (λ t. so_far ++ t) (sym g) ∙ sym h)
-
 -- four more characters, and their three bytes
 pub packed_step :
     (all so_far xs group new : List ℕ) → 4 ≤ length xs → all ≡ so_far ++ packed_bytes (map code_of xs ++ 0 ∷ []) → group ≡ packed_bytes (code_of (get_or xs 0 0) ∷ code_of (get_or xs 1 0) ∷ code_of (get_or xs 2 0) ∷ code_of (get_or xs 3 0) ∷ []) → new ≡ so_far ++ group → all ≡ new ++ packed_bytes (map code_of (behind 4 xs) ++ 0 ∷ [])
 packed_step all so_far xs group new l e g h =
-    join_step all so_far _ _ _ group new e (ap (λ ys. packed_bytes (map code_of ys ++ 0 ∷ [])) (first_four xs l)) g h
+    let cut = ap (λ ys. packed_bytes (map code_of ys ++ 0 ∷ [])) (first_four xs l) in
+    let more = packed_bytes (map code_of (behind 4 xs) ++ 0 ∷ []) in
+    append_on so_far group more all new
+    (e ∙ ap (λ bytes. so_far ++ bytes) (cut ∙ ap (λ bytes. bytes ++ more) (sym g))) h

@@ -9,6 +9,7 @@ use Rattle.bit_fields.specs.Bits.{number_of, field_at}
 use Rattle.bit_fields.specs.BytesAsNumbers.{IsByte, behind, behind_is, number_of-fits}
 use Rattle.dlac_text.specs.SixBits.{packed_bytes, six_bit_groups}
 use Rattle.dlac_text.specs.SixBitFields.{AreFields, AreRead, AreWritten}
+use Rattle.dlac_text.specs.GroupCount.{length-six_bit_groups}
 use Rattle.dlac_text.proofs.RoundTrip.{groups_of_packed, length-packed_bytes, packed_fits}
 use Rattle.dlac_text.proofs.SixBitsLemmas.{IsSixBits}
 
@@ -46,12 +47,6 @@ in_back n d e m =
 rest_in_back : (n d e m : ℕ) → (n * 2 ^ (d + e) + m) % 2 ^ e ≡ m % 2 ^ e
 rest_in_back n d e m =
     ap (λ (x : ℕ). (x + m) % 2 ^ e) (multiple n d e) ∙ mul-add-mod_self_right (n * 2 ^ d) (2 ^ e) m
-
-size_is : (bytes : List ℕ) → length (six_bit_groups bytes) ≡ 8 * length bytes / 6
-size_is [] = refl
-size_is (x ∷ []) = refl
-size_is (x ∷ y ∷ []) = refl
-size_is (x ∷ y ∷ z ∷ more) = let rest = size_is more in omega arith
 
 -- the field at a place of the first three bytes
 front_field :
@@ -113,7 +108,7 @@ fields_are (x ∷ y ∷ z ∷ more) h (suc (suc (suc zero))) low =
     let group : z % 64 ≡ three x y z / 2 ^ 0 % 64 = omega arith in
     group ∙ sym (front_field x y z more 18 0 h.1.1.1 (omega arith))
 fields_are (x ∷ y ∷ z ∷ more) h (suc (suc (suc (suc k)))) low =
-    let size = size_is more in
+    let size = length-six_bit_groups more in
     let inside : k < length (six_bit_groups more) = omega arith in
     let within : 6 * k + 6 ≤ 8 * length more = omega arith in
     let place : 6 * suc (suc (suc (suc k))) ≡ 24 + 6 * k = omega arith in
@@ -157,7 +152,7 @@ filled (a ∷ b ∷ c ∷ d ∷ more) h =
     ∙ filled more h.1.1.1.1
 
 pub groups_are_read : (bytes : List ℕ) → All IsByte bytes → AreRead bytes (six_bit_groups bytes)
-groups_are_read bytes h = record { fields = fields_are bytes (recursion_from_All IsByte bytes h); size = size_is bytes }
+groups_are_read bytes h = record { fields = fields_are bytes (recursion_from_All IsByte bytes h); size = length-six_bit_groups bytes }
 
 pub packed_are_written : (codes : List ℕ) → All IsSixBits codes → AreWritten codes (packed_bytes codes)
 packed_are_written codes h =

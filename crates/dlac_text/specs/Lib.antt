@@ -1,5 +1,6 @@
 pub mod Alphabet
 pub mod SixBits
+pub mod GroupCount
 pub mod SixBitFields
 pub mod Payload
 pub mod Pieces

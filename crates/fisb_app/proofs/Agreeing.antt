@@ -1,5 +1,6 @@
 -- Two commands that differ in how pictures are told alone: what they ask is the same, where what is known of the lines acted on makes the pictures the same.
-use Rattle.std.proofs.Common.{◌≡◌, ℕ, ◌+◌, Bool, true, false, nat_lt, if◌then◌else◌, List, [], ◌∷◌, ◌++◌, length, map, take, Option, Some, None, Result, Ok, Err, refl, sym, ap, subst, ◌∙◌}
+use Rattle.std.proofs.Common.{◌≡◌, ℕ, ◌+◌, Bool, nat_lt, if◌then◌else◌, List, [], ◌∷◌, ◌++◌, length, map, take, Option, Some, None, Result, Ok, Err, refl, sym, ap, subst, ◌∙◌}
+use Rattle.list_members.specs.Tests.{ok_past_test}
 use Rattle.picture_core.specs.Views.{shown_value}
 use Rattle.life_table.specs.LifeTable.{LifeTable, default_table}
 use Rattle.life_table.specs.TableIn.{table_in}
@@ -79,15 +80,11 @@ sound-formed party one other known keeps bytes table u past raw said (Some line)
     subst (known table) (sym (lines-more raw past line is))
     (keeps.more table (lines_of past) line (length raw) u.rules (u.ranges raw line is) (judged-none _ said _ e) s)
 
-short-read : (told : Result (List ℕ) Reason) (said : List ℕ) (long : Bool) → (if long then Err LineLong else told) ≡ Ok said → told ≡ Ok said
-short-read told said true e = cc
-short-read told said false e = e
-
 sound-read : (party : Party) (one other : Shows) (known : LifeTable → List Line → Type 0) → KeepsPictures party one other known → (bytes : List ℕ) (table : LifeTable) → IsUnder bytes table → (past : List (List ℕ)) (raw said : List ℕ) → known table (lines_of past)
     → reading (answer party one bytes) past raw ≡ Ok said → known table (lines_of (raw ∷ past))
 sound-read party one other known keeps bytes table u past raw said s e =
     sound-formed party one other known keeps bytes table u past raw said (line_of raw) s refl
-    (sym (answer-formed party one bytes past raw table (line_of raw) u.opened refl) ∙ short-read _ said (nat_lt line_limit (length raw)) e)
+    (sym (answer-formed party one bytes past raw table (line_of raw) u.opened refl) ∙ (ok_past_test (nat_lt line_limit (length raw)) LineLong _ said e).1)
 
 fault-with-same : (number start : ℕ) (read : Result (List ℕ) Reason) (one other : Option Fault) → ((said : List ℕ) → read ≡ Ok said → one ≡ other)
     → fault_with number start read one ≡ fault_with number start read other

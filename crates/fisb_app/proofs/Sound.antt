@@ -1,12 +1,12 @@
 -- What is known of the lines that a link acted on: a broadcast, and hearings of it in time, which are what was received.
-use Rattle.std.proofs.Common.{◌≡◌, ℕ, ◌+◌, ◌<◌, ◌≤◌, nat_lt, Bool, true, false, if◌then◌else◌, All, List, [], ◌∷◌, length, Option, Some, None, option_map, refl, sym, ap, ◌∙◌, arith, slice_get, slice_index, inl, inr}
+use Rattle.std.proofs.Common.{◌≡◌, ℕ, ◌+◌, ◌<◌, ◌≤◌, nat_lt, Bool, true, false, if◌then◌else◌, List, [], ◌∷◌, Option, Some, None, option_map, refl, sym, ap, ◌∙◌, arith, slice_get}
 use Rattle.std.specs.Option.{option_or, option_and_then}
 use Rattle.std.specs.List.{cons_option}
-use Rattle.std.proofs.lemmas.Bool.{cases_Bool, and_parts}
+use Rattle.std.proofs.lemmas.Bool.{and_parts}
 use Rattle.std.proofs.lemmas.Bool.Decides.{nat_tests}
-use Rattle.std.proofs.lemmas.List.{get_or_past}
 use Rattle.list_members.specs.ListMembers.{got_in}
 use Rattle.list_members.specs.Tests.{none_mapped}
+use Rattle.bit_fields.specs.BytesAsNumbers.{AreBytes-at}
 use Rattle.uplink_frame.specs.Station.{FitsStation}
 use Rattle.uplink_weave.specs.Laws.{NearFrameGivesPayload}
 use Rattle.uplink_weave.specs.Functions.{payload_in, lost_block_in}
@@ -68,19 +68,13 @@ pub behind-past : (moment own : ℕ) (last : Option ℕ) → own ≤ moment → 
 behind-past moment own None after is = tt
 behind-past moment own (Some kept) after is = omega (arith, after, is)
 
-byte-at : (bytes : List ℕ) → All (λ byte. byte < 256) bytes → (i : ℕ) → slice_index bytes i < 256
-byte-at bytes all i = elim (cases_Bool (nat_lt i (length bytes))) [
-  | inl within ↦ all i 0 (grind (arith, nat_tests))
-  | inr past ↦ (let is : slice_index bytes i ≡ 0 = get_or_past bytes i 0 (grind (arith, nat_tests)) in omega (arith, is))
-]
-
 -- a frame that was sent is received as it was sent, where each of its blocks is near
 pub received-near : Laws → (table : LifeTable) (sent : List StationEvent) (past : List Reception) (moment place : ℕ) (air : List ℕ) (frame : Frame) → IsTable table
     → IsBroadcast table sent → receiver_refusal past moment ≡ None → slice_get (frames table sent) place ≡ Some frame → has_near_blocks air (air_of frame) ≡ true
     → reception_from past moment air ≡ Some (record { moment = moment; payload = frame_payload frame })
 received-near laws table sent past moment place air frame rules sound none found near =
     let is = laws.frames_back table sent frame rules sound (got_in frame (frames table sent) place found) in
-    let woven = laws.near (frame_payload frame) air is.size (byte-at _ is.bytes) (near-blocks air (air_of frame) near) in
+    let woven = laws.near (frame_payload frame) air is.size (AreBytes-at _ is.bytes) (near-blocks air (air_of frame) near) in
     let valid : is_valid (frame_payload frame) ≡ true = ap (λ h. h.app_valid) is.header_back in
     let timely = none_mapped Clock (last_above (clock_of past) moment) none in
     let first : refusal_of_air past moment air ≡ option_or (option_map lost (lost_block_in air)) (option_and_then payload_refusal (payload_in air)) =

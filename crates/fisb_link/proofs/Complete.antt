@@ -2,7 +2,7 @@
 -- the link those of items.
 use Rattle.std.proofs.Common.{◌≡◌, ℕ, zero, suc, ◌<◌, ◌≤◌, Bool, true, false, List, [], ◌∷◌, ◌++◌, length, map, filter, flat_map, Some, slice_get, sym, ap, subst, ◌∙◌, inl, inr, arith}
 use Rattle.std.specs.List.{list_all, range_with_len}
-use Rattle.std.proofs.lemmas.Bool.{cases_Bool, cond-false}
+use Rattle.std.proofs.lemmas.Bool.{cases_Bool}
 use Rattle.std.proofs.lemmas.List.{map-append}
 use Rattle.std.proofs.lemmas.List.Concat.{flat_map-append}
 use Rattle.life_table.specs.LifeTable.{LifeTable}
@@ -11,7 +11,8 @@ use Rattle.list_members.specs.Membership.{IsIn}
 use Rattle.list_members.specs.Members.{IsIn-either, IsIn-from_filter}
 use Rattle.list_members.specs.ListMembers.{in_map, in_flat_map, flat_map_has}
 use Rattle.picture_core.specs.Entry.{Entry}
-use Rattle.segment_core.specs.File.{File, is_segmented, pieces, segments_needed, segment_limit, parts_of}
+use Rattle.segment_core.specs.File.{File, is_segmented, parts_of}
+use Rattle.segment_core.specs.OnePart.{one-part}
 use Rattle.segment_core.specs.Arrival.{Arrival, Whole, whole_payloads, completed_after}
 use Rattle.segment_core.specs.Joining.{segment, arrival_of, whole_of, AreSent, HasAll}
 use Rattle.segment_core.specs.Joining as joining
@@ -60,12 +61,6 @@ contents-grow table all sent h past setting are =
 
 -- a file is whole with what came now, where each segment has arrived and not each had before,
 -- whether it is cut or not
-one-part : (file : File) → is_segmented file.form file.payload ≡ false → length (parts_of file) ≡ 1
-one-part file uncut =
-    let many = pieces (segments_needed file.form file.payload)
-    (segment_limit file.form) file.payload in
-    ap length (cond-false (is_segmented file.form file.payload) many (file.payload ∷ []) uncut)
-
 file-completes : FileLayers → (before now : List joining.FileSegment) (station : StationId)
     (file : File) → AreSent (before ++ now)
     → 1 ≤ length (parts_of file) → HasAll (before ++ now) station file
@@ -76,7 +71,7 @@ file-completes layers before now station file sent some has not_before =
       | inl t ↦ layers.cut before now station file sent t has not_before
       | inr f ↦ elim (IsIn-either (segment station file 1) before now (has 1 (omega arith) some)) [
         | inl old ↦
-            let count = one-part file f in
+            let count = one-part file.form file.payload f in
             absurd (not_before (λ number least most.
             let same : 1 ≡ number = omega arith in
             subst (λ n. IsIn (segment station file n) before) same old))

@@ -17,7 +17,7 @@ use Rattle.apdu_core.specs.Spelling.{FitsSegmentation}
 use Rattle.uplink_frame.specs.declared.station.StationId.{StationId}
 use Rattle.uplink_frame.specs.UplinkFrame.{fisb_frame}
 use Rattle.list_members.specs.Membership.{IsIn}
-use Rattle.segment_core.specs.File.{File, pieces, parts, parts_of, part_of, numbers_of, segment_limit, segments_needed, segmentation_of, apdu_of_segment}
+use Rattle.segment_core.specs.File.{parts, parts_of, segmentation_of, apdu_of_segment}
 use Rattle.segment_core.specs.File as files
 use Rattle.segment_core.specs.Arrival.{Arrival}
 use Rattle.segment_core.specs.Joining.{arrival_of, segment}

@@ -10,7 +10,7 @@ use Rattle.list_members.specs.ListMembers.{in_map, map_has, any_in, in_any}
 use Rattle.picture_core.specs.Key.{same_key}
 use Rattle.picture_core.specs.Entry.{Entry}
 use Rattle.picture_core.specs.Contents.{payload_entries}
-use Rattle.segment_core.specs.File.{File, parts_of}
+use Rattle.segment_core.specs.File.{File}
 use Rattle.segment_core.specs.File as files
 use Rattle.segment_core.specs.Joining.{segment, IsSegment, AreApart, AreSent, HasAll}
 use Rattle.segment_core.specs.Joining as joining

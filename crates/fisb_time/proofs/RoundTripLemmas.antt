@@ -1,10 +1,9 @@
 -- Where fields are received soon enough after their moment, they name it.
 use Rattle.std.proofs.Common.{◌≡◌, ℕ, ◌+◌, ◌-◌, ◌/◌, ◌%◌, ◌<◌, ◌≤◌, IsTrue, nat_lt, inl, inr, refl, ap, arith, pos}
 use Rattle.std.proofs.lemmas.Bool.{eqb-true, cases_Bool, cases_order}
-use Rattle.std.proofs.lemmas.Bool.Decides.{nat_tests}
 use Rattle.jiff_core.specs.Calendar.{IsCivilDate, day_count}
 use Rattle.jiff_core.proofs.SignedLemmas.{signed_arith}
-use Rattle.jiff_core.proofs.MarchLemmas.{leap_day, days_in_year-leap_day}
+use Rattle.jiff_core.proofs.MarchLemmas.{days_in_year-leap_day}
 use Rattle.jiff_core.proofs.CalendarLemmas.{day_count-day_of_year, day_count-later_year, days_of_months_table}
 use Rattle.fisb_time.specs.declared.form.TimeForm.{TimeForm}
 use Rattle.fisb_time.specs.declared.form.TimeForm.TheVariants.{Minute, Second, DayMinute, DaySecond}

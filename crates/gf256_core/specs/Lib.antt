@@ -1,4 +1,5 @@
 pub mod Field
 pub mod Tables
+pub mod Rows
 pub mod UatLaws
 pub mod Laws

@@ -1,5 +1,5 @@
 -- What is kept of the blocks of some numbers in an area, number by number.
-use Rattle.std.proofs.Common.{◌≡◌, ℕ, zero, suc, ◌+◌, ◌<◌, Bool, true, false, ◌||◌, nat_lt, if◌then◌else◌, List, [], ◌∷◌, ◌++◌, length, get_or, drop, map, Option, Some, None, refl, sym, ap, subst, ◌∙◌, inl, inr, arith}
+use Rattle.std.proofs.Common.{◌≡◌, ℕ, suc, ◌+◌, ◌<◌, Bool, true, false, ◌||◌, nat_lt, if◌then◌else◌, List, [], ◌∷◌, ◌++◌, length, get_or, drop, map, Option, Some, None, refl, sym, ap, subst, ◌∙◌, inl, inr, arith}
 use Rattle.std.specs.List.{list_any}
 use Rattle.std.specs.Ordering.{is_eq}
 use Rattle.std.proofs.lemmas.Bool.{cases_Bool, or_from}
@@ -9,7 +9,8 @@ use Rattle.list_members.specs.Membership.{IsIn}
 use Rattle.list_members.specs.Members.{IsIn-either}
 use Rattle.std.proofs.Math.Bool.{or-false}
 use Rattle.std.proofs.Math.Seq.{drop-cons}
-use Rattle.list_members.specs.ListMembers.{in_one, map_has}
+use Rattle.list_members.specs.ListMembers.{got_in, in_one, map_has}
+use Rattle.std.proofs.lemmas.Option.{slice_get-get_or}
 use Rattle.radar_core.specs.declared.key.BlockKey.{BlockKey}
 use Rattle.radar_core.specs.Keys.{block_key_cmp}
 use Rattle.picture_core.specs.Key.{Key, radar_block, text_report, same_key}
@@ -101,14 +102,8 @@ pub versions_of_area : (newest : Newest) (area : Area) (numbers : List ℕ)
 versions_of_area newest area [] = refl
 versions_of_area newest area (n ∷ more) = ap (λ l. latest_version (latest_block newest.blocks (key_in_area area n)) ∷ l) (versions_of_area newest area more)
 
--- the number at a place
-at_in : (xs : List ℕ) (k : ℕ) → k < length xs → IsIn (get_or xs k 0) xs
-at_in [] k below = absurd (omega arith)
-at_in (x ∷ xs) zero below = inl refl
-at_in (x ∷ xs) (suc k) below = inr (at_in xs k (omega arith))
-
 pub key_at_place : (area : Area) (xs : List ℕ) (k : ℕ) → k < length xs → IsIn (key_in_area area (get_or xs k 0)) (area_keys area xs)
-key_at_place area xs k below = map_has (key_in_area area) (get_or xs k 0) xs (at_in xs k below)
+key_at_place area xs k below = map_has (key_in_area area) (get_or xs k 0) xs (got_in _ xs k (slice_get-get_or xs k 0 below))
 
 pub behind_place : (area : Area) (xs : List ℕ) (k : ℕ) → k < length xs
     → area_keys area (drop k xs) ≡ key_in_area area (get_or xs k 0) ∷ area_keys area (drop (k + 1) xs)

@@ -15,6 +15,7 @@ use Rattle.dlac_text.specs.Refusal.{TextRefusal, IsSendable, text_refusal}
 use Rattle.life_table.specs.LifeTable.{LifeTable, TextRow, text_row, longest, greatest_of}
 use Rattle.life_table.specs.Rules.{IsTable}
 use Rattle.text_reports.specs.TextKey.{TextKey, KeyFault, few_words, text_key}
+use Rattle.list_members.specs.Tests.{none_past_test}
 use Rattle.list_members.specs.Membership.{IsIn}
 use Rattle.list_members.specs.Members.{IsIn-filter}
 use Rattle.list_members.specs.ListMembers.{map_has, in_one}
@@ -58,10 +59,6 @@ text_weather key version row chars = record {
 }
 
 -- what is not refused passed each test
-pub test-passed : (refusal : GiveRefusal) (test : Bool) (later : Option GiveRefusal) → cond test (Some refusal) later ≡ None → (test ≡ false) × (later ≡ None)
-test-passed refusal true later e = absurd (cc)
-test-passed refusal false later e = (refl, e)
-
 by_text : (cause : Option TextRefusal) (later : Option GiveRefusal) → text_fault_refusal cause later ≡ None → (cause ≡ None) × (later ≡ None)
 by_text None later e = (refl, e)
 by_text (Some cause) later e = absurd (cc)
@@ -86,7 +83,7 @@ by_age : (version : ℕ) (kept : List (Option ℕ)) (later : Option GiveRefusal)
 by_age version [] later e = (tt, e)
 by_age version (None ∷ more) later e = let rest = by_age version more later e in ((tt, rest.0), rest.1)
 by_age version (Some kept ∷ more) later e =
-    let split = test-passed (not_newer kept) (nat_le version kept) (age_refusal version more later) e in
+    let split = none_past_test (nat_le version kept) (not_newer kept) (age_refusal version more later) e in
     let rest = by_age version more later split.1 in
     ((leb-false version kept split.0, rest.0), rest.1)
 
@@ -100,9 +97,9 @@ pub record IsClear (moment : ℕ) (t : Timing) (kept : List (Option ℕ)) : Type
 pub by_version : (moment : ℕ) (t : Timing) (kept : List (Option ℕ)) (later : Option GiveRefusal) → version_refusal moment t kept later ≡ None
     → IsClear moment t kept × (later ≡ None)
 by_version moment t kept later e =
-    let by_form = test-passed coarse (not (shows t.form t.version)) _ e in
-    let by_lead = test-passed ahead (nat_lt (moment + 60) t.version) _ by_form.1 in
-    let by_life = test-passed expired (nat_le (t.version + t.life) moment) _ by_lead.1 in
+    let by_form = none_past_test (not (shows t.form t.version)) coarse _ e in
+    let by_lead = none_past_test (nat_lt (moment + 60) t.version) ahead _ by_form.1 in
+    let by_life = none_past_test (nat_le (t.version + t.life) moment) expired _ by_lead.1 in
     let age = by_age t.version kept later by_life.1 in (
       record {
         shown = not-false (shows t.form t.version) by_form.0;

@@ -21,6 +21,7 @@ use Rattle.radar_core.specs.Blanks.{blank_record, key_beside}
 use Rattle.radar_core.specs.Groups.{blank_groups}
 use Rattle.radar_core.specs.Radar.{Block, radar_blocks, blank_blocks}
 use Rattle.radar_core.specs.Laws.{RunRecordsReadBack, BlankRecordsReadBack, GroupsAreRecords, IsOneRecord}
+use Rattle.list_members.specs.Tests.{none_past_test}
 use Rattle.list_members.specs.Membership.{IsIn}
 use Rattle.list_members.specs.Members.{IsIn-before, IsIn-after, IsIn-either}
 use Rattle.list_members.specs.ListMembers.{in_map, map_has, in_one, any_in, All-members}
@@ -38,7 +39,7 @@ use Rattle.ground_core.specs.Airing.{has_key}
 use Rattle.ground_core.specs.Broadcast.{IsAccepted}
 use Rattle.ground_core.specs.Refusal.{bad_block, given_versions, timing, radar_refusal, is_block, are_blanks, rise, most_blanks, give_refusal}
 use Rattle.ground_core.specs.Sound.{IsSound, IsGiven, AreGiven}
-use Rattle.ground_core.proofs.Given.{IsAbove, IsClear, by_version, test-passed, given-below}
+use Rattle.ground_core.proofs.Given.{IsAbove, IsClear, by_version, given-below}
 use Rattle.ground_core.proofs.Rising.{Rises, rises, increasing, rises_behind, below_behind}
 
 -- what the crates below promise of radar
@@ -156,7 +157,7 @@ by_radar : (moment version : ℕ) (named : Bool) (kept : List (Option ℕ)) (fou
     → IsPassed moment version named kept found
 by_radar moment version named kept None e = absurd (cc)
 by_radar moment version named kept (Some row) e =
-    let test = test-passed bad_block (not named) _ e in
+    let test = none_past_test (not named) bad_block _ e in
     record {
       row = row;
       row_is = refl;

@@ -1,12 +1,13 @@
 -- The items of a history: each is of sound weather, and told by its serial, by one of its keys and its version, and by its file number.
-use Rattle.std.proofs.Common.{◌≡◌, ℕ, zero, suc, ◌+◌, ◌<◌, ◌⊎◌, Bool, true, false, not, ◌&&◌, ◌==◌, List, [], ◌∷◌, ◌++◌, length, filter, find, Some, None, unwrap_or, refl, sym, ap, subst, ◌∙◌, inl, inr, arith}
+use Rattle.std.proofs.Common.{◌≡◌, ℕ, ◌+◌, ◌<◌, ◌⊎◌, true, false, not, ◌&&◌, ◌==◌, List, [], ◌∷◌, ◌++◌, length, filter, Some, None, unwrap_or, refl, sym, ap, subst, ◌∙◌, inl, inr, arith}
 use Rattle.std.specs.Bool.{Decides}
-use Rattle.std.specs.List.{list_any, range_with_len}
-use Rattle.std.proofs.lemmas.Bool.{cases_Bool, cond-true, cond-false, and_from, lt-ltb, eq-eqb, not-true}
+use Rattle.std.specs.List.{list_any}
+use Rattle.std.proofs.lemmas.Bool.{cond-true, and_from, lt-ltb, eq-eqb, not-true}
 use Rattle.std.proofs.lemmas.List.{length-append}
 use Rattle.life_table.specs.LifeTable.{LifeTable, longest}
 use Rattle.uplink_frame.specs.declared.station.StationId.{StationId}
 use Rattle.list_members.specs.Membership.{IsIn}
+use Rattle.list_members.specs.FirstInRange.{first_from}
 use Rattle.list_members.specs.Members.{IsIn-filter, IsIn-either}
 use Rattle.list_members.specs.ListMembers.{in_any, any_in, in_one}
 use Rattle.picture_core.specs.Key.{Key, same_key}
@@ -21,25 +22,12 @@ use Rattle.ground_core.proofs.Induction.{by_items}
 abbrev pub KeysAreTold : Type 0
 KeysAreTold = (a b : Key) → Decides (same_key a b) (a ≡ b)
 
--- what is found in a range passes the test, and is in the range
-found-range : (p : ℕ → Bool) (a n k : ℕ) → find p (range_with_len a n) ≡ Some k → (p k ≡ true) × (k < a + n)
-found-range p a zero k e = absurd (cc)
-found-range p a (suc n) k e = elim (cases_Bool (p a)) [
-  | inl t ↦
-      let same : a ≡ k = (let s : Some a ≡ Some k = sym (cond-true (p a) (Some a) (find p (range_with_len (a + 1) n)) t) ∙ e in cc) in
-      (subst (λ x. p x ≡ true) same t, omega arith)
-  | inr f ↦
-      let rest = found-range p (a + 1) n k (sym (cond-false (p a) (Some a) (find p (range_with_len (a + 1) n)) f) ∙ e) in
-      let below = rest.1 in
-      (rest.0, omega arith)
-]
-
 pub free_is : (rivals : List Item) (n : ℕ) → free_number rivals ≡ Some n
     → (list_any (λ other. has_number n other.number) rivals ≡ false) × (n < file_numbers)
 unfolding free_number
 free_is rivals n e =
-    let found = found-range (λ k. not (list_any (λ other. has_number k other.number) rivals)) 0 file_numbers n e in
-    (not-true (list_any (λ other. has_number n other.number) rivals) found.0, found.1)
+    let is = first_from (λ k. not (list_any (λ other. has_number k other.number) rivals)) 0 file_numbers n e in
+    (not-true (list_any (λ other. has_number n other.number) rivals) is.passes, is.high)
 
 -- the items so far, with serials below their number
 record AreSo (table : LifeTable) (station : StationId) (all : List Item) : Type 0 where

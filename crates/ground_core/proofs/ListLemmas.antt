@@ -18,9 +18,6 @@ filter_both p q (x ∷ xs) = elim (cases_Bool (p x)) [
   | inr f ↦ rw f (filter_both p q xs)
 ]
 
-pub AllByRecursion-all : {X : Type 0} (P : X → Type 0) → ((x : X) → P x) → (xs : List X) → AllByRecursion P xs
-AllByRecursion-all P f xs = recursion_from_All P xs (All-members P xs (λ x h. f x))
-
 pub filter_swap : {X : Type 0} (p q : X → Bool) (xs : List X) → filter p (filter q xs) ≡ filter q (filter p xs)
 filter_swap p q xs = sym (filter_both q p xs) ∙ filter_agree (λ x. q x && p x) (λ x. p x && q x) (λ x. and_comm (q x) (p x)) xs ∙ filter_both p q xs
 
@@ -46,15 +43,4 @@ list_any-weaker p q f [] h = h
 list_any-weaker p q f (x ∷ xs) h = elim (cases_Bool (p x)) [
   | inl t ↦ rw (f x t) refl
   | inr g ↦ (let rest : list_any q xs ≡ true = list_any-weaker p q f xs (ap (λ b. b || list_any p xs) (sym g) ∙ h) in or_right (q x) (list_any q xs) rest)
-]
-
--- a filter that passes less, behind one that passes more
-pub filter_less : {X : Type 0} (p q : X → Bool) (xs : List X) → AllByRecursion (λ x. q x ≡ true → p x ≡ true) xs → filter q (filter p xs) ≡ filter q xs
-filter_less p q [] h = refl
-filter_less p q (x ∷ xs) h = elim (cases_Bool (p x)) [
-  | inl t ↦ rw t (ap (λ l. cond (q x) (x ∷ l) l) (filter_less p q xs h.1))
-  | inr f ↦ elim (cases_Bool (q x)) [
-    | inl u ↦ absurd (cc (h.0 u))
-    | inr g ↦ rw (f, g) (filter_less p q xs h.1)
-  ]
 ]

@@ -18,7 +18,8 @@ use Rattle.ground_core.specs.Airing.{log, airing, waiting_segments, longest_fitt
 use Rattle.ground_core.specs.Piece.{Piece, Latest, piece_of, lives_as, live_by, fitting_pieces, left_pieces}
 use Rattle.ground_core.specs.StandsFor.{latest_of, latest_of_item}
 use Rattle.ground_core.proofs.KeyLemmas.{KeyLaws}
-use Rattle.ground_core.proofs.ListLemmas.{AllByRecursion-in, AllByRecursion-all, AllByRecursion-map, filter_less, filter-map, list_any-weaker}
+use Rattle.list_members.specs.Each.{AllByRecursion-all, filter_less}
+use Rattle.ground_core.proofs.ListLemmas.{AllByRecursion-in, AllByRecursion-map, filter-map, list_any-weaker}
 use Rattle.ground_core.proofs.Order.{last_places, touched_segments, stands_in, waiting_is, front-turned, Once, last_places-append, last_places_once}
 use Rattle.ground_core.proofs.Segments.{is_segment_of}
 use Rattle.ground_core.proofs.Serials.{Numbered, Numbered-append, numbered_items, numbered_made, serial_in, IsLogged, segments-logged, logged_more, logged_new, log_given, log_filled, AllByRecursion-last_places, live_same, latest_push}

@@ -1,6 +1,7 @@
 -- The segments of an item are those of its file, and each takes two bytes more than its body.
-use Rattle.std.proofs.Common.{◌≡◌, ℕ, ◌+◌, Bool, true, false, cond, length, Some, None, is_some, refl, sym, ap, subst, ◌∙◌, arith}
+use Rattle.std.proofs.Common.{◌≡◌, ℕ, ◌+◌, length, is_some, sym, ap, subst, ◌∙◌, arith}
 use Rattle.apdu_core.specs.Apdu.{Apdu, apdu_bytes, header_length}
+use Rattle.list_members.specs.Tests.{some_by_test}
 use Rattle.list_members.specs.Membership.{IsIn}
 use Rattle.list_members.specs.ListMembers.{in_map, map_has}
 use Rattle.list_members.specs.Ranges.{in_range, range_has}
@@ -29,13 +30,9 @@ pub segments-of_items : SegmentsAreOfItems
 segments-of_items item s = (is_segment_of item s, stands_in_item item s)
 
 -- only the segments of a payload that is cut say which one they are
-some_of : {A : Type 0} (b : Bool) (x : A) → is_some (cond b (Some x) None) ≡ b
-some_of true x = refl
-some_of false x = refl
-
 pub is_some_segmentation : (f : File) (number : ℕ) → is_some (segmentation_of f number) ≡ is_segmented f.form f.payload
 is_some_segmentation f number =
-    some_of (is_segmented f.form f.payload) (record { file = f.number; count = length (parts_of f); number = number })
+    some_by_test (is_segmented f.form f.payload) (record { file = f.number; count = length (parts_of f); number = number })
 
 abbrev pub SizesOfApdus : Type 0
 SizesOfApdus = (a : Apdu) → length (apdu_bytes a) ≡ header_length a.form (is_some a.segmentation) + length a.payload

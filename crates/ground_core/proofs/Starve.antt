@@ -19,7 +19,7 @@ use Rattle.ground_core.specs.Airing.{log, longest_fitting, is_live}
 use Rattle.ground_core.specs.Broadcast.{IsHistory, IsNotBeforeLast}
 use Rattle.ground_core.specs.Starving.{bytes_of, waiting_after, fills, WaitsStill, AreFrom, NoStarvation}
 use Rattle.ground_core.proofs.KeyLemmas.{KeyLaws}
-use Rattle.ground_core.proofs.ListLemmas.{AllByRecursion-all, filter_less}
+use Rattle.list_members.specs.Each.{AllByRecursion-all, filter_less}
 use Rattle.ground_core.proofs.Order.{last_places, touched_segments, waiting_is}
 use Rattle.ground_core.proofs.Serials.{Numbered, numbered_items, serial_in, IsLogged, segments-logged, logged_more, AllByRecursion-waiting, live_same}
 use Rattle.ground_core.proofs.Segments.{is_segment_of}

@@ -3,7 +3,14 @@ use Rattle.std.proofs.Common.{◌≡◌, Bool, true, false, cond, List, [], ◌�
 use Rattle.std.proofs.Common.{refl, sym, ap, subst, inl, inr}
 use Rattle.std.specs.List.{AllByRecursion}
 use Rattle.std.proofs.lemmas.List.Elements.{All-from_recursion, recursion_from_All, All-weaker}
+use Rattle.std.proofs.lemmas.Bool.{cases_Bool}
 use Rattle.list_members.specs.Membership.{IsIn}
+use Rattle.list_members.specs.ListMembers.{All-members}
+
+-- what holds of each element, whether it stands in the list or not
+pub AllByRecursion-all :
+    {X : Type 0} (P : X → Type 0) → ((x : X) → P x) → (xs : List X) → AllByRecursion P xs
+AllByRecursion-all P f xs = recursion_from_All P xs (All-members P xs (λ x h. f x))
 
 pub AllByRecursion-weaker :
     {X : Type 0} (P Q : X → Type 0) → ((x : X) → P x → Q x) → (xs : List X)
@@ -58,3 +65,16 @@ pub filter_same :
 filter_same p q [] h = refl
 filter_same p q (x ∷ xs) h =
     rw h.0 (ap (λ l. cond (q x) (x ∷ l) l) (filter_same p q xs h.1))
+
+-- a filter that passes less, behind one that passes more
+pub filter_less :
+    {X : Type 0} (p q : X → Bool) (xs : List X) → AllByRecursion (λ x. q x ≡ true → p x ≡ true) xs
+    → filter q (filter p xs) ≡ filter q xs
+filter_less p q [] h = refl
+filter_less p q (x ∷ xs) h = elim (cases_Bool (p x)) [
+  | inl t ↦ rw t (ap (λ l. cond (q x) (x ∷ l) l) (filter_less p q xs h.1))
+  | inr f ↦ elim (cases_Bool (q x)) [
+    | inl u ↦ absurd (cc (h.0 u))
+    | inr g ↦ rw (f, g) (filter_less p q xs h.1)
+  ]
+]

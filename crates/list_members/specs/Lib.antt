@@ -1,5 +1,6 @@
 pub mod Each
 pub mod Finding
+pub mod FirstInRange
 pub mod ListMembers
 pub mod Members
 pub mod Membership

@@ -1,11 +1,13 @@
 -- Numbers of a list by their places, and lists that are written place by place.
 use Rattle.std.proofs.Common.{◌≡◌, ◌≢◌, ℕ, zero, suc, ◌+◌, ◌-◌, ◌<◌, ◌≤◌, List, [], ◌∷◌, length}
-use Rattle.std.proofs.Common.{get_or, set, take, drop}
+use Rattle.std.proofs.Common.{◌++◌, get_or, set, take, drop, map, append_assoc}
 use Rattle.std.proofs.Common.{replicate, refl, sym, ◌∙◌, ap, arith, inl, inr}
-use Rattle.std.proofs.lemmas.Bool.{cases_eq}
+use Rattle.std.specs.List.{range_with_len}
+use Rattle.std.proofs.lemmas.Bool.{cases_eq, cases_lt}
 use Rattle.std.proofs.lemmas.List.{ext_get_or, get_or-set_same, get_or-set_other, get_or-take}
-use Rattle.std.proofs.lemmas.List.{length-take-le}
+use Rattle.std.proofs.lemmas.List.{length-take-le, length-take, get_or_past}
 use Rattle.std.proofs.lemmas.List.{length-drop, take_all}
+use Rattle.std.proofs.lemmas.List.FromFn.{fill_by_all}
 
 pub get_or-zeros : (n k : ℕ) → get_or {A = ℕ} (replicate n 0) k 0 ≡ 0
 get_or-zeros zero k = refl
@@ -69,3 +71,27 @@ same_front n xs ys long long' same =
 pub take-rest : {A : Type 0} (n : ℕ) (xs : List A) → take (length xs - n) (drop n xs) ≡ drop n xs
 take-rest n xs =
     take_all (length xs - n) (drop n xs) (let size = length-drop n xs in omega (arith, size))
+
+-- a front, number by number
+pub take-by_place : (n : ℕ) (xs : List ℕ) → n ≤ length xs
+    → take n xs ≡ map (λ k. get_or xs k 0) (range_with_len 0 n)
+take-by_place n xs long =
+    fill_by_all (λ k. get_or xs k 0) (take n xs) n 0 (length-take-le n xs long)
+    (λ k inside. get_or-take n xs k 0 inside)
+
+-- a front behind which all is 0 has all the numbers
+pub get_or-front :
+    (n : ℕ) (xs : List ℕ) → ((k : ℕ) → n ≤ k → get_or xs k 0 ≡ 0) → (k : ℕ)
+    → get_or (take n xs) k 0 ≡ get_or xs k 0
+get_or-front n xs zeros k = elim (cases_lt k n) [
+  | inl inside ↦ get_or-take n xs k 0 inside
+  | inr behind ↦
+      get_or_past (take n xs) k 0 (let size = length-take n xs in omega (arith, size))
+      ∙ sym (zeros k behind)
+]
+
+-- what is joined, one group on
+pub append_on : {A : Type 0} (done group rest all now : List A) → all ≡ done ++ (group ++ rest)
+    → now ≡ done ++ group → all ≡ now ++ rest
+append_on done group rest all now whole is =
+    whole ∙ sym (append_assoc done group rest) ∙ ap (λ xs. xs ++ rest) (sym is)

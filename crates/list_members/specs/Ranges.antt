@@ -1,7 +1,7 @@
 -- Members of numbers that follow one another, tests of all members of a list, and what is found
 -- among those that pass another test.
 use Rattle.std.proofs.Common.{◌≡◌, ℕ, zero, suc, ◌+◌, ◌<◌, ◌≤◌, Bool, true, false, List, [], ◌∷◌}
-use Rattle.std.proofs.Common.{filter, flat_map, find, map}
+use Rattle.std.proofs.Common.{◌++◌, filter, flat_map, find, map, zero-add}
 use Rattle.std.proofs.Common.{refl, ap, ◌∙◌, inl, inr, arith}
 use Rattle.std.specs.List.{list_all, list_any, range_with_len}
 use Rattle.std.proofs.lemmas.Bool.{cases_Bool, cases_eq, and_parts, and_cases, and_from}
@@ -20,6 +20,18 @@ range_has n a (suc count) least most = elim (cases_eq n a) [
   | inl e ↦ inl e
   | inr other ↦ inr (range_has n (a + 1) count (omega arith) (omega arith))
 ]
+
+-- numbers from one on, cut in two
+pub range_split : (a m k : ℕ)
+    → range_with_len a (m + k) ≡ range_with_len a m ++ range_with_len (a + m) k
+range_split a zero k =
+    ap (λ n. range_with_len a n) (zero-add k) ∙ ap (λ n. range_with_len n k) (omega arith)
+range_split a (suc m) k =
+    let e : suc m + k ≡ suc (m + k) = omega arith in
+    ap (λ n. range_with_len a n) e
+    ∙ ap (λ (b : List ℕ). a ∷ b)
+    (range_split (a + 1) m k
+    ∙ ap (λ n. range_with_len (a + 1) m ++ range_with_len n k) (omega arith))
 
 pub all_in : {A : Type 0} (p : A → Bool) (x : A) (xs : List A) → list_all p xs ≡ true → IsIn x xs
     → p x ≡ true

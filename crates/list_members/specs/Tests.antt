@@ -1,6 +1,6 @@
 -- What tests of an option and of two numbers say, and what nothing adds.
 use Rattle.std.proofs.Common.{◌≡◌, ℕ, ◌+◌, ◌==◌, nat_lt, Bool, true, false, cond, Option, Some}
-use Rattle.std.proofs.Common.{None, is_some, Result, Ok, Err}
+use Rattle.std.proofs.Common.{None, is_some, is_none, Result, Ok, Err}
 use Rattle.std.proofs.Common.{refl, inl, inr, arith}
 use Rattle.std.specs.Option.{option_map, option_or}
 use Rattle.std.specs.Ordering.{is_eq, nat_cmp}
@@ -10,9 +10,20 @@ pub none_from : {A : Type 0} (o : Option A) → is_some o ≡ false → o ≡ No
 none_from None e = refl
 none_from (Some x) e = absurd (cc)
 
+pub none_from_is_none : {A : Type 0} (o : Option A) → is_none o ≡ true → o ≡ None
+none_from_is_none None e = refl
+none_from_is_none (Some x) e = absurd (cc)
+
 pub none_mapped : {A B : Type 0} (f : A → B) (o : Option A) → option_map f o ≡ None → o ≡ None
 none_mapped f None e = refl
 none_mapped f (Some x) e = absurd (cc)
+
+-- what a mapped option was before
+pub mapped_from :
+    {A B : Type 0} (f : A → B) (o : Option A) (y : B) → option_map f o ≡ Some y
+    → (x : A) × (o ≡ Some x) × (f x ≡ y)
+mapped_from f None y e = absurd (cc)
+mapped_from f (Some x) y e = (x, refl, (let same : Some (f x) ≡ Some y = e in cc))
 
 pub or_none : {A : Type 0} (o : Option A) → option_or o None ≡ o
 or_none None = refl
@@ -30,6 +41,17 @@ pub some_past_test : {A : Type 0} (b : Bool) (o : Option A) (x : A) → cond b N
     → (b ≡ false) × (o ≡ Some x)
 some_past_test true o x is = absurd (cc)
 some_past_test false o x is = (refl, is)
+
+-- nothing after a test that gives something: the test was false
+pub none_past_test : {A : Type 0} (b : Bool) (x : A) (o : Option A) → cond b (Some x) o ≡ None
+    → (b ≡ false) × (o ≡ None)
+none_past_test true x o is = absurd (cc)
+none_past_test false x o is = (refl, is)
+
+-- what is there where a test passes
+pub some_by_test : {A : Type 0} (b : Bool) (x : A) → is_some (cond b (Some x) None) ≡ b
+some_by_test true x = refl
+some_by_test false x = refl
 
 pub mapped_some : {A B : Type 0} (f : A → B) (o : Option A) → is_some (option_map f o) ≡ is_some o
 mapped_some f None = refl

@@ -6,7 +6,8 @@ use Rattle.picture_core.specs.Key.{Key}
 use Rattle.picture_core.specs.Kept.{HaveLife}
 
 pub HaveLife-flat_map :
-    {X : Type 0} (life : Key → ℕ) (f : X → List Entry) (xs : List X) → ((x : X) → HaveLife life (f x))
+    {X : Type 0} (life : Key → ℕ) (f : X → List Entry) (xs : List X)
+    → ((x : X) → HaveLife life (f x))
     → HaveLife life (flat_map f xs)
 HaveLife-flat_map life f [] each e here = absurd here
 HaveLife-flat_map life f (x ∷ xs) each e here = elim (IsIn-either e (f x) (flat_map f xs) here) [

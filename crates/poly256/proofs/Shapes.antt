@@ -3,7 +3,7 @@ use Rattle.std.proofs.Common.{◌≡◌, ℕ, ◌+◌, ◌<◌, ◌≤◌, List,
 use Rattle.std.proofs.lemmas.List.{get_or_past, get_or-take, length-take, take-take}
 use Rattle.std.proofs.lemmas.Bool.{cases_lt}
 use Rattle.std.specs.Int.Bits.{bit_xor}
-use Rattle.list_members.specs.Places.{get_or-zeros}
+use Rattle.list_members.specs.Places.{get_or-front, get_or-zeros}
 use Rattle.poly256.specs.Polynomial.{trimmed_coefficients, sum_of, list_product, IsPolynomial}
 use Rattle.poly256.proofs.ListProducts.{product-empty_left, product-empty_right, length-product}
 use Rattle.poly256.proofs.ListSums.{coefficient-sum}
@@ -55,10 +55,7 @@ coefficient-zeros_sum n xs k = coefficient-sum (replicate n 0) xs k ∙ ap (λ (
 -- a front that has all that is not 0
 pub coefficient-front :
     (xs : List ℕ) (n : ℕ) → ((k : ℕ) → n ≤ k → get_or xs k 0 ≡ 0) → (k : ℕ) → get_or (trimmed_coefficients (take n xs)) k 0 ≡ get_or xs k 0
-coefficient-front xs n past k = coefficient-trimmed_coefficients (take n xs) k ∙ elim (cases_lt k n) [
-  | inl inside ↦ get_or-take n xs k 0 inside
-  | inr further ↦ coefficient-take_past xs n k further ∙ sym (past k further)
-]
+coefficient-front xs n past k = coefficient-trimmed_coefficients (take n xs) k ∙ get_or-front n xs past k
 
 -- what is written into a room of zeros
 pub written-trimmed_coefficients :

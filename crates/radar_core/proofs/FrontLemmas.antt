@@ -1,18 +1,16 @@
 -- The front of a payload, and the way to its blocks.
-use Rattle.std.proofs.Common.{◌≡◌, ℕ, ◌/◌, ◌%◌, ◌<◌, ◌≤◌, true, false, ◌==◌, List, [], ◌∷◌, length, take, drop, get_or, Err, refl, sym, ap, ◌∙◌, arith}
+use Rattle.std.proofs.Common.{◌≡◌, ℕ, ◌/◌, ◌%◌, ◌<◌, ◌≤◌, true, false, ◌==◌, List, [], ◌∷◌, length, take, drop, get_or, Err, sym, ap, ◌∙◌, arith}
 use Rattle.std.specs.Int.{w32, from_be_bytes}
 use Rattle.std.proofs.lemmas.Bool.{cond-true, cond-false, lt-ltb, le-ltb, eq-eqb, ne_eqb}
 use Rattle.bit_fields.specs.Bits.{field_at}
+use Rattle.list_members.specs.Places.{take-by_place}
 use Rattle.radar_core.specs.declared.key.BlockKey.{BlockKey}
 use Rattle.radar_core.specs.declared.fault.RadarFault.TheVariants.{Short, BadScale}
 use Rattle.radar_core.specs.Keys.{is_run_in, scale_in, key_in}
 use Rattle.radar_core.specs.Radar.{radar_blocks, read_runs, read_bitmap}
 
 pub first_three : (p : List ℕ) → 3 ≤ length p → take 3 p ≡ get_or p 0 0 ∷ get_or p 1 0 ∷ get_or p 2 0 ∷ []
-first_three [] enough = absurd (omega arith)
-first_three (a ∷ []) enough = absurd (omega arith)
-first_three (a ∷ b ∷ []) enough = absurd (omega arith)
-first_three (a ∷ b ∷ c ∷ more) enough = refl
+first_three p enough = take-by_place 3 p enough
 
 -- the fields of three bytes
 flag_of : (a b c : ℕ) → a < 256 → b < 256 → c < 256 → field_at (a ∷ b ∷ c ∷ []) 0 1 ≡ a / 128

@@ -11,16 +11,9 @@ use Rattle.std.specs.Int.RustNames.{count_ones}
 use Rattle.std.proofs.lemmas.Nat.{ones_cat, ones-le}
 use Rattle.bit_fields.specs.Bits.{bit as one_if}
 use Rattle.list_members.specs.ListMembers.{slice_get_after}
+use Rattle.list_members.specs.Ranges.{range_split}
 use Rattle.radar_core.specs.Blanks.{is_named, named_offsets}
 use Rattle.radar_core.specs.Ranks.{names_at, ones_below, rank_of}
-
--- numbers from one on, cut in two
-pub range_split : (a m k : ℕ) → range_with_len a (m + k) ≡ range_with_len a m ++ range_with_len (a + m) k
-range_split a zero k = ap (λ n. range_with_len a n) (zero-add k) ∙ ap (λ n. range_with_len n k) (omega arith)
-range_split a (suc m) k =
-    let e : suc m + k ≡ suc (m + k) = omega arith in
-    ap (λ n. range_with_len a n) e
-    ∙ ap (λ (b : List ℕ). a ∷ b) (range_split (a + 1) m k ∙ ap (λ n. range_with_len (a + 1) m ++ range_with_len n k) (omega arith))
 
 -- one number more
 count_more : (p : ℕ → Bool) (n : ℕ) → count_by p (range_with_len 0 (n + 1)) ≡ count_by p (range_with_len 0 n) + cond (p n) 1 0

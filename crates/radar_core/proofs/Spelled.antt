@@ -15,6 +15,8 @@ use Rattle.radar_core.specs.declared.key.BlockKey.{BlockKey}
 use Rattle.radar_core.specs.declared.run.Run.{Run}
 use Rattle.radar_core.specs.declared.fault.RadarFault.TheVariants.{RunsNot128, HighEmpty, BadBitmap}
 use Rattle.bit_fields.specs.Bits.{bit}
+use Rattle.bit_fields.specs.BitsBack.{bit_of_test}
+use Rattle.bit_fields.specs.BytesAsNumbers.{AreBytes-at}
 use Rattle.radar_core.specs.Keys.{FitsKey, front_bytes, is_run_in, scale_in, key_in}
 use Rattle.radar_core.specs.Runs.{FitsRun, run_byte, run_cells, run_in, cells_in}
 use Rattle.radar_core.specs.Blanks.{bitmap_length, is_named, named_offsets}
@@ -29,11 +31,6 @@ use Rattle.radar_core.proofs.ReadBack.{cells_back, run_record_read, bitmap_recor
 three_back : (a b c flag south number : ℕ) → a < 256 → b < 256 → c < 256 → flag ≡ a / 128 → south ≡ a / 64 % 2 → number ≡ a % 16 * 65536 + b * 256 + c
     → (((0 + flag) * 2 + south) * 4 + a / 16 % 4) * 2 ^ 20 + number ≡ a * 65536 + b * 256 + c
 three_back a b c flag south number p q r flag_is south_is number_is = omega arith
-
-bit_of_test : (n : ℕ) → n < 2 → bit (n == 1) ≡ n
-bit_of_test zero small = refl
-bit_of_test (suc zero) small = refl
-bit_of_test (suc (suc n)) small = absurd (omega arith)
 
 bytes_of : (a b c n : ℕ) → b < 256 → c < 256 → a < 256 → n ≡ a * 65536 + b * 256 + c → n / 2 ^ 16 % 256 ∷ n / 2 ^ 8 % 256 ∷ n % 256 ∷ [] ≡ a ∷ b ∷ c ∷ []
 bytes_of a b c n q r p n_is =
@@ -266,13 +263,6 @@ spelled_bitmap key payload blocks fits spells =
     ∙ ap (λ (b : List ℕ). Ok (named_blocks key b)) (take_at spells.bitmap spells.others (length spells.bitmap) refl)
     ∙ ap (λ (b : List ℕ). Ok (map (blank_block key) b)) offsets ∙ ap (λ b. Ok b) (sym spells.blocks_are)
 
-bytes_at : (p : List ℕ) → AreBytes p → (k : ℕ) → get_or p k 0 < 256
-bytes_at p are k =
-    elim (cases_lt k (length p)) [
-      | inl inside ↦ are k 0 inside
-      | inr past ↦ let none = get_or_past p k 0 past in omega (arith, none)
-    ]
-
 -- the way there
 spelled : (product : ℕ) (p : List ℕ) (blocks : List Block) → AreBytes p → radar_blocks product p ≡ Ok blocks → SpellsBlocks product p blocks
 spelled product p blocks are read =
@@ -282,7 +272,7 @@ spelled product p blocks are read =
           elim (cases_eq (scale_in p) 3) [
             | inl bad ↦ let e = sym (is_bad_scale product p enough bad) ∙ read in absurd (cc)
             | inr good ↦
-                let has : Front p = has_front p enough (bytes_at p are) in
+                let has : Front p = has_front p enough (AreBytes-at p are) in
                 let size = length-drop 3 p in
                 let rest_are : AreBytes (drop 3 p) = All-drop (λ n. n < 256) 3 p are in
                 elim (cases_Bool (is_run_in p)) [

@@ -11,6 +11,7 @@ use Rattle.std.proofs.lemmas.List.Sums.{count_by-le-length, length-filter}
 use Rattle.dlac_text.specs.Pieces.{Piece, pieces_of}
 use Rattle.dlac_text.specs.Reports.{has_characters, is_end, reports_among, reports_of, text_of, texts_between}
 use Rattle.dlac_text.specs.SixBits.{six_bit_groups}
+use Rattle.dlac_text.specs.GroupCount.{length-six_bit_groups}
 use Rattle.life_table.specs.LifeTable.{LifeTable, TextRow, longest, text_row}
 use Rattle.life_table.specs.Longest.{RadarsAreWithin, TextsAreWithin}
 use Rattle.life_table.specs.Rules.{IsTable}
@@ -26,12 +27,6 @@ use Rattle.receiver_core.specs.StandsFor.{longest_lives}
 use Rattle.receiver_core.proofs.FewBlocks.{live_radar}
 use Rattle.list_members.specs.ListMembers.{length_ones}
 use Rattle.receiver_core.proofs.Weights.{few_pass}
-
-groups_few : (bytes : List ℕ) → length (six_bit_groups bytes) ≤ 2 * length bytes
-groups_few [] = omega arith
-groups_few (x ∷ []) = omega arith
-groups_few (x ∷ y ∷ []) = omega arith
-groups_few (x ∷ y ∷ z ∷ more) = let rest = groups_few more in omega (arith, rest)
 
 pieces_by : (tab : Bool) (pieces others : List Piece) (most : ℕ) → length pieces ≤ most → length others ≤ most
     → length (cond tab pieces others) ≤ most
@@ -62,7 +57,7 @@ payload_reports [] = omega arith
 payload_reports (byte ∷ more) =
     let reports = reports_few (pieces_of (six_bit_groups (byte ∷ more))) in
     let pieces = pieces_few (six_bit_groups (byte ∷ more)) in
-    let codes = groups_few (byte ∷ more) in
+    let codes = length-six_bit_groups (byte ∷ more) in
     omega (arith, reports, pieces, codes)
 
 module _ (rows : TextsAreWithin) (radars : RadarsAreWithin) (table : LifeTable) (rules : IsTable table) (moment : ℕ) where

@@ -1,9 +1,9 @@
 -- What is known of an arrival by the information frame that it was.
-use Rattle.std.proofs.Common.{◌≡◌, ℕ, ◌+◌, ◌≤◌, Bool, true, false, cond, not, ◌&&◌, List, length, take, drop, Option, Some, None, is_some, Result, Ok, Err, refl, ap, subst, ◌∙◌, arith}
+use Rattle.std.proofs.Common.{◌≡◌, ℕ, ◌+◌, ◌≤◌, Bool, true, false, cond, not, ◌&&◌, List, length, take, drop, Option, Some, None, is_some, Result, Ok, Err, refl, sym, ap, subst, ◌∙◌, arith}
 use Rattle.std.specs.Prelude.{◌==◌, nat_lt}
 use Rattle.std.proofs.lemmas.Bool.{eqb-false, ltb-false, or_parts}
 use Rattle.std.proofs.lemmas.List.{length-drop}
-use Rattle.list_members.specs.Tests.{ok_past_test}
+use Rattle.list_members.specs.Tests.{ok_past_test, some_by_test}
 use Rattle.fisb_time.specs.declared.form.TimeForm.{TimeForm}
 use Rattle.fisb_time.specs.declared.form.TimeForm.TheVariants.{Minute, Second, DayMinute, DaySecond}
 use Rattle.fisb_time.specs.declared.form.TimeFields.{TimeFields}
@@ -48,10 +48,6 @@ numbered_by true s fine =
     let some = eqb-false s.number 0 zeros.1 in
     (omega (arith, some), most)
 
-segmented_by : (b : Bool) (s : Seg) → is_some (cond b (Some s) None) ≡ true → b ≡ true
-segmented_by true s some = refl
-segmented_by false s some = absurd (cc)
-
 header_leaves : HeadersAreLong → (form : TimeForm) (segmented : Bool) (body : List ℕ) (a : Apdu)
     → header_length form segmented ≤ length body
     → apdu_of_header form segmented (take (header_length form segmented) body) (drop (header_length form segmented) body)
@@ -67,7 +63,7 @@ header_leaves headers form segmented body a fits is =
           let least = headers form segmented in
           omega (arith, least, fits, ap length same_payload, length-drop bytes body);
       header_fits = λ some.
-          let own = segmented_by segmented s (ap is_some same ∙ some) in
+          let own = sym (some_by_test segmented s) ∙ ap is_some same ∙ some in
           let long = long_header form in
           omega (arith, long, fits, ap (header_length form) own);
       numbered = subst IsNumbered same (numbered_by segmented s read.0);

@@ -4,6 +4,7 @@ use Rattle.std.proofs.lemmas.List.{append-nil, length-take, length-drop}
 use Rattle.life_table.specs.LifeTable.{LifeTable}
 use Rattle.uplink_frame.specs.declared.station.StationId.{StationId}
 use Rattle.uplink_frame.specs.UplinkFrame.{InformationFrame, ends_here, frame_at_front, behind_frame, frames_at_front, information_frames, length_at_front}
+use Rattle.list_members.specs.Places.{append_on}
 use Rattle.segment_core.specs.Arrival.{Arrival}
 use Rattle.segment_core.specs.Store.{StandsFor, Store}
 use Rattle.picture_core.specs.Entry.{Entry}
@@ -11,7 +12,7 @@ use Rattle.picture_core.specs.Kept.{put_all}
 use Rattle.receiver_core.specs.Reception.{arrival_in}
 use Rattle.receiver_core.specs.Steps.{arrivals_after, arrived_with, entries_after, frame_entries}
 use Rattle.receiver_core.specs.UnreadParts.{UnreadPart, frame_reasons, part_in, unread_after}
-use Rattle.receiver_core.proofs.Puts.{put_one_more, tell_one_more}
+use Rattle.receiver_core.proofs.Puts.{put_one_more}
 
 -- what is held after the frames before those that are left; with the frames that are left it is what all frames bring
 pub record HasTakenFrames (table : LifeTable) (station : StationId) (moment : ℕ) (before : List Arrival) (all : List InformationFrame)
@@ -54,8 +55,8 @@ take_one_more table station moment before all first frame left store store' kept
       joined = h.joined;
       entries = put_one_more (frame_entries table h.now read)
           (entries_after table station moment (arrived_with h.now read) left) _ kept kept' h.entries put;
-      unread = tell_one_more (map (part_in frame) (frame_reasons table h.now read))
-          (unread_after table station moment (arrived_with h.now read) left) _ told told' h.unread tell;
+      unread = append_on told (map (part_in frame) (frame_reasons table h.now read))
+          (unread_after table station moment (arrived_with h.now read) left) _ told' h.unread tell;
     }
 
 -- all of it, where no frame is left

@@ -1,6 +1,6 @@
 -- Entries that are put one after another, and lists of which nothing is left.
 use Rattle.std.proofs.Common.{◌≡◌, ℕ, ◌+◌, List, [], ◌∷◌, ◌++◌, drop, map, flat_map, slice_get, Some, refl, sym, ap, ◌∙◌}
-use Rattle.std.proofs.lemmas.List.{append_assoc, append-nil, drop_more, map-append}
+use Rattle.std.proofs.lemmas.List.{append-nil, drop_more, map-append}
 use Rattle.std.proofs.lemmas.Option.{get_or_from_slice_get, slice_get_within}
 use Rattle.picture_core.specs.Entry.{Entry}
 use Rattle.picture_core.specs.Kept.{put, put_all}
@@ -12,9 +12,6 @@ put_all_append (x ∷ xs) ys kept = put_all_append xs ys (put x kept)
 pub put_one_more : (xs ys all kept now : List Entry) → all ≡ put_all (xs ++ ys) kept → now ≡ put_all xs kept
     → all ≡ put_all ys now
 put_one_more xs ys all kept now whole is = whole ∙ put_all_append xs ys kept ∙ ap (put_all ys) (sym is)
-
-pub tell_one_more : {A : Type 0} (xs ys all told now : List A) → all ≡ told ++ (xs ++ ys) → now ≡ told ++ xs → all ≡ now ++ ys
-tell_one_more xs ys all told now whole is = whole ∙ sym (append_assoc told xs ys) ∙ ap (λ ts. ts ++ ys) (sym is)
 
 -- where nothing is left, all is put, and all is told
 pub all_put : {A : Type 0} (f : A → List Entry) (left : List A) (all now : List Entry)

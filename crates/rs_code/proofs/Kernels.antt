@@ -5,12 +5,13 @@ use Rattle.std.proofs.lemmas.Bool.{cases_lt}
 use Rattle.std.proofs.lemmas.List.{length-take-le}
 use Rattle.std.proofs.lemmas.Nat.{xor_comm}
 use Rattle.bit_fields.specs.Xors.{xor-cancel}
+use Rattle.list_members.specs.Places.{get_or-front}
 use Rattle.gf256_core.specs.Field.{IsField}
 use Rattle.poly256.specs.Polynomial.{element_product, element_power, scaled_coefficients}
 use Rattle.poly256.specs.Laws.{HasDegrees}
 use Rattle.rs_code.specs.CodeWord.{power_sum}
 use Rattle.rs_code.proofs.Powers.{power-zero, product-one}
-use Rattle.rs_code.proofs.Places.{get_or-push_zero, get_or-front}
+use Rattle.rs_code.proofs.Places.{get_or-push_zero}
 use Rattle.rs_code.proofs.PowerSums.{power_sum-cons, power_sum-empty, power_sum-cons_zero, power_sum-sum, power_sum-multiple, power_sum-append}
 
 -- a word with 0 behind it
@@ -94,7 +95,7 @@ front_places :
     (degree : ℕ) (old : List ℕ) → degree ≤ length old → ((k : ℕ) → degree ≤ k → get_or old k 0 ≡ 0) → (k : ℕ)
     → get_or (1 ∷ take degree old) k 0 ≡ get_or (1 ∷ old) k 0
 front_places degree old h zeros zero = refl
-front_places degree old h zeros (suc k) = get_or-front degree old h zeros k
+front_places degree old h zeros (suc k) = get_or-front degree old zeros k
 
 word_places :
     (F : IsField 391) (a degree : ℕ) (old new : List ℕ) → TakesRoot a degree old new → (k : ℕ)
@@ -103,9 +104,9 @@ word_places :
 word_places F a degree old new t zero = sym (ap (bit_xor 1) (F.product_zero_right a) ∙ xor_zero_r 1)
 word_places F a degree old new t (suc k) =
     let room = t.room in
-    get_or-front (degree + 1) new (let l = t.long in omega arith) (zeros-root F a degree old new t) k
+    get_or-front (degree + 1) new (zeros-root F a degree old new t) k
     ∙ written_all F a degree old new t k
-    ∙ sym (ap₂ bit_xor (get_or-front degree old (omega arith) t.zeros k)
+    ∙ sym (ap₂ bit_xor (get_or-front degree old t.zeros k)
     (ap (element_product a) (front_places degree old (omega arith) t.zeros k)))
 
 pub power_sum-takes_root :

@@ -4,13 +4,13 @@ use Rattle.std.specs.Int.Bits.{bit_xor, xor_zero_r, xor_self}
 use Rattle.std.proofs.lemmas.Bool.{cases_eq, cases_lt, leb-true}
 use Rattle.std.proofs.lemmas.List.{get_or_past, get_or-set_other}
 use Rattle.bit_fields.specs.Xors.{xor-equal}
+use Rattle.list_members.specs.Places.{get_or-front}
 use Rattle.gf256_core.specs.Field.{IsField}
 use Rattle.poly256.specs.Polynomial.{element_product, element_power, value_at, sum_of, scaled_coefficients, shifted_coefficients}
 use Rattle.poly256.specs.Laws.{HasDegrees, HasValues, IgnoresEndZeros}
 use Rattle.rs_code.specs.CodeWord.{IsNear, power_sum, differences, bound}
 use Rattle.rs_code.specs.Mending.{weighed_word, without, blanked_word, HasLead, IsNearWith}
 use Rattle.rs_code.proofs.Powers.{power-fits}
-use Rattle.rs_code.proofs.Places.{get_or-front}
 use Rattle.rs_code.proofs.Distance.{weight, weight-cons, length-weighed_word, weighed_word-fits, power_sum-weighed_word, difference, length-difference, get_or-difference, weight-difference}
 
 pub without-none : (word : List ℕ) → without [] word ≡ word
@@ -228,7 +228,7 @@ pub value-front :
     → value_at (take n cs) x ≡ value_at cs x
 value-front E n cs x room zeros =
     sym (E.values (take n cs) x)
-    ∙ ap (λ (ds : List ℕ). value_at ds x) (E.by_coefficients (take n cs) cs (get_or-front n cs room zeros))
+    ∙ ap (λ (ds : List ℕ). value_at ds x) (E.by_coefficients (take n cs) cs (get_or-front n cs zeros))
     ∙ E.values cs x
 
 -- a code word near a word without marks

@@ -1,7 +1,8 @@
 -- Powers of the element 2.
 use Rattle.std.proofs.Common.{◌≡◌, ℕ, zero, suc, ◌+◌, ◌<◌, List, refl, sym, ◌∙◌, ap, arith, lit<, inl, inr, get_or}
-use Rattle.gf256_core.specs.Field.{product, power, IsField}
+use Rattle.gf256_core.specs.Field.{power, IsField}
 use Rattle.gf256_core.specs.Tables.{AreTables}
+use Rattle.gf256_core.specs.Rows.{row_is_power}
 use Rattle.gf256_core.specs.UatLaws.{uat_laws}
 use Rattle.poly256.specs.Polynomial.{element_product, element_power}
 
@@ -40,16 +41,6 @@ power-not_zero F (suc n) e =
       | inl front ↦ power-not_zero F n front
       | inr two ↦ absurd (omega arith)
     ]
-
-row_is_power :
-    (modulus : ℕ) (powers logarithms : List ℕ) → AreTables modulus powers logarithms → (i : ℕ) → i < 255
-    → get_or powers i 0 ≡ power modulus 2 i
-unfolding power
-row_is_power modulus powers logarithms t zero h = t.first
-row_is_power modulus powers logarithms t (suc i) h =
-    ap (λ (k : ℕ). get_or powers k 0) (let e : suc i ≡ i + 1 = omega arith in e)
-    ∙ t.next i (omega arith)
-    ∙ ap (λ (x : ℕ). product modulus x 2) (row_is_power modulus powers logarithms t i (omega arith))
 
 same_from_powers :
     (modulus : ℕ) (powers logarithms : List ℕ) → AreTables modulus powers logarithms → (i j : ℕ) → i < 255 → j < 255

@@ -2,6 +2,7 @@
 use Rattle.std.proofs.Common.{◌≡◌, ℕ, zero, suc, ◌+◌, ◌-◌, ◌≤◌, Bool, true, false, List, [], ◌∷◌, ◌++◌, Option, Some, None, option_map, length, take, drop, refl, sym, ap, subst, ◌∙◌, arith, append-nil, append_assoc, length-append, length-take, length-drop}
 use Rattle.std.proofs.lemmas.List.{drop-append-le, drop-drop}
 use Rattle.std.proofs.KnownBytes.{Consumes-trans}
+use Rattle.list_members.specs.Tests.{mapped_from}
 use Rattle.list_members.specs.Places.{take-rest}
 use Rattle.std.specs.Io.KnownBytes.{Consumes}
 use Rattle.byte_search.specs.FirstByte.{found_at}
@@ -37,8 +38,9 @@ pub record IsSearch (old now : SourceEnd) (input : Input) (place number : ℕ) (
 -- the first newline at or after a place, as the ring tells it
 pub found-from : (from e : ℕ) (found : Option ℕ) → Some e ≡ option_map (λ end. from + end) found
     → (k : ℕ) × (found ≡ Some k) × (e ≡ from + k)
-found-from from e None is = cc
-found-from from e (Some k) is = (k, refl, (let same : e ≡ from + k = cc in same))
+found-from from e found is =
+    let before = mapped_from (λ end. from + end) found e (sym is) in
+    (before.0, before.1, sym before.2)
 
 pub found-first : (e : ℕ) (xs : List ℕ) → Some e ≡ option_map (λ end. 0 + end) (newline_in xs) → newline_in xs ≡ Some e
 found-first e xs is =

@@ -2,9 +2,8 @@
 use Rattle.std.proofs.Common.{◌≡◌, ℕ, suc, ◌+◌, ◌*◌, ◌%◌, ◌<◌, ◌≤◌, nat_lt, max, true, List, [], ◌∷◌, length, Option, Some, None, is_some, Ok, Err, IsOk, Result, get_or, set, unwrap_or, if◌then◌else◌, refl, sym, ap, ◌∙◌, arith, inl, inr}
 use Rattle.std.proofs.lemmas.Bool.{cases_Bool, cases_eq}
 use Rattle.std.proofs.lemmas.Bool.Decides.{nat_tests}
-use Rattle.std.proofs.lemmas.List.{get_or-set_other}
-use Rattle.std.proofs.lemmas.Grind.{get_or-set_at}
 use Rattle.std.specs.Result.{result_ok}
+use Rattle.list_members.specs.Places.{set_next}
 use Rattle.hex.specs.Hex.{decode_pairs, decode_sized, hex_digit_value, is_hex_digit, pair_value}
 use Rattle.hex.specs.declared.error.FromHexError.{FromHexError}
 use Rattle.hex.proofs.HexLemmas.{IsOk-decode_sized, decode_sized-twice, decode_of-even}
@@ -86,15 +85,11 @@ pub made_more : (digits bytes : List ℕ) (place high low : ℕ) → place < len
     → high ≡ value_of (get_or digits (2 * place) 0) → low ≡ value_of (get_or digits (2 * place + 1) 0)
     → ((k : ℕ) → k < place → get_or bytes k 0 ≡ byte_at digits k)
     → (k : ℕ) → k < place + 1 → get_or (set bytes place ((high * 16 % 256 + low) % 256)) k 0 ≡ byte_at digits k
-made_more digits bytes place high low within is_high is_low made k below =
-    elim (cases_eq k place) [
-      | inl here ↦
-          get_or-set_at bytes place k ((high * 16 % 256 + low) % 256) 0 here within
-          ∙ (let sum : (high * 16 % 256 + low) % 256 ≡ (high * 16 + low) % 256 = omega arith in sum)
-          ∙ ap (λ n. (n * 16 + low) % 256) is_high
-          ∙ ap (λ n. (value_of (get_or digits (2 * place) 0) * 16 + n) % 256) is_low ∙ ap (byte_at digits) (sym here)
-      | inr there ↦ get_or-set_other bytes place k ((high * 16 % 256 + low) % 256) 0 there ∙ made k (omega (arith, below, there))
-    ]
+made_more digits bytes place high low within is_high is_low =
+    set_next (byte_at digits) bytes place ((high * 16 % 256 + low) % 256) within
+    ((let sum : (high * 16 % 256 + low) % 256 ≡ (high * 16 + low) % 256 = omega arith in sum)
+    ∙ ap (λ n. (n * 16 + low) % 256) is_high
+    ∙ ap (λ n. (value_of (get_or digits (2 * place) 0) * 16 + n) % 256) is_low)
 
 module _ (digits : List ℕ) (place high low greatest first last : ℕ)
     (is_high : high ≡ value_of (get_or digits (2 * place) 0)) (is_low : low ≡ value_of (get_or digits (2 * place + 1) 0))

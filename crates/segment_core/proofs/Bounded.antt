@@ -14,7 +14,7 @@ use Rattle.std.proofs.lemmas.Map.Entries.{length-values_of, sum_by-remove_entry}
 use Rattle.std.proofs.lemmas.Map.Keys.{sorted_head, sorted_tail}
 use Rattle.list_members.specs.ListMembers.{length_ones}
 use Rattle.list_members.specs.Ranges.{find_filter}
-use Rattle.list_members.specs.Tests.{some_past_test}
+use Rattle.list_members.specs.Tests.{mapped_from, some_past_test}
 use Rattle.apdu_core.specs.declared.apdu.Seg.{Seg}
 use Rattle.uplink_frame.specs.Laws.{StationsAreTold}
 use Rattle.segment_core.specs.Arrival.{Arrival, is_piece, has_piece, other_numbers, whole_with, completes}
@@ -143,11 +143,6 @@ module _ (told : StationsAreTold) where
       let same : k ≡ piece_name a s = same-is told k (piece_name a s) (sym (is-named k k.number a s seg) ∙ is_k) in
       subst (λ (p : PieceName). is_in_life longest moment p.product p.version ≡ true) same live
 
-  from_kept : (b : Bool) (o : Option Arrival) (v : Option (List ℕ)) → option_map (kept_piece b) o ≡ Some v
-      → (a : Arrival) × (o ≡ Some a) × (v ≡ kept_piece b a)
-  from_kept b None v e = absurd (cc)
-  from_kept b (Some a) v e = (a, refl, (let same : Some (kept_piece b a) ≡ Some v = e in cc))
-
   kept_size : (b : Bool) (a : Arrival) → piece_size (kept_piece b a) ≤ length a.payload
   kept_size true a = omega arith
   kept_size false a = omega arith
@@ -160,14 +155,14 @@ module _ (told : StationsAreTold) where
       let live = purged.live k some in
       let at_clock : is_in_life_at store.longest store.clock k ≡ true =
       ap (λ (clock : Option ℕ). is_in_life_at store.longest clock k) purged.clock ∙ live in
-      let kept = from_kept (was_whole taken k)
+      let kept = mapped_from (kept_piece (was_whole taken k))
       (first taken k k.number) v (sym (stands.keeps k (stands.numbered k some) at_clock) ∙ h) in
       let same_first : first (live_arrivals store.longest moment taken) k k.number ≡ first taken k k.number =
       find_filter (is k k.number) (λ (a : Arrival). is_in_life store.longest moment a.product a.version)
       (λ a is_k. named_live store.longest moment k a a.segmentation refl is_k live) taken in (
         kept.0,
         same_first ∙ kept.1,
-        subst (λ (w : Option (List ℕ)). f w ≤ g kept.0) (sym kept.2)
+        subst (λ (w : Option (List ℕ)). f w ≤ g kept.0) kept.2
             (each (was_whole taken k) kept.0),
       )
 

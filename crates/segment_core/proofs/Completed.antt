@@ -16,7 +16,8 @@ use Rattle.segment_core.specs.File.{File, is_segmented, parts_of, part_of, segme
 use Rattle.segment_core.specs.Arrival.{Arrival, Whole, whole_with, joined_payload, other_numbers, completes}
 use Rattle.segment_core.specs.Arrival.{completed_after}
 use Rattle.segment_core.specs.Joining.{FileSegment, segment, arrival_of, whole_of, AreSent, HasAll, IsOfFile}
-use Rattle.segment_core.proofs.Parts.{parts-whole, are_parts}
+use Rattle.segment_core.specs.OnePart.{parts-whole, one-part}
+use Rattle.segment_core.proofs.Parts.{are_parts}
 use Rattle.list_members.specs.Ranges.{in_range, range_has, all_in, in_all, not_all_in}
 use Rattle.segment_core.proofs.Joined.{seg_of_file, segmentation-cut, segmentation-whole, has, IsOfSent, AreAmong, has-in}
 use Rattle.segment_core.proofs.Joined.{in-has, joined-is}
@@ -138,7 +139,7 @@ made_whole before station f number all of_sent among has_all new =
 one_part : (f : File) (number : ℕ) → is_segmented f.form f.payload ≡ false → 1 ≤ number → number ≤ length (parts_of f)
     → (number ≡ 1) × (part_of f number ≡ f.payload)
 one_part f number whole least most =
-    let one : length (parts_of f) ≡ 1 = ap length (parts-whole f.form f.payload whole) in
+    let one : length (parts_of f) ≡ 1 = one-part f.form f.payload whole in
     let first : number ≡ 1 = omega arith in (
       first,
       ap (λ (n : ℕ). part_of f n) first ∙ ap (λ (ps : List (List ℕ)). get_or ps 0 [])

@@ -4,7 +4,7 @@ use Rattle.std.proofs.Common.{◌++◌, length, take, drop, get_or, refl, sym, a
 use Rattle.std.proofs.Common.{length-take, length-drop, drop-drop, take-append-drop, append-nil}
 use Rattle.std.specs.List.{concat}
 use Rattle.std.proofs.Math.Nat.{le-div_iff_mul-le, mul-le-mul_left}
-use Rattle.std.proofs.lemmas.Bool.{cases_Bool, cond-true, cond-false, cases_lt, leb-true, leb-false, not-true, not-false}
+use Rattle.std.proofs.lemmas.Bool.{cases_Bool, cond-true, cases_lt, leb-true, leb-false, not-true, not-false}
 use Rattle.std.proofs.lemmas.List.Elements.{All-take, All-drop}
 use Rattle.bit_fields.specs.Bits.{AreBytes}
 use Rattle.fisb_time.specs.declared.form.TimeForm.{TimeForm}
@@ -12,6 +12,7 @@ use Rattle.fisb_time.specs.declared.form.TimeForm.TheVariants.{Minute, Second, D
 use Rattle.apdu_core.specs.Apdu.{header_length}
 use Rattle.segment_core.specs.File.{File, body_limit, segment_limit, whole_limit, pieces, segments_needed, is_segmented}
 use Rattle.segment_core.specs.File.{parts, parts_of, part_of}
+use Rattle.segment_core.specs.OnePart.{parts-whole, one-part}
 use Rattle.segment_core.specs.Cutting.{ArePartsOf, IsPart}
 
 pub length-pieces : (count limit : ℕ) (bytes : List ℕ) → length (pieces count limit bytes) ≡ count
@@ -79,11 +80,6 @@ parts-cut form payload cut =
     cond-true (is_segmented form payload) (pieces (segments_needed form payload) (segment_limit form) payload)
     (payload ∷ []) cut
 
-pub parts-whole : (form : TimeForm) (payload : List ℕ) → is_segmented form payload ≡ false → parts form payload ≡ payload ∷ []
-parts-whole form payload whole =
-    cond-false (is_segmented form payload) (pieces (segments_needed form payload) (segment_limit form) payload)
-    (payload ∷ []) whole
-
 -- a payload that is cut has a part
 cut_some : (form : TimeForm) (payload : List ℕ) → is_segmented form payload ≡ true
     → 1 ≤ length (pieces (segments_needed form payload) (segment_limit form) payload)
@@ -141,7 +137,7 @@ parts-hold form payload = elim (cases_Bool (is_segmented form payload)) [
       let most = mul-le-mul_left (segments_needed form payload) (limit_most form) in
       subst (λ (n : ℕ). length payload ≤ n * body_limit) (sym size) (omega (arith, hold, most))
   | inr whole ↦
-      let one : length (parts form payload) ≡ 1 = ap length (parts-whole form payload whole) in
+      let one : length (parts form payload) ≡ 1 = one-part form payload whole in
       let short : length payload ≤ whole_limit form = leb-true (length payload) (whole_limit form) (not-false _ whole) in
       let most = whole_most form in
       subst (λ (n : ℕ). length payload ≤ n * body_limit) (sym one) (omega (arith, short, most))
@@ -201,7 +197,7 @@ pub is_part : (f : File) (number : ℕ) → 1 ≤ number → number ≤ length (
 is_part f number some most = elim (cases_Bool (is_segmented f.form f.payload)) [
   | inl cut ↦ part_cut f number cut (omega arith)
   | inr whole ↦
-      let one : length (parts_of f) ≡ 1 = ap length (parts-whole f.form f.payload whole) in
+      let one : length (parts_of f) ≡ 1 = one-part f.form f.payload whole in
       part_whole f number whole (omega arith)
 ]
 
@@ -212,7 +208,7 @@ parts-few form payload most some few = elim (cases_Bool (is_segmented form paylo
       let size : length (parts form payload) ≡ segments_needed form payload =
       ap length (parts-cut form payload cut) ∙ length-pieces (segments_needed form payload) (segment_limit form) payload in
       let fewer = needed_few (length payload) (segment_limit form) most (limit_some form) few in omega arith
-  | inr whole ↦ let one : length (parts form payload) ≡ 1 = ap length (parts-whole form payload whole) in omega arith
+  | inr whole ↦ let one : length (parts form payload) ≡ 1 = one-part form payload whole in omega arith
 ]
 
 pub parts-text : (form : TimeForm) (payload : List ℕ) → length payload ≤ 12289 → length (parts form payload) ≤ 30

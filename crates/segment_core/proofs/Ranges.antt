@@ -1,9 +1,9 @@
 -- What the numbers from 1 on are made of, and lists that are read by them.
 use Rattle.std.proofs.Common.{◌≡◌, ℕ, ◌+◌, ◌-◌, List, [], ◌∷◌, ◌++◌, length, flat_map, get_or, refl, sym, ap, subst, ◌∙◌, arith}
 use Rattle.std.specs.List.{range_with_len, concat}
-use Rattle.std.proofs.lemmas.List.{append_assoc, append-nil, get_or_at, length-append, map-id}
+use Rattle.std.proofs.lemmas.List.{append_assoc, append-nil, get_or_at, length-append}
 use Rattle.std.proofs.lemmas.List.Concat.{flat_map-append}
-use Rattle.std.proofs.lemmas.List.FromFn.{map-range_with_len_more}
+use Rattle.list_members.specs.Ranges.{range_split}
 
 -- the members of a list, read one by one from 1 on
 read_on : (before later : List (List ℕ)) (a : ℕ) → a ≡ length before + 1
@@ -27,8 +27,7 @@ pub read_all : (xs : List (List ℕ)) → flat_map (λ (n : ℕ). get_or xs (n -
 read_all xs = read_on [] xs 1 refl
 
 pub range-more : (a n : ℕ) → range_with_len a (n + 1) ≡ range_with_len a n ++ (a + n) ∷ []
-range-more a n = sym (map-id (range_with_len a (n + 1))) ∙ map-range_with_len_more (λ (k : ℕ). k) a n (a + n) refl
-    ∙ ap (λ (xs : List ℕ). xs ++ (a + n) ∷ []) (map-id (range_with_len a n))
+range-more a n = range_split a n 1
 
 pub flat_map-more : {B : Type 0} (f : ℕ → List B) (n : ℕ) → flat_map f (range_with_len 1 (n + 1))
     ≡ flat_map f (range_with_len 1 n) ++ f (n + 1)

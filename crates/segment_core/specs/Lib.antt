@@ -1,4 +1,5 @@
 pub mod File
+pub mod OnePart
 pub mod Cutting
 pub mod Arrival
 pub mod Joining

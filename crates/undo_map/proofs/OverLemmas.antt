@@ -1,13 +1,12 @@
 -- Entries that are over, and those that have a place once they are dropped.
 use Rattle.std.proofs.Common.{◌≡◌, ℕ, ◌+◌, ◌<◌, ◌≤◌, ◌&&◌, true, false, Bool, List, [], ◌∷◌, length, refl, sym, ap, ◌∙◌, not}
 use Rattle.std.proofs.Common.{nat_le, nat_lt, arith, inl, inr, filter, IsPermutation}
-use Rattle.std.specs.Prelude.{Option, Some, None}
+use Rattle.std.specs.Prelude.{Some, None}
 use Rattle.std.specs.BTreeMap.{is_at}
 use Rattle.std.specs.Cmp.{IsTotalOrder}
 use Rattle.std.specs.List.{AllByRecursion}
 use Rattle.std.specs.List.Sorted.{IsStrictlySortedBy}
 use Rattle.std.specs.Map.{keys_of, lookup, remove_entry}
-use Rattle.std.specs.Option.{option_map}
 use Rattle.std.specs.Ordering.{is_eq}
 use Rattle.std.specs.declared.cmp.Ordering.{Ordering}
 use Rattle.std.specs.declared.cmp.Ordering.TheVariants.{Less, Equal, Greater}
@@ -17,6 +16,7 @@ use Rattle.std.proofs.lemmas.List.Elements.{recursion_from_All}
 use Rattle.std.proofs.lemmas.Map.{lookup-none}
 use Rattle.std.proofs.lemmas.Map.Entries.{none_below_head}
 use Rattle.std.proofs.lemmas.Map.Keys.{sorted_head, sorted_tail}
+use Rattle.list_members.specs.Each.{AllByRecursion-all, filter_less}
 use Rattle.undo_map.specs.Ends.{HasLeft, HavePlaces, HavePlacesBy, NoneIsOver, OthersHavePlaces, has_place, has_place_by}
 use Rattle.undo_map.proofs.EndLemmas.{has-added, places-kept}
 use Rattle.undo_map.proofs.PlaceLemmas.{keeps-added, keeps-added-by, left-behind}
@@ -59,17 +59,15 @@ module _ {K V : Type 0} where
       (R : K → K → Ordering) (end : V → ℕ) (now : ℕ) (key : K) (es : List (K × V))
       → filter (λ e. nat_lt now (end e.1)) (filter (λ e. not (is_over R end now key e)) es)
       ≡ filter (λ e. nat_lt now (end e.1)) es
-  lives-yet R end now key [] = refl
-  lives-yet R end now key (e ∷ es) = elim (cases_Bool (is_over R end now key e)) [
-    | inl over ↦
-        let parts = and_parts (is_eq (R key e.0)) (nat_le (end e.1) now) over in
-        let ended : nat_lt now (end e.1) ≡ false = grind (arith, nat_tests) in
-        rw over (rw ended (lives-yet R end now key es))
-    | inr yet ↦ rw yet (elim (cases_Bool (nat_lt now (end e.1))) [
-      | inl lives ↦ rw lives (ap (λ (more : List (K × V)). e ∷ more) (lives-yet R end now key es))
-      | inr ended ↦ rw ended (lives-yet R end now key es)
-    ])
-  ]
+  lives-yet R end now key es =
+      filter_less (λ e. not (is_over R end now key e)) (λ e. nat_lt now (end e.1)) es
+      (AllByRecursion-all (λ e. nat_lt now (end e.1) ≡ true → not (is_over R end now key e) ≡ true)
+      (λ e lives. elim (cases_Bool (is_over R end now key e)) [
+        | inl over ↦
+            let parts = and_parts (is_eq (R key e.0)) (nat_le (end e.1) now) over in
+            absurd (grind (arith, nat_tests))
+        | inr yet ↦ ap not yet
+      ]) es)
 
   -- without the key nothing is dropped, and a place of the key is none of theirs
   pub absent-kept :
@@ -231,12 +229,6 @@ module _ {K V : Type 0} where
   over-placed R total end at key old new (e ∷ es) sorted left placed =
       over-placed_first R total end at key old new e es sorted left placed
       (over-placed R total end at key old new es (sorted_tail R e.0 (keys_of es) sorted) left placed.1) (R key e.0) refl
-
--- the value whose end was found
-pub end-found :
-    {V : Type 0} (end : V → ℕ) (o : Option V) (at : ℕ) → option_map end o ≡ Some at → (v : V) × (o ≡ Some v) × (end v ≡ at)
-end-found end None at found = cc
-end-found end (Some v) at found = (v, refl, cc)
 
 -- how many entries are left where one is removed
 pub length-removed :

@@ -5,6 +5,7 @@ use Rattle.std.proofs.lemmas.List.{length-drop, length-take-le, take_rest}
 use Rattle.std.proofs.lemmas.List.Elements.{All-nil, All-cons}
 use Rattle.std.proofs.lemmas.Bool.{cases_Bool, cases_eq, lt-ltb, le-ltb, ltb-false, cond-true, cond-false, ne_eqb, eq-eqb, and_left, and_right, and_from, or_from, or_left, or_right, or_parts, true≢false}
 use Rattle.bit_fields.specs.Bits.{field_at}
+use Rattle.list_members.specs.Places.{take-by_place}
 use Rattle.uplink_frame.specs.UplinkFrame.{InformationFrame, length_at_front, kind_at_front, ends_here, frame_at_front, behind_frame, frames_at_front, frames_in, information_frames, FitsFrame}
 
 -- equal arguments give equal values
@@ -165,20 +166,15 @@ length_of_two high low high_is low_is = omega arith
 kind_of_two : (high low : ℕ) → field_at (high ∷ low ∷ []) 12 4 ≡ low % 16
 kind_of_two high low = omega arith
 
-first_two : (bytes : List ℕ) → 2 ≤ length bytes → take 2 bytes ≡ get_or bytes 0 0 ∷ get_or bytes 1 0 ∷ []
-first_two [] enough = absurd (omega arith)
-first_two (high ∷ []) enough = absurd (omega arith)
-first_two (high ∷ low ∷ more) enough = refl
-
 pub length_at_front-two :
     (bytes : List ℕ) → 2 ≤ length bytes → get_or bytes 0 0 < 256 → get_or bytes 1 0 < 256 →
     length_at_front bytes ≡ get_or bytes 0 0 * 2 + get_or bytes 1 0 / 128
 length_at_front-two bytes enough high low =
-    ap (λ (two : List ℕ). field_at two 0 9) (first_two bytes enough) ∙ length_of_two (get_or bytes 0 0) (get_or bytes 1 0) high low
+    ap (λ (two : List ℕ). field_at two 0 9) (take-by_place 2 bytes enough) ∙ length_of_two (get_or bytes 0 0) (get_or bytes 1 0) high low
 
 pub kind_at_front-two : (bytes : List ℕ) → 2 ≤ length bytes → kind_at_front bytes ≡ get_or bytes 1 0 % 16
 kind_at_front-two bytes enough =
-    ap (λ (two : List ℕ). field_at two 12 4) (first_two bytes enough) ∙ kind_of_two (get_or bytes 0 0) (get_or bytes 1 0)
+    ap (λ (two : List ℕ). field_at two 12 4) (take-by_place 2 bytes enough) ∙ kind_of_two (get_or bytes 0 0) (get_or bytes 1 0)
 
 -- the frame at the front of some bytes, in the parts that a reader cuts them into
 pub frames_in-read :

@@ -5,22 +5,9 @@ use Rattle.std.proofs.lemmas.List.{length-take, length-take-le}
 use Rattle.std.proofs.lemmas.Nat.{from_be_bytes-to_be_bytes_8}
 use Rattle.bit_fields.specs.Bits.{bit, number_of}
 use Rattle.bit_fields.specs.BitsBack.{bit_below, bit_back}
+use Rattle.list_members.specs.Places.{take-by_place}
 use Rattle.uplink_frame.specs.declared.header.UplinkHeader.{UplinkHeader}
 use Rattle.uplink_frame.specs.UplinkFrame.{FitsHeader, header_bytes, header_in}
-
--- the first eight bytes, one by one
-pub first_eight :
-    (bytes : List ℕ) → 8 ≤ length bytes →
-    take 8 bytes ≡ get_or bytes 0 0 ∷ get_or bytes 1 0 ∷ get_or bytes 2 0 ∷ get_or bytes 3 0 ∷ get_or bytes 4 0 ∷ get_or bytes 5 0 ∷ get_or bytes 6 0 ∷ get_or bytes 7 0 ∷ []
-first_eight ([]) enough = absurd (omega arith)
-first_eight (a ∷ []) enough = absurd (omega arith)
-first_eight (a ∷ b ∷ []) enough = absurd (omega arith)
-first_eight (a ∷ b ∷ c ∷ []) enough = absurd (omega arith)
-first_eight (a ∷ b ∷ c ∷ d ∷ []) enough = absurd (omega arith)
-first_eight (a ∷ b ∷ c ∷ d ∷ e ∷ []) enough = absurd (omega arith)
-first_eight (a ∷ b ∷ c ∷ d ∷ e ∷ f ∷ []) enough = absurd (omega arith)
-first_eight (a ∷ b ∷ c ∷ d ∷ e ∷ f ∷ g ∷ []) enough = absurd (omega arith)
-first_eight (a ∷ b ∷ c ∷ d ∷ e ∷ f ∷ g ∷ h ∷ more) enough = refl
 
 -- eight bytes as one number
 number_of-eight : (a b c d e f g h : ℕ) → from_be_bytes w64 (a ∷ b ∷ c ∷ d ∷ e ∷ f ∷ g ∷ h ∷ []) ≡ number_of (a ∷ b ∷ c ∷ d ∷ e ∷ f ∷ g ∷ h ∷ [])
@@ -87,7 +74,7 @@ pub bits_read :
     (payload : List ℕ) (bits : ℕ) → 8 ≤ length payload →
     bits ≡ from_be_bytes w64 (get_or payload 0 0 ∷ get_or payload 1 0 ∷ get_or payload 2 0 ∷ get_or payload 3 0 ∷ get_or payload 4 0 ∷ get_or payload 5 0 ∷ get_or payload 6 0 ∷ get_or payload 7 0 ∷ []) →
     bits ≡ number_of (take 8 payload)
-bits_read payload bits enough e = e ∙ number_of-eight _ _ _ _ _ _ _ _ ∙ ap number_of (sym (first_eight payload enough))
+bits_read payload bits enough e = e ∙ number_of-eight _ _ _ _ _ _ _ _ ∙ ap number_of (sym (take-by_place 8 payload enough))
 
 -- a header that is made of fields of the bits
 pub read_is :

@@ -5,6 +5,8 @@ use Rattle.std.proofs.lemmas.Bool.{cases_lt, le-leb}
 use Rattle.std.proofs.lemmas.List.{ext_get_or, get_or-drop, get_or_past}
 use Rattle.std.proofs.lemmas.List.FromFn.{length-map-range_with_len, get_or-map-range_with_len}
 use Rattle.list_members.specs.Places.{take-below}
+use Rattle.list_members.specs.Tests.{none_from_is_none}
+use Rattle.list_members.specs.FirstInRange.{first_from, first_to, passes_none, found_none}
 use Rattle.rs_code.specs.CodeWord.{IsCodeWord, IsNear, IsCorrectable, differences, bound}
 use Rattle.rs_code.specs.Functions.{encoded_word}
 use Rattle.rs_code.specs.Laws.{HasOneEncoded, IsCorrected}
@@ -14,7 +16,7 @@ use Rattle.uplink_weave.specs.Functions.{part, woven_frame, length-woven_frame, 
 use Rattle.uplink_weave.specs.Laws.{IsTheFrame, GivesPayload, FrameGivesPayload, WovenGivesPayload, NearFrameGivesPayload, BurstIsSpread, BurstGivesPayload}
 use Rattle.uplink_weave.proofs.Places.{length-block, is_block, same_frame}
 use Rattle.uplink_weave.proofs.Frames.{near_gives_payload, near_counts}
-use Rattle.uplink_weave.proofs.Parts.{length-part, part_from, part_to, joined_to, joined_from, first_from, first_to, none_from, none_to, word_there, no_word, cases_option, joined_none}
+use Rattle.uplink_weave.proofs.Parts.{length-part, part_from, part_to, joined_to, joined_from, word_there, cases_option, joined_none}
 
 -- frames that are woven
 
@@ -154,7 +156,7 @@ lost_from C air r e =
     let is = first_from (λ (n : ℕ). is_none (corrected_block air n)) 0 6 r e in
     record {
       below = is.high;
-      lost = (none_is C air r).0 (no_word (corrected_block air r) is.passes);
+      lost = (none_is C air r).0 (none_from_is_none (corrected_block air r) is.passes);
       first = λ lower h.
           let word = word_there (corrected_block air lower) (is.before lower (omega arith) h) in
           (word.0, (near_is C air lower word.0).0 word.1);
@@ -176,13 +178,13 @@ none_lost_from : (C : IsCorrected) (air : List ℕ) → lost_block_in air ≡ No
 unfolding lost_block_in
 none_lost_from C air e r h =
     let word = word_there (corrected_block air r)
-    (none_from (λ (n : ℕ). is_none (corrected_block air n)) 0 6 e r (omega arith) h) in
+    (passes_none (λ (n : ℕ). is_none (corrected_block air n)) 0 6 e r (omega arith) h) in
     (word.0, (near_is C air r word.0).0 word.1)
 
 none_lost_to : (C : IsCorrected) (air : List ℕ) → AllCorrectable air → lost_block_in air ≡ None
 unfolding lost_block_in
 none_lost_to C air all =
-    none_to (λ (n : ℕ). is_none (corrected_block air n)) 0 6
+    found_none (λ (n : ℕ). is_none (corrected_block air n)) 0 6
     (λ r h h'. let some = all r h' in ap is_none ((near_is C air r some.0).1 some.1))
 
 no_payload_from : (C : IsCorrected) (air : List ℕ) → payload_in air ≡ None → ¬ AllCorrectable air

@@ -1,10 +1,9 @@
 -- The parts of a payload, and words that are joined.
-use Rattle.std.proofs.Common.{◌≡◌, ℕ, zero, suc, ◌+◌, ◌*◌, ◌-◌, ◌<◌, ◌≤◌, List, [], ◌∷◌, ◌++◌, length, get_or, take, drop, map, Bool, true, false, Option, Some, None, refl, sym, ◌∙◌, ap, ap₂, arith, inl, inr, ◌⊎◌, length-append}
+use Rattle.std.proofs.Common.{◌≡◌, ℕ, zero, suc, ◌+◌, ◌*◌, ◌-◌, ◌<◌, ◌≤◌, List, [], ◌∷◌, ◌++◌, length, get_or, take, drop, map, false, Option, Some, None, refl, sym, ◌∙◌, ap, ap₂, arith, inl, inr, ◌⊎◌, length-append}
 use Rattle.std.specs.Option.{option_map, is_none}
-use Rattle.std.specs.List.{find, range_with_len}
-use Rattle.std.proofs.lemmas.Bool.{cases_Bool, cases_eq}
+use Rattle.std.specs.List.{range_with_len}
+use Rattle.std.proofs.lemmas.Bool.{cases_eq}
 use Rattle.std.proofs.lemmas.List.{ext_get_or, get_or-take, get_or-drop, length-take-le, length-drop, take-append-drop, drop-drop, drop_all, take_at, drop_at}
-use Rattle.list_members.specs.Finding.{find-cons_true, find-cons_false}
 use Rattle.uplink_weave.specs.Woven.{BeginsWithPart}
 use Rattle.uplink_weave.specs.Functions.{part, payload_of_words}
 
@@ -111,89 +110,9 @@ joined_from f from (suc count) payload long e =
     AreJoined-cases f from count payload (f from) (payload_of_words (map f (range_with_len (from + 1) count))) refl (long from)
     (λ rest e'. joined_from f (from + 1) count rest long e') (map f (range_with_len (from + 1) count)) refl e
 
--- the first number that passes
-pub record IsFirst (p : ℕ → Bool) (from count r : ℕ) : Type 0 where
-  pub low : from ≤ r
-  pub high : r < from + count
-  pub passes : p r ≡ true
-  pub before : (lower : ℕ) → from ≤ lower → lower < r → p lower ≡ false
-
-pub first_from :
-    (p : ℕ → Bool) (from count r : ℕ) → find p (range_with_len from count) ≡ Some r → IsFirst p from count r
-first_from p from zero r e = cc
-first_from p from (suc count) r e = elim (cases_Bool (p from)) [
-  | inl passed ↦
-      let here = find-cons_true p from (range_with_len (from + 1) count) passed in
-      let same : from ≡ r = cc in
-      record {
-        low = omega arith;
-        high = omega arith;
-        passes = ap p (sym same) ∙ passed;
-        before = λ lower h h'. absurd (omega arith);
-      }
-  | inr failed ↦
-      let is = first_from p (from + 1) count r (sym (find-cons_false p from (range_with_len (from + 1) count) failed) ∙ e) in
-      let low = is.low in
-      let high = is.high in
-      record {
-        low = omega arith;
-        high = omega arith;
-        passes = is.passes;
-        before = λ lower h h'. elim (cases_eq lower from) [
-          | inl same ↦ ap p same ∙ failed
-          | inr apart ↦ is.before lower (omega arith) h'
-        ];
-      }
-]
-
-pub first_to :
-    (p : ℕ → Bool) (from count r : ℕ) → IsFirst p from count r → find p (range_with_len from count) ≡ Some r
-first_to p from zero r is = let low = is.low in let high = is.high in absurd (omega arith)
-first_to p from (suc count) r is =
-    let low = is.low in
-    let high = is.high in
-    elim (cases_eq from r) [
-      | inl same ↦
-          find-cons_true p from (range_with_len (from + 1) count) (ap p same ∙ is.passes) ∙ ap Some same
-      | inr apart ↦
-          find-cons_false p from (range_with_len (from + 1) count) (is.before from (omega arith) (omega arith))
-          ∙ first_to p (from + 1) count r (record {
-            low = omega arith;
-            high = omega arith;
-            passes = is.passes;
-            before = λ lower h h'. is.before lower (omega arith) h';
-          })
-    ]
-
-pub none_from :
-    (p : ℕ → Bool) (from count : ℕ) → find p (range_with_len from count) ≡ None → (r : ℕ) → from ≤ r
-    → r < from + count → p r ≡ false
-none_from p from zero e r h h' = absurd (omega arith)
-none_from p from (suc count) e r h h' = elim (cases_Bool (p from)) [
-  | inl passed ↦ let here = find-cons_true p from (range_with_len (from + 1) count) passed in cc
-  | inr failed ↦ elim (cases_eq r from) [
-    | inl same ↦ ap p same ∙ failed
-    | inr apart ↦
-        none_from p (from + 1) count (sym (find-cons_false p from (range_with_len (from + 1) count) failed) ∙ e) r
-        (omega arith) (omega arith)
-  ]
-]
-
-pub none_to :
-    (p : ℕ → Bool) (from count : ℕ) → ((r : ℕ) → from ≤ r → r < from + count → p r ≡ false)
-    → find p (range_with_len from count) ≡ None
-none_to p from zero all = refl
-none_to p from (suc count) all =
-    find-cons_false p from (range_with_len (from + 1) count) (all from (omega arith) (omega arith))
-    ∙ none_to p (from + 1) count (λ r h h'. all r (omega arith) (omega arith))
-
 pub word_there : (o : Option (List ℕ)) → is_none o ≡ false → (word : List ℕ) × (o ≡ Some word)
 word_there None e = cc
 word_there (Some word) e = (word, refl)
-
-pub no_word : (o : Option (List ℕ)) → is_none o ≡ true → o ≡ None
-no_word None e = refl
-no_word (Some word) e = cc
 
 pub cases_option : (o : Option (List ℕ)) → (o ≡ None) ⊎ ((word : List ℕ) × (o ≡ Some word))
 cases_option None = inl refl

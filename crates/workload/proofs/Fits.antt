@@ -3,6 +3,7 @@ use Rattle.std.proofs.Common.{◌≡◌, ℕ, zero, suc, ◌+◌, ◌-◌, ◌*�
 use Rattle.std.proofs.lemmas.List.Elements.{All-nil, All-cons, All-append, All-map}
 use Rattle.std.specs.Prelude.{codes, flat_map, All, Option, Some, option_to_list}
 use Rattle.std.specs.List.{range_with_len}
+use Rattle.list_members.specs.ListMembers.{All-members}
 use Rattle.workload.specs.declared.step.Step.{Step}
 use Rattle.workload.specs.declared.step.Step.TheVariants.{Text, Blanks as blanks_step, Turn as turn_step, Hear, Show}
 use Rattle.workload.specs.declared.progress.Phase.{Phase}
@@ -100,15 +101,11 @@ fits-blocks moment number (suc more) listed = λ state.
 abbrev IsOnAir : ℕ × ℕ → Type 0
 IsOnAir change = change.0 < 552
 
-all-in_range : (P : ℕ → Type 0) (first count : ℕ) → ((n : ℕ) → P n) → All P (range_with_len first count)
-all-in_range P first zero f = All-nil P
-all-in_range P first (suc more) f = All-cons P first (range_with_len (first + 1) more) (f first) (all-in_range P (first + 1) more f)
-
 fits-block_changes : (b count first byte : ℕ) → b < 6 → All IsOnAir (block_changes b count first byte)
 unfolding block_changes
 fits-block_changes b count first byte h =
     All-map IsOnAir (λ t. (place_on_air b ((first + 9 * t) % 92), byte)) (range_with_len 0 count)
-    (all-in_range (λ t. place_on_air b ((first + 9 * t) % 92) < 552) 0 count (λ t. omega arith))
+    (All-members (λ t. place_on_air b ((first + 9 * t) % 92) < 552) (range_with_len 0 count) (λ t there. omega arith))
 
 fits-changes : (b count state : ℕ) → b + count ≤ 6 → All IsOnAir (changes b count state).0
 unfolding changes
