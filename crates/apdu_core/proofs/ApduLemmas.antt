@@ -10,6 +10,7 @@ use Rattle.fisb_time.specs.declared.form.TimeForm.{TimeForm}
 use Rattle.fisb_time.specs.declared.form.TimeForm.TheVariants.{Minute, Second, DayMinute, DaySecond}
 use Rattle.fisb_time.specs.declared.form.TimeFields.{TimeFields}
 use Rattle.list_members.specs.Each.{AllByRecursion-front, AllByRecursion-back}
+use Rattle.list_members.specs.Tests.{ok_past_test}
 use Rattle.bit_fields.specs.Bits.{Field, as_number, number_of, field_at}
 use Rattle.apdu_core.specs.declared.apdu.Seg.{Seg}
 use Rattle.apdu_core.specs.declared.fault.ApduFault.{ApduFault}
@@ -76,10 +77,11 @@ form_back DaySecond = refl
 -- what the tests of a reader let through
 passed : (a b c : Bool) (r : Result Apdu ApduFault) (v : Apdu) → (if a then Err Short else (if b then Err Flagged else (if c then Err Short else r))) ≡ Ok v
     → (a ≡ false) × (b ≡ false) × (c ≡ false) × (r ≡ Ok v)
-passed true b c r v e = absurd (cc)
-passed false true c r v e = absurd (cc)
-passed false false true r v e = absurd (cc)
-passed false false false r v e = (refl, refl, refl, e)
+passed a b c r v e =
+    let first = ok_past_test a Short _ v e in
+    let second = ok_past_test b Flagged _ v first.1 in
+    let third = ok_past_test c Short r v second.1 in
+    (first.0, second.0, third.0, third.1)
 
 pass : (a b c : Bool) (r : Result Apdu ApduFault) → a ≡ false → b ≡ false → c ≡ false → (if a then Err Short else (if b then Err Flagged else (if c then Err Short else r))) ≡ r
 pass a b c r p q s = rw (p, q, s) refl

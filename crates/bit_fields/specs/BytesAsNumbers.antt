@@ -1,7 +1,7 @@
 -- Bytes as one number: what stands before others counts by their length, and the number fits its
 -- bytes.
 use Rattle.std.proofs.Common.{◌≡◌, ℕ, zero, suc, ◌+◌, ◌*◌, ◌^◌, ◌<◌, List, [], ◌∷◌, ◌++◌, length, fold}
-use Rattle.std.proofs.Common.{get_or, sym, ap, ◌∙◌, inl, inr, arith}
+use Rattle.std.proofs.Common.{get_or, ap, ◌∙◌, inl, inr, arith}
 use Rattle.std.specs.Int.{byte_at, bytes_high_first}
 use Rattle.std.proofs.Math.Nat.{add-mul, mul_assoc, mul_comm}
 use Rattle.std.proofs.lemmas.Nat.{pow-add, mul-add-lt}
@@ -37,7 +37,7 @@ behind_is [] start = omega arith
 behind_is (x ∷ xs) start =
     let low = 2 ^ (8 * length xs) in
     let turned : (n : ℕ) → (256 * n + x) * low + number_of xs ≡ (n * 256 + x) * low + number_of xs
-        = λ n. ap (λ m. (m + x) * low + number_of xs) (mul_comm 256 n) in
+    = λ n. ap (λ m. (m + x) * low + number_of xs) (mul_comm 256 n) in
     joined_step start 256 low x (2 ^ (8 * suc (length xs))) (number_of xs)
     (behind (256 * start + x) xs) (behind (256 * 0 + x) xs)
     (behind_is xs (256 * start + x) ∙ turned start) (behind_is xs (256 * 0 + x) ∙ turned 0)

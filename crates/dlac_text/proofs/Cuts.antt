@@ -1,5 +1,6 @@
 -- What the first elements of a list are, and what is behind them.
-use Rattle.std.proofs.Common.{Bool, true, false, ◌&&◌, IsTrue, ◌≡◌, ℕ, ◌-◌, ◌≤◌, List, [], ◌∷◌, ◌++◌, length, get_or, take, drop, map, arith, sym, ap, ◌∙◌, subst}
+use Rattle.std.proofs.Common.{◌≡◌, ℕ, ◌-◌, ◌≤◌, List, [], ◌∷◌, ◌++◌, length, get_or, take, drop, map, arith, sym, ap, ◌∙◌, subst}
+use Rattle.std.proofs.lemmas.Bool.{and_parts}
 use Rattle.std.proofs.lemmas.List.{take_all}
 use Rattle.list_members.specs.Places.{append_on}
 use Rattle.dlac_text.specs.Alphabet.{IsDlac, code_of}
@@ -27,12 +28,8 @@ first_four (a ∷ b ∷ []) h = absurd (omega arith)
 first_four (a ∷ b ∷ c ∷ []) h = absurd (omega arith)
 first_four (a ∷ b ∷ c ∷ d ∷ more) h = ap (λ ys. a ∷ b ∷ c ∷ d ∷ ys) (sym (take_all _ more (omega arith)))
 
-second_true : (a b : Bool) → IsTrue (a && b) → IsTrue b
-second_true true b h = h
-second_true false b h = cc
-
 pub IsDlac-tail : (x : ℕ) (xs : List ℕ) → IsDlac (x ∷ xs) → IsDlac xs
-IsDlac-tail x xs h = second_true _ _ h
+IsDlac-tail x xs h = (and_parts _ _ h).1
 
 pub IsDlac-behind_four : (xs : List ℕ) → 4 ≤ length xs → IsDlac xs → IsDlac (behind 4 xs)
 IsDlac-behind_four [] l h = absurd (omega arith)

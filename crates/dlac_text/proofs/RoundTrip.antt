@@ -1,5 +1,6 @@
 -- The payload of a text: what it reads back as, its length, and that it is made of bytes.
-use Rattle.std.proofs.Common.{◌≡◌, ◌≢◌, ◌⊎◌, ℕ, ◌+◌, ◌*◌, ◌/◌, ◌%◌, ◌<◌, Bool, true, false, ◌&&◌, eqb, inl, inr, suc, List, [], ◌∷◌, ◌++◌, length, map, filter, refl, sym, ap, ◌∙◌, append_assoc, append-nil, length-append, All, arith, IsTrue}
+use Rattle.std.proofs.Common.{◌≡◌, ◌≢◌, ◌⊎◌, ℕ, ◌+◌, ◌*◌, ◌/◌, ◌%◌, ◌<◌, false, eqb, inl, inr, suc, List, [], ◌∷◌, ◌++◌, length, map, filter, refl, sym, ap, ◌∙◌, append_assoc, append-nil, length-append, All, arith, IsTrue}
+use Rattle.std.proofs.lemmas.Bool.{and_parts}
 use Rattle.std.proofs.lemmas.Bool.Decides.{nat_tests}
 use Rattle.std.proofs.lemmas.Nat.{mod-mul-add}
 use Rattle.std.proofs.lemmas.List.{length-map}
@@ -47,12 +48,8 @@ groups_of_packed (a ∷ b ∷ c ∷ d ∷ more) h =
     rw (first_back a b b_fits, second_back a b c b_fits c_fits, third_back b c d c_fits d_fits, mod-mul-add (c % 4) 64 d d_fits) refl in
     elim (groups_of_packed more h.1.1.1.1) [ inl e ↦ inl (front ∙ ap (λ ys. a ∷ b ∷ c ∷ d ∷ ys) e) | inr e ↦ inr (front ∙ ap (λ ys. a ∷ b ∷ c ∷ d ∷ ys) e) ]
 
-head_true : (a b : Bool) → IsTrue (a && b) → IsTrue a
-head_true true b h = refl
-head_true false b h = cc
-
 pub IsDlac-head : (c : ℕ) (text : List ℕ) → IsDlac (c ∷ text) → IsTrue (is_in_alphabet c)
-IsDlac-head c text h = head_true _ _ h
+IsDlac-head c text h = (and_parts _ _ h).0
 
 code_fits : (c : ℕ) → IsTrue (is_in_alphabet c) → code_of c < 64
 code_fits c h = grind (arith, nat_tests)

@@ -1,7 +1,7 @@
 -- File numbers are counts: while an update is not expired, no number of its version and product has become free.
 use Rattle.std.proofs.Common.{◌≡◌, ℕ, zero, suc, ◌+◌, ◌<◌, ◌≤◌, Bool, true, false, not, ◌&&◌, ◌==◌, nat_lt, cond, if◌then◌else◌, List, [], ◌∷◌, ◌++◌, length, map, filter, find, Option, Some, None, unwrap_or, refl, sym, ap, ◌∙◌, inl, inr, arith, length-append, append-nil}
 use Rattle.std.specs.List.{list_any, range_with_len}
-use Rattle.std.proofs.lemmas.Bool.{cases_Bool, eqb-true, lt-ltb, le-ltb, ltb-false}
+use Rattle.std.proofs.lemmas.Bool.{cases_Bool, and_parts, eqb-true, lt-ltb, le-ltb, ltb-false}
 use Rattle.std.proofs.lemmas.Bool.Decides.{nat_tests}
 use Rattle.std.proofs.lemmas.List.{map-append}
 use Rattle.std.proofs.lemmas.List.FromFn.{map-range_with_len_more}
@@ -142,10 +142,10 @@ counted_push all item version product h f =
     ]
 
 and_three : (a v p : Bool) → (a && v && p) ≡ true → (a ≡ true) × (v ≡ true) × (p ≡ true)
-and_three true true true h = (refl, refl, refl)
-and_three true true false h = cc
-and_three true false p h = cc
-and_three false v p h = cc
+and_three a v p h =
+    let both = and_parts (a && v) p h in
+    let first = and_parts a v both.0 in
+    (first.0, first.1, both.1)
 
 number_is : (table : LifeTable) (station : StationId) (moment : ℕ) (before : List Item) (w : Weather) (version product count : ℕ)
     → is_segmented w ≡ true → number_for table moment before w ≡ Some count → (item_of table station moment before w).number ≡ Some count

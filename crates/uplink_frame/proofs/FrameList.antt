@@ -1,5 +1,5 @@
 -- The list of information frames: one frame further, and where it ends.
-use Rattle.std.proofs.Common.{◌≡◌, ℕ, zero, suc, ◌+◌, ◌-◌, ◌*◌, ◌/◌, ◌%◌, ◌<◌, ◌≤◌, true, false, ◌&&◌, ◌||◌, List, [], ◌∷◌, length, take, drop, get_or, nat_lt, ◌==◌, refl, sym, ap, subst, ◌∙◌, inl, inr, arith}
+use Rattle.std.proofs.Common.{◌≡◌, ℕ, zero, suc, ◌+◌, ◌-◌, ◌*◌, ◌/◌, ◌%◌, ◌<◌, ◌≤◌, true, false, ◌&&◌, ◌||◌, List, [], ◌∷◌, length, take, drop, get_or, nat_lt, ◌==◌, refl, sym, ap, ap₂, subst, ◌∙◌, inl, inr, arith}
 use Rattle.std.specs.List.{All}
 use Rattle.std.proofs.lemmas.List.{length-drop, length-take-le, take_rest}
 use Rattle.std.proofs.lemmas.List.Elements.{All-nil, All-cons}
@@ -7,11 +7,6 @@ use Rattle.std.proofs.lemmas.Bool.{cases_Bool, cases_eq, lt-ltb, le-ltb, ltb-fal
 use Rattle.bit_fields.specs.Bits.{field_at}
 use Rattle.list_members.specs.Places.{take-by_place}
 use Rattle.uplink_frame.specs.UplinkFrame.{InformationFrame, length_at_front, kind_at_front, ends_here, frame_at_front, behind_frame, frames_at_front, frames_in, information_frames, FitsFrame}
-
--- equal arguments give equal values
-pub ap2 :
-    {A B C : Type 0} (f : A → B → C) {a a' : A} {b b' : B} → a ≡ a' → b ≡ b' → f a b ≡ f a' b'
-ap2 f {a' = a'} {b = b} p q = ap (λ x. f x b) p ∙ ap (f a') q
 
 -- where the list ends
 pub ends-few : (bytes : List ℕ) → length bytes < 2 → ends_here bytes ≡ true
@@ -189,9 +184,9 @@ frames_in-read left body behind size kind enough size_is kind_is body_is behind_
     goes_on left (omega (arith, ap length all)) (λ no_length no_kind. not_zeros (size_is ∙ no_length) (kind_is ∙ no_kind))
     in
     let front : take (length_at_front left) (drop 2 left) ≡ body =
-    ap2 (λ (n : ℕ) (b : List ℕ). take n b) (sym size_is) (sym all) ∙ sym body_is
+    ap₂ (λ (n : ℕ) (b : List ℕ). take n b) (sym size_is) (sym all) ∙ sym body_is
     in
-    let back : behind_frame left ≡ behind = ap2 (λ (n : ℕ) (b : List ℕ). drop n b) (sym size_is) (sym all) ∙ sym behind_is in
+    let back : behind_frame left ≡ behind = ap₂ (λ (n : ℕ) (b : List ℕ). drop n b) (sym size_is) (sym all) ∙ sym behind_is in
     frames_in-more left on
-    ∙ ap2 (λ (b more : List ℕ). record { kind = kind_at_front left; body = b } ∷ frames_in more) front back
+    ∙ ap₂ (λ (b more : List ℕ). record { kind = kind_at_front left; body = b } ∷ frames_in more) front back
     ∙ ap (λ (k : ℕ). record { kind = k; body = body } ∷ frames_in behind) (sym kind_is)

@@ -1,5 +1,5 @@
 -- Application data: none, one information frame more, and what a payload has of them.
-use Rattle.std.proofs.Common.{◌≡◌, ℕ, ◌+◌, ◌-◌, ◌*◌, ◌/◌, ◌%◌, ◌<◌, ◌≤◌, List, [], ◌∷◌, ◌++◌, length, take, drop, replicate, refl, sym, ap, subst, ◌∙◌, arith, append_assoc}
+use Rattle.std.proofs.Common.{◌≡◌, ℕ, ◌+◌, ◌-◌, ◌*◌, ◌/◌, ◌%◌, ◌<◌, ◌≤◌, List, [], ◌∷◌, ◌++◌, length, take, drop, replicate, refl, sym, ap, ap₂, subst, ◌∙◌, arith, append_assoc}
 use Rattle.std.specs.List.{All}
 use Rattle.std.proofs.lemmas.List.{append-nil, length-append, length-take-le, take_at, drop_at, drop_all, drop-drop, drop-replicate}
 use Rattle.std.proofs.lemmas.List.Elements.{All-push}
@@ -8,7 +8,7 @@ use Rattle.std.proofs.Math.Seq.{drop-append-add}
 use Rattle.uplink_frame.specs.declared.header.UplinkHeader.{UplinkHeader}
 use Rattle.uplink_frame.specs.UplinkFrame.{InformationFrame, header_bytes, frame_front, information_frame, frames_in, information_frames, spelled_frames, application_data, payload_of, FitsFrame}
 use Rattle.uplink_frame.specs.AppDataBytes.{IsFilled}
-use Rattle.uplink_frame.proofs.FrameList.{ap2, All-frames_in, information_frames-frames_in}
+use Rattle.uplink_frame.proofs.FrameList.{All-frames_in, information_frames-frames_in}
 use Rattle.uplink_frame.proofs.Spelled.{frames_in-zeros, frames_in-written}
 
 -- zeros are the application data of no frame
@@ -29,20 +29,20 @@ written_behind start front body bytes once twice room used bytes_are long two fi
     let whole : length (start ++ front) ≡ used + 2 = length-append start front ∙ omega arith in
     let kept : take used bytes ≡ start = ap (take used) bytes_are ∙ take_at start zeros used long in
     let left : drop (used + 2) bytes ≡ drop 2 zeros =
-    ap2 (λ (n : ℕ) (b : List ℕ). drop n b) (ap (λ n. n + 2) (sym long)) bytes_are ∙ drop-append-add start zeros 2
+    ap₂ (λ (n : ℕ) (b : List ℕ). drop n b) (ap (λ n. n + 2) (sym long)) bytes_are ∙ drop-append-add start zeros 2
     in
     let once_is : once ≡ (start ++ front) ++ drop 2 zeros =
-    first ∙ ap2 (λ (b more : List ℕ). b ++ (front ++ more)) kept left ∙ sym (append_assoc start front (drop 2 zeros))
+    first ∙ ap₂ (λ (b more : List ℕ). b ++ (front ++ more)) kept left ∙ sym (append_assoc start front (drop 2 zeros))
     in
     let kept_again : take (used + 2) once ≡ start ++ front =
     ap (take (used + 2)) once_is ∙ take_at (start ++ front) (drop 2 zeros) (used + 2) whole
     in
     let left_again : drop (used + 2 + length body) once ≡ replicate (room - (2 + length body)) 0 =
-    ap2 (λ (n : ℕ) (b : List ℕ). drop n b) (ap (λ n. n + length body) (sym whole)) once_is
+    ap₂ (λ (n : ℕ) (b : List ℕ). drop n b) (ap (λ n. n + length body) (sym whole)) once_is
     ∙ drop-append-add (start ++ front) (drop 2 zeros) (length body) ∙ drop-drop (length body) 2 zeros
     ∙ drop-replicate (2 + length body) room 0
     in
-    second ∙ ap2 (λ (b more : List ℕ). b ++ (body ++ more)) kept_again left_again
+    second ∙ ap₂ (λ (b more : List ℕ). b ++ (body ++ more)) kept_again left_again
     ∙ sym (append_assoc (start ++ front) body (replicate (room - (2 + length body)) 0))
     ∙ ap (λ (b : List ℕ). b ++ replicate (room - (2 + length body)) 0) (append_assoc start front body)
 
@@ -50,7 +50,7 @@ written_behind start front body bytes once twice room used bytes_are long two fi
 pub front_is :
     (size kind : ℕ) → size < 512 → kind < 16 →
     size / 2 ∷ (size % 2 * 128 + kind) ∷ [] ≡ frame_front size 0 kind
-front_is size kind short small = ap2 (λ (a b : ℕ). a ∷ b ∷ []) (omega arith) (omega arith)
+front_is size kind short small = ap₂ (λ (a b : ℕ). a ∷ b ∷ []) (omega arith) (omega arith)
 
 -- the bytes of some frames and of one more
 spelled_frames-push :
@@ -87,7 +87,7 @@ pushed bytes once twice front used frame filled whole fits room front_is two fir
     λ all e.
     written_behind start front frame.body bytes once twice (all - length start) used
     (subst (λ (n : ℕ). bytes ≡ start ++ replicate (n - length start) 0) e (sym filled.bytes_are)) filled.used_are two first second
-    ∙ ap2 (λ (b : List ℕ) (n : ℕ). b ++ replicate n 0) (sym spelled) (omega (arith, size, filled.used_are))
+    ∙ ap₂ (λ (b : List ℕ) (n : ℕ). b ++ replicate n 0) (sym spelled) (omega (arith, size, filled.used_are))
     in
     let twice_is : twice ≡ application_data more = at 424 refl in
     let read : frames_in twice ≡ more =

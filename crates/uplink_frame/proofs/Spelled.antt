@@ -1,5 +1,5 @@
 -- The bytes that spell information frames: the list of frames at the front of some bytes is what they spell, and nothing else.
-use Rattle.std.proofs.Common.{◌≡◌, ℕ, zero, suc, ◌+◌, ◌*◌, ◌/◌, ◌%◌, ◌<◌, ◌≤◌, ◌↔◌, Bool, true, false, ◌&&◌, ◌||◌, nat_lt, ◌==◌, List, [], ◌∷◌, ◌++◌, length, take, drop, replicate, refl, sym, ap, subst, ◌∙◌, inl, inr, arith, append_assoc}
+use Rattle.std.proofs.Common.{◌≡◌, ℕ, zero, suc, ◌+◌, ◌*◌, ◌/◌, ◌%◌, ◌<◌, ◌≤◌, ◌↔◌, Bool, true, false, ◌&&◌, ◌||◌, nat_lt, ◌==◌, List, [], ◌∷◌, ◌++◌, length, take, drop, replicate, refl, sym, ap, ap₂, subst, ◌∙◌, inl, inr, arith, append_assoc}
 use Rattle.std.specs.List.{All}
 use Rattle.std.proofs.lemmas.Bool.{cases_Bool, ltb-true, ltb-false, eqb-true, and_parts, or_from, true≢false}
 use Rattle.std.proofs.lemmas.List.{length-append, length-drop, take_at, drop_at, take-append-drop}
@@ -8,14 +8,14 @@ use Rattle.bit_fields.specs.Bits.{AreBytes}
 use Rattle.bit_fields.specs.BytesAsNumbers.{IsByte}
 use Rattle.uplink_frame.specs.UplinkFrame.{InformationFrame, frame_front, length_at_front, kind_at_front, ends_here, frame_at_front, behind_frame, frames_at_front, frames_in, information_frames, spelled_frames, FitsFrame}
 use Rattle.uplink_frame.specs.Spelling.{BeginsWith, IsEnd, few_left, zeros, too_long, SpellsFrame, SpellsFrames}
-use Rattle.uplink_frame.proofs.FrameList.{ap2, ends-few, ends-zeros, ends-cut, goes_on, goes_on-parts, length-body, at_end, one_more, length-behind_frame, frames_in-end, frames_in-more, information_frames-frames_in}
+use Rattle.uplink_frame.proofs.FrameList.{ends-few, ends-zeros, ends-cut, goes_on, goes_on-parts, length-body, at_end, one_more, length-behind_frame, frames_in-end, frames_in-more, information_frames-frames_in}
 
 -- two bytes as a length, reserved bits and a type
 as_front :
     (high low size kind : ℕ) (behind : List ℕ) → high < 256 → low < 256 → size ≡ high * 2 + low / 128 → kind ≡ low % 16 →
     high ∷ low ∷ behind ≡ frame_front size (low / 16 % 8) kind ++ behind
 as_front high low size kind behind high_is low_is size_is kind_is =
-    ap2 (λ (a b : ℕ). a ∷ b ∷ behind) (omega arith) (omega arith)
+    ap₂ (λ (a b : ℕ). a ∷ b ∷ behind) (omega arith) (omega arith)
 
 -- the bytes begin with the length and the type that are read at their front
 begins :
@@ -110,8 +110,8 @@ frames_in-spelled (frame ∷ frames) bytes (behind, first, more) =
     ap (drop (length_at_front bytes)) front.rest_is ∙ drop_at frame.body behind (length_at_front bytes) (sym front.size_is)
     in
     frames_in-more bytes on
-    ∙ ap2 (λ (f : InformationFrame) (b : List ℕ). f ∷ frames_in b)
-    (ap2 (λ (k : ℕ) (b : List ℕ). record { kind = k; body = b }) front.kind_is body) left
+    ∙ ap₂ (λ (f : InformationFrame) (b : List ℕ). f ∷ frames_in b)
+    (ap₂ (λ (k : ℕ) (b : List ℕ). record { kind = k; body = b }) front.kind_is body) left
     ∙ ap (λ (fs : List InformationFrame). frame ∷ fs) (frames_in-spelled frames behind more)
 
 -- the frame that is read at the front of bytes is spelled there
